@@ -1,0 +1,6 @@
+pub mod Action
+pub mod Cause
+pub mod DataCode
+pub mod Limits
+pub mod Source
+pub mod TaskId

@@ -1,0 +1,21 @@
+//! The small types that every crate of tasktree stands on: task ids, texts, documents, the cluster, and why
+//! an input is refused.
+#![tactic(auto)]
+
+mod action;
+mod cause;
+mod cluster;
+mod doc;
+mod items;
+mod task_id;
+mod task_info;
+mod text;
+
+pub use action::Action;
+pub use cause::Cause;
+pub use cluster::Cluster;
+pub use doc::{Doc, DocSource, NotSource, is_whole};
+pub use items::Items;
+pub use task_id::TaskId;
+pub use task_info::{Headers, NewTask, TaskInfo};
+pub use text::Text;

@@ -1,0 +1,73 @@
+ghost use Rattle.std.specs.Prelude.{◌≡◌, IfOk};
+
+use crate::action::Action;
+use crate::task_id::TaskId;
+use crate::text::Text;
+use std::alloc::AllocError;
+
+/// What a request carries beside its content, as Elasticsearch's `X-Opaque-Id`. A child has its parent's.
+#[derive(Debug, Drop)]
+pub struct Headers {
+    pub opaque_id: Option<Text>,
+}
+
+impl Headers {
+    /// Equal headers. It fails only for want of memory.
+    pub fn copy(&self) -> Result<Headers, AllocError>
+        ensures { IfOk result (λ headers. headers ≡ self.now) }
+    {
+        let opaque_id = match &self.opaque_id {
+            Some(text) => Some(text.copy()?),
+            None => None,
+        };
+        Ok(Headers { opaque_id })
+    }
+}
+
+/// A task that is to be put into a node's table, which then gives it its id.
+#[derive(Debug, Drop)]
+pub struct NewTask {
+    pub action: Action,
+    /// What the task works on, as a detailed task list shows it.
+    pub description: Text,
+    /// When it starts, in milliseconds of the script's clock.
+    pub start_ms: u64,
+    /// The task that asked for it, and none for a root.
+    pub parent: Option<TaskId>,
+    pub headers: Headers,
+}
+
+/// A live task, as a task list shows it.
+#[derive(Debug, Drop)]
+pub struct TaskInfo {
+    pub id: TaskId,
+    pub action: Action,
+    /// What the task works on, as a detailed task list shows it.
+    pub description: Text,
+    /// When it started, in milliseconds of the script's clock.
+    pub start_ms: u64,
+    /// The task that asked for it, and none for a root.
+    pub parent: Option<TaskId>,
+    pub headers: Headers,
+    /// The number of the cancellation that marked it.
+    pub cancelled: Option<u32>,
+}
+
+impl TaskInfo {
+    /// An equal row. It fails only for want of memory.
+    pub fn copy(&self) -> Result<TaskInfo, AllocError>
+        ensures { IfOk result (λ info. info ≡ self.now) }
+    {
+        let description = self.description.copy()?;
+        let headers = self.headers.copy()?;
+        Ok(TaskInfo {
+            id: self.id,
+            action: self.action,
+            description,
+            start_ms: self.start_ms,
+            parent: self.parent,
+            headers,
+            cancelled: self.cancelled,
+        })
+    }
+}
