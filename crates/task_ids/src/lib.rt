@@ -3,8 +3,10 @@
 #![tactic(auto)]
 
 mod action;
+mod boxed;
 mod cause;
 mod cluster;
+mod corpus;
 mod doc;
 mod items;
 mod task_id;
@@ -12,8 +14,10 @@ mod task_info;
 mod text;
 
 pub use action::Action;
+pub use boxed::Boxed;
 pub use cause::Cause;
 pub use cluster::Cluster;
+pub use corpus::{Corpus, CorpusLine};
 pub use doc::{Doc, DocSource, NotSource, is_whole};
 pub use items::Items;
 pub use task_id::TaskId;
