@@ -1,13 +1,10 @@
-// A library with one function.
+//! The events of tasks, the history that they make, and what can be asked of it.
 #![tactic(auto)]
 
-ghost use Rattle.std.specs.Prelude.{◌≡◌};
-ghost use Rattle.task_events.specs.Echo.{echo_of};
+mod event;
+mod history;
+mod reply;
 
-// The `ensures` clause is the contract: what `echo` returns is `echo_of` of its argument, a definition
-// in `specs/Echo.antt`, which a caller's clause can cite too.
-pub fn echo(x: usize) -> usize
-    ensures { result ≡ echo_of x }
-{
-    x
-}
+pub use event::{Event, Outcome};
+pub use history::{History, PushError};
+pub use reply::{FailedShard, Hit, Reply, SearchAsk, SearchReply, ShardCount, ShardFailure};
