@@ -7,4 +7,4 @@ mod reply;
 
 pub use event::{Event, Outcome};
 pub use history::{History, PushError};
-pub use reply::{FailedShard, Hit, Reply, SearchAsk, SearchReply, ShardCount, ShardFailure};
+pub use reply::{FailedShard, Hit, Reply, SearchAsk, SearchReply, ShardFailure};

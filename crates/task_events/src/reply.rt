@@ -1,5 +1,3 @@
-ghost use Rattle.std.specs.Prelude.{◌<◌, ◌^◌};
-
 use task_ids::{Boxed, Doc, Items, TaskId, Text};
 
 /// A search of one index, for its first ten documents and the number of all.
@@ -24,12 +22,11 @@ pub enum Reply {
 /// A search's answer, after Elasticsearch's search API.
 #[derive(Debug, Drop)]
 pub struct SearchReply {
-    /// The shards that answered the query, ascending.
-    pub shards: Items<ShardCount>,
     /// The shards that failed, ascending.
     pub failed: Items<FailedShard>,
-    /// How many documents match in the shards that answered.
+    /// How many documents match in the shards that answered the query.
     pub total: u64,
+    /// The first ten of them in hit order, without those of shards that failed afterwards.
     pub hits: Items<Hit>,
 }
 
@@ -40,18 +37,6 @@ pub struct Hit {
     pub doc: Doc,
     /// The place of the document's row in its shard, from 0.
     pub place: u32,
-}
-
-/// How a shard answered a query.
-#[derive(Clone, Copy, Debug, PartialEq, Eq)]
-pub struct ShardCount {
-    /// The shard, from 0.
-    pub shard: u32,
-    /// How many writes of the shard the query saw.
-    pub version: u32,
-    /// How many rows match.
-    pub count: u64,
-    pub ghost count_in_range: { count < 2 ^ 32 },
 }
 
 /// A shard that failed.

@@ -1,0 +1,54 @@
+-- The lines that are printed: one JSON object a command, compact, its keys in byte order, and a newline.
+use Rattle.std.specs.Prelude.{ℕ, ◌-◌, List, [], ◌∷◌, ◌++◌, Option, Some, None, length, map, codes}
+use Rattle.serde_json.specs.Data.{Data, number, unsigned, string, array, object, Members, no_members, member}
+use Rattle.serde_json.specs.View.{items_of}
+use Rattle.serde_json.specs.Written.{compact_text}
+use Rattle.task_events.specs.declared.event.Event.{Event}
+use Rattle.task_events.specs.declared.reply.Hit.{Hit}
+use Rattle.task_events.specs.declared.reply.Reply.{Reply}
+use Rattle.task_events.specs.declared.reply.Reply.TheVariants.{Search}
+use Rattle.task_events.specs.declared.reply.SearchAsk.{SearchAsk}
+use Rattle.task_events.specs.declared.reply.SearchReply.{SearchReply}
+use Rattle.task_events.specs.Replies.{reply_to}
+
+abbrev members : List (List ℕ × Data) → Members
+members [] = no_members
+members (m ∷ more) = member m.0 m.1 (members more)
+
+-- an object with these members, whose keys are in byte order
+abbrev pub object_of : List (List ℕ × Data) → Data
+object_of named = object (members named)
+
+abbrev pub count : ℕ → Data
+count n = number (unsigned n)
+
+abbrev pub hit_json : Hit → Data
+hit_json hit = object_of ((codes "_id", string hit.doc.id) ∷ (codes "_index", string hit.index) ∷ (codes "_source", hit.doc.source) ∷ [])
+
+-- how many of an index's shards there are, and how many of them failed and how many did not
+abbrev pub shards_json : ℕ → ℕ → Data
+shards_json shards failed = object_of ((codes "failed", count failed) ∷ (codes "successful", count (shards - failed)) ∷ (codes "total", count shards) ∷ [])
+
+abbrev pub total_json : ℕ → Data
+total_json total = object_of ((codes "relation", string (codes "eq")) ∷ (codes "value", count total) ∷ [])
+
+abbrev pub hits_json : SearchReply → Data
+hits_json reply = object_of ((codes "hits", array (items_of (map hit_json reply.hits))) ∷ (codes "total", total_json reply.total) ∷ [])
+
+-- a search's reply, after Elasticsearch's search API
+abbrev pub search_json : ℕ → SearchReply → Data
+search_json shards reply = object_of ((codes "_shards", shards_json shards (length reply.failed)) ∷ (codes "hits", hits_json reply) ∷ [])
+
+-- the line of a command that was answered
+abbrev pub reply_line : ℕ → Data → List ℕ
+reply_line command reply = compact_text (object_of ((codes "command", count command) ∷ (codes "reply", reply) ∷ [])) ++ 10 ∷ []
+
+-- The line of a search, where an index has so many shards. So far a search's root can only end with its answer.
+abbrev pub search_line : ℕ → ℕ → Option Reply → List ℕ
+search_line shards command (Some (Search reply)) = reply_line command (search_json shards reply)
+search_line shards command _ = []
+
+-- the lines of a script of at most one search, after a history
+abbrev pub printed : ℕ → Option SearchAsk → List Event → List ℕ
+printed shards None history = []
+printed shards (Some ask) history = search_line shards 1 (reply_to 1 history)

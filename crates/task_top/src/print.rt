@@ -1,0 +1,142 @@
+ghost use Rattle.std.specs.Prelude.{◌≡◌, ◌≤◌, ◌++◌, false, length, OnOk, map, decimal};
+ghost use Rattle.json.specs.Print.{quoted};
+ghost use Rattle.serde_json.specs.View.{items_of};
+ghost use Rattle.serde_json.specs.Written.{compact_text, items_text};
+ghost use Rattle.task_events.specs.Printed.{hit_json, hits_json, shards_json, search_json, total_json, reply_line};
+
+use serde_json::Value;
+use std::alloc::{AllocError, Global};
+use task_events::{Hit, SearchReply};
+
+/// Appends a text as it stands.
+fn push(out: &mut Vec<u8>, text: &str) -> Result<(), AllocError>
+    ensures { OnOk result (out.new.items ≡ out.old.items ++ text.now) }
+{
+    out.extend_from_slice(text.as_bytes())
+}
+
+/// Appends a number in decimal digits.
+fn push_number(alloc: Global, out: &mut Vec<u8>, number: u64) -> Result<(), AllocError>
+    ensures { OnOk result (out.new.items ≡ out.old.items ++ decimal number) }
+{
+    let digits = number.to_string(alloc)?;
+    out.extend_from_slice(digits.as_bytes())
+}
+
+/// Appends a text as a JSON string.
+fn push_quoted(alloc: Global, out: &mut Vec<u8>, text: &str) -> Result<(), AllocError>
+    ensures { OnOk result (out.new.items ≡ out.old.items ++ quoted text.now) }
+{
+    let value = Value::try_from_str(alloc, text)?;
+    let json = value.to_string(alloc)?;
+    out.extend_from_slice(json.as_bytes())
+}
+
+fn push_hit(alloc: Global, out: &mut Vec<u8>, hit: &Hit) -> Result<(), AllocError>
+    ensures { OnOk result (out.new.items ≡ out.old.items ++ compact_text (hit_json hit.now)) }
+{
+    push(out, "{\"_id\":")?;
+    push_quoted(alloc, out, hit.doc.id.as_str())?;
+    push(out, ",\"_index\":")?;
+    push_quoted(alloc, out, hit.index.as_str())?;
+    push(out, ",\"_source\":")?;
+    hit.doc.source.print(alloc, out)?;
+    push(out, "}")?;
+    Ok(())
+}
+
+/// Appends hits with commas between them and the closing bracket of a JSON list.
+fn push_hits(alloc: Global, out: &mut Vec<u8>, hits: &[Hit]) -> Result<(), AllocError>
+    ensures { OnOk result (out.new.items ≡ out.old.items ++ items_text false (items_of (map hit_json hits.now))) }
+{
+    let mut later = false;
+    for hit in hits {
+        if later {
+            push(out, ",")?;
+        }
+        push_hit(alloc, out, hit)?;
+        later = true;
+    }
+    push(out, "]")?;
+    Ok(())
+}
+
+/// Appends how many of so many shards failed and how many did not.
+fn push_shards(
+    alloc: Global,
+    out: &mut Vec<u8>,
+    shards: u64,
+    failed: u64,
+) -> Result<(), AllocError>
+    requires { failed ≤ shards }
+    ensures { OnOk result (out.new.items ≡ out.old.items ++ compact_text (shards_json shards failed)) }
+{
+    push(out, "{\"failed\":")?;
+    push_number(alloc, out, failed)?;
+    push(out, ",\"successful\":")?;
+    push_number(alloc, out, shards - failed)?;
+    push(out, ",\"total\":")?;
+    push_number(alloc, out, shards)?;
+    push(out, "}")?;
+    Ok(())
+}
+
+/// Appends how many documents match.
+fn push_total(alloc: Global, out: &mut Vec<u8>, total: u64) -> Result<(), AllocError>
+    ensures { OnOk result (out.new.items ≡ out.old.items ++ compact_text (total_json total)) }
+{
+    push(out, "{\"relation\":\"eq\",\"value\":")?;
+    push_number(alloc, out, total)?;
+    push(out, "}")?;
+    Ok(())
+}
+
+/// Appends the hits and how many documents match.
+fn push_found(alloc: Global, out: &mut Vec<u8>, reply: &SearchReply) -> Result<(), AllocError>
+    ensures { OnOk result (out.new.items ≡ out.old.items ++ compact_text (hits_json reply.now)) }
+{
+    push(out, "{\"hits\":[")?;
+    push_hits(alloc, out, reply.hits.as_slice())?;
+    push(out, ",\"total\":")?;
+    push_total(alloc, out, reply.total)?;
+    push(out, "}")?;
+    Ok(())
+}
+
+/// Appends a search's reply, where its index has so many shards.
+fn push_reply(
+    alloc: Global,
+    out: &mut Vec<u8>,
+    shards: u32,
+    reply: &SearchReply,
+) -> Result<(), AllocError>
+    requires { length reply.now.failed ≤ shards }
+    ensures { OnOk result (out.new.items ≡ out.old.items ++ compact_text (search_json shards reply.now)) }
+{
+    let failed = reply.failed.as_slice().len() as u64;
+    push(out, "{\"_shards\":")?;
+    push_shards(alloc, out, u64::from(shards), failed)?;
+    push(out, ",\"hits\":")?;
+    push_found(alloc, out, reply)?;
+    push(out, "}")?;
+    Ok(())
+}
+
+/// Appends the line of a search's reply, where its index has so many shards.
+pub fn push_search_line(
+    alloc: Global,
+    out: &mut Vec<u8>,
+    shards: u32,
+    command: u32,
+    reply: &SearchReply,
+) -> Result<(), AllocError>
+    requires { length reply.now.failed ≤ shards }
+    ensures { OnOk result (out.new.items ≡ out.old.items ++ reply_line command (search_json shards reply.now)) }
+{
+    push(out, "{\"command\":")?;
+    push_number(alloc, out, u64::from(command))?;
+    push(out, ",\"reply\":")?;
+    push_reply(alloc, out, shards, reply)?;
+    push(out, "}\n")?;
+    Ok(())
+}
