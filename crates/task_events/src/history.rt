@@ -73,6 +73,13 @@ impl History {
         self.events.get(at)
     }
 
+    /// The newest event. There is none exactly where nothing has happened.
+    pub fn newest(&self) -> Option<&Event>
+        ensures { option_copied result ≡ slice_get self.now 0 }
+    {
+        self.events.last()
+    }
+
     /// The number of events.
     pub fn len(&self) -> usize
         ensures { result ≡ length self.now }

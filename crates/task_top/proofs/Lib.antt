@@ -1,6 +1,9 @@
 pub mod AnswerLemmas
 pub mod CorpusLemmas
 pub mod DistinctLemmas
+pub mod LineLemmas
 pub mod LinesLemmas
 pub mod PrintLemmas
 pub mod RunLemmas
+pub mod TopLemmas
+pub mod WordLemmas

@@ -1,6 +1,9 @@
 pub mod FirstForm
 pub mod Gives
 pub mod Json
+pub mod Kept
 pub mod Parts
+pub mod Plan
 pub mod Search
+pub mod Status
 pub mod Views

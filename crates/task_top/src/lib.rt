@@ -4,11 +4,21 @@
 mod corpus;
 mod fault;
 mod json_line;
+mod kept;
 mod lines;
+mod plans;
 mod print;
 mod reading;
 mod run;
 mod script;
 mod search;
+mod status;
+mod top;
+mod words;
 
+pub use kept::Kept;
+pub use plans::{Plan, PlanError};
 pub use script::{Command, Script};
+pub use status::Status;
+pub use top::sim_top;
+pub use words::plan;

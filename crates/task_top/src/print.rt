@@ -1,4 +1,4 @@
-ghost use Rattle.std.specs.Prelude.{◌≡◌, ◌≤◌, ◌++◌, false, length, OnOk, map, decimal};
+ghost use Rattle.std.specs.Prelude.{◌≡◌, ◌≤◌, ◌++◌, false, length, IfOk, OnOk, map, decimal};
 ghost use Rattle.json.specs.Print.{quoted};
 ghost use Rattle.serde_json.specs.View.{items_of};
 ghost use Rattle.serde_json.specs.Written.{compact_text, items_text};
@@ -122,21 +122,21 @@ fn push_reply(
     Ok(())
 }
 
-/// Appends the line of a search's reply, where its index has so many shards.
-pub fn push_search_line(
+/// The line of a search's reply, where its index has so many shards.
+pub fn search_line(
     alloc: Global,
-    out: &mut Vec<u8>,
     shards: u32,
     command: u32,
     reply: &SearchReply,
-) -> Result<(), AllocError>
+) -> Result<Vec<u8>, AllocError>
     requires { length reply.now.failed ≤ shards }
-    ensures { OnOk result (out.new.items ≡ out.old.items ++ reply_line command (search_json shards reply.now)) }
+    ensures { IfOk result (λ line. line.items ≡ reply_line command (search_json shards reply.now)) }
 {
-    push(out, "{\"command\":")?;
-    push_number(alloc, out, u64::from(command))?;
-    push(out, ",\"reply\":")?;
-    push_reply(alloc, out, shards, reply)?;
-    push(out, "}\n")?;
-    Ok(())
+    let mut line = Vec::new(alloc);
+    push(&mut line, "{\"command\":")?;
+    push_number(alloc, &mut line, u64::from(command))?;
+    push(&mut line, ",\"reply\":")?;
+    push_reply(alloc, &mut line, shards, reply)?;
+    push(&mut line, "}\n")?;
+    Ok(line)
 }

@@ -1,6 +1,6 @@
-ghost use Rattle.std.specs.Prelude.{◌≡◌, ◌≤◌, length, IfOk};
+ghost use Rattle.std.specs.Prelude.{true, ◌≡◌, ◌≤◌, length, IfOk};
 ghost use Rattle.std.specs.Str.Lines.{lines};
-ghost use Rattle.task_top.specs.FirstForm.{is_known, search_of, script_of, first_form};
+ghost use Rattle.task_top.specs.FirstForm.{are_distinct, is_known, search_of, script_of, first_form};
 ghost use Rattle.task_top.specs.Gives.{Gives};
 
 use crate::corpus::{are_distinct, split_corpus};
@@ -64,7 +64,8 @@ fn commands_of(
 /// The documents and the script of an input of the first form.
 #[tactic(auto, unfolding(crate::specs::FirstForm::first_form))]
 pub fn read_input(alloc: Global, input: &[u8]) -> Result<(Corpus, Script), FormError>
-    ensures { Gives (λ read. read) result (first_form input.now) }
+    ensures read { Gives (λ read. read) result (first_form input.now) }
+    ensures distinct { IfOk result (λ read. are_distinct read.0.lines ≡ true) }
 {
     let (found, rest) = split_corpus(alloc, input)?;
     if !are_distinct(alloc, found.as_slice())? {
