@@ -1,0 +1,57 @@
+//! The program `tasktree`: it replays a script of task trees and prints one line of JSON for each command.
+//!
+//! It reads standard input and writes to standard output. What went wrong stands on standard error, and the exit
+//! status says which kind it was.
+#![tactic(auto)]
+
+ghost use Rattle.std.specs.Prelude.{IfOk};
+ghost use Rattle.task_top.specs.Plan.{IsSmallSim};
+
+use es_io::{StdSink, StdSource};
+use std::env;
+use std::io::ErrorKind;
+use std::process::ExitCode;
+use std::rt::Env;
+use task_top::{Plan, PlanError, Status, plan, sim_top};
+
+/// The words after the program's name. A word that is not UTF-8 makes the command line a faulty one.
+fn words<R: Env + AllocGlobal>(rt: &R) -> Result<Vec<String>, Status> {
+    let mut args = match env::args(rt) {
+        Ok(args) => args,
+        Err(error) if error.kind() == ErrorKind::OutOfMemory => return Err(Status::Memory),
+        Err(_) => return Err(Status::Usage),
+    };
+    drop(args.next());
+    match args.collect(rt.alloc()) {
+        Ok(words) => Ok(words),
+        Err(_) => Err(Status::Memory),
+    }
+}
+
+/// What the command line asks for.
+fn planned<R: Env + AllocGlobal>(rt: &R) -> Result<Plan, Status>
+    ensures { IfOk result IsSmallSim }
+{
+    let words = words(rt)?;
+    match plan(words.as_slice()) {
+        Ok(plan) => Ok(plan),
+        Err(PlanError::Usage) => Err(Status::Usage),
+        Err(PlanError::Memory) => Err(Status::Memory),
+    }
+}
+
+fn main(rt: HostRuntime) -> ExitCode {
+    let status = match planned(&rt) {
+        Ok(Plan::Sim(cluster)) => {
+            let mut input = StdSource::new(rt.stdin());
+            let mut out = StdSink::new(rt.stdout());
+            let (status, _) = sim_top(rt.alloc(), &cluster, &mut input, &mut out);
+            status
+        }
+        Err(status) => status,
+    };
+    if status != Status::Done {
+        let _ = eprintln!(rt; "{status}");
+    }
+    ExitCode::from(status.exit_code())
+}
