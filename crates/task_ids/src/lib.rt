@@ -16,6 +16,9 @@ pub use cause::Cause;
 pub use cluster::Cluster;
 pub use doc::{Doc, DocSource, NotSource, is_whole};
 pub use items::Items;
-pub use task_id::TaskId;
+pub use task_id::{Malformed, TaskId};
 pub use task_info::{Headers, NewTask, TaskInfo};
 pub use text::Text;
+
+#[cfg(test)]
+mod tests;

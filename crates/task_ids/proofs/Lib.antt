@@ -1,0 +1,2 @@
+pub mod SameId
+pub mod Spelling
