@@ -4,3 +4,4 @@ pub mod DataCode
 pub mod Limits
 pub mod Source
 pub mod TaskId
+pub mod TaskIdOrder
