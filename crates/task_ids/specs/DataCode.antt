@@ -1,5 +1,5 @@
 -- How the logic stores a JSON value: as a tree of numbers, in which no two values are alike.
-use Rattle.std.specs.Prelude.{◌≡◌, ℕ, zero, suc, List, Bool, Float, ℤ, refl}
+use Rattle.std.specs.Prelude.{◌≡◌, ℕ, refl}
 use Rattle.std.specs.Coded.{Coded, coded_ℕ, coded_bool, coded_ℤ, coded_list}
 use base.Stored.{Gv, gnil, gnum, gcons, coded_float}
 use mathlib.Core.Path.{ap}

@@ -5,3 +5,4 @@ pub mod Limits
 pub mod Placing
 pub mod Source
 pub mod TaskId
+pub mod TaskIdOrder

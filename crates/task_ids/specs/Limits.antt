@@ -16,3 +16,7 @@ IsShardCount n = (1 ≤ n) × (n ≤ 15)
 -- a node runs 1 to 1,024 tasks at once
 abbrev pub IsSlotCount : ℕ → Type 0
 IsSlotCount n = (1 ≤ n) × (n ≤ 1024)
+
+-- a cancellation is numbered by the command that made it, 1 to 65,535
+abbrev pub IsCancel : ℕ → Type 0
+IsCancel n = (1 ≤ n) × (n ≤ 65535)

@@ -1,5 +1,5 @@
 -- What the source of a document is.
-use Rattle.std.specs.Prelude.{◌≡◌, ◌≤◌, Bool, true, false, is_some}
+use Rattle.std.specs.Prelude.{◌≡◌, ◌≤◌, true, false, is_some}
 use Rattle.serde_json.specs.Data.{Data, depth}
 use Rattle.serde_json.specs.Find.{as_object}
 use Rattle.serde_json.specs.Read.{max_depth}

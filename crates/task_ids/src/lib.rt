@@ -20,6 +20,9 @@ pub use cluster::Cluster;
 pub use corpus::{Corpus, CorpusLine};
 pub use doc::{Doc, DocSource, NotSource, is_whole};
 pub use items::Items;
-pub use task_id::TaskId;
+pub use task_id::{Malformed, TaskId};
 pub use task_info::{Headers, NewTask, TaskInfo};
 pub use text::Text;
+
+#[cfg(test)]
+mod tests;

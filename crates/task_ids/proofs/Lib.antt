@@ -1,0 +1,3 @@
+pub mod SameId
+pub mod Spelling
+pub mod TaskIdKeys
