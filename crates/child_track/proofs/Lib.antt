@@ -1,0 +1,4 @@
+pub mod NodeLemmas
+pub mod Awaited
+pub mod Gathered
+pub mod Answered

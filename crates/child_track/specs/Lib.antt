@@ -1,0 +1,4 @@
+pub mod NodeSet
+pub mod Token
+pub mod Track
+pub mod TrackFields
