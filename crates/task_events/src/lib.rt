@@ -6,5 +6,8 @@ mod history;
 mod reply;
 
 pub use event::{Event, Outcome};
-pub use history::{History, PushError};
+pub use history::{History, MAX_EVENTS, PushError};
 pub use reply::{FailedShard, Hit, Reply, SearchAsk, SearchReply, ShardFailure};
+
+#[cfg(test)]
+mod tests;

@@ -4,6 +4,7 @@ pub mod DistinctLemmas
 pub mod LineLemmas
 pub mod LinesLemmas
 pub mod PrintLemmas
+pub mod ReadingLaws
 pub mod RunLemmas
 pub mod TopLemmas
 pub mod WordLemmas

@@ -12,12 +12,12 @@ use Rattle.task_top.specs.FirstForm.{max_input, first_form, form_or_refusal, rea
 use Rattle.task_top.specs.Kept.{AnswersInput, IsAfterReading}
 
 -- an input that is not too long is read or refused by its form
-by_form : (input : List ℕ) → length input ≤ max_input → reading input ≡ form_or_refusal (first_form input)
+pub by_form : (input : List ℕ) → length input ≤ max_input → reading input ≡ form_or_refusal (first_form input)
 unfolding reading
 by_form input fits = ap (λ b. cond b (Err (0, TooLong)) (form_or_refusal (first_form input))) (le-ltb max_input (length input) fits)
 
 -- one that is too long is refused for that alone
-by_length : (input : List ℕ) → max_input < length input → reading input ≡ Err (0, TooLong)
+pub by_length : (input : List ℕ) → max_input < length input → reading input ≡ Err (0, TooLong)
 unfolding reading
 by_length input longer = ap (λ b. cond b (Err (0, TooLong)) (form_or_refusal (first_form input))) (lt-ltb max_input (length input) longer)
 

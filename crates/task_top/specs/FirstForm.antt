@@ -106,6 +106,14 @@ Reads input corpus script = reading input ≡ Ok (corpus, script)
 abbrev pub Refuses : List ℕ → ℕ → Cause → Type 0
 Refuses input line cause = reading input ≡ Err (line, cause)
 
+-- The bytes are read.
+abbrev pub IsRead : List ℕ → Type 0
+IsRead input = (corpus : Corpus) × (script : Script) × Reads input corpus script
+
+-- The bytes are refused.
+abbrev pub IsRefused : List ℕ → Type 0
+IsRefused input = (line : ℕ) × (cause : Cause) × Refuses input line cause
+
 abbrev pub first_search : List Command → Option SearchAsk
 first_search [] = None
 first_search (Search ask ∷ more) = Some ask

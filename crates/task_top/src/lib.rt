@@ -5,6 +5,7 @@ mod corpus;
 mod fault;
 mod json_line;
 mod kept;
+mod laws;
 mod lines;
 mod plans;
 mod print;
@@ -17,8 +18,12 @@ mod top;
 mod words;
 
 pub use kept::Kept;
+pub use laws::one_reading;
 pub use plans::{Plan, PlanError};
 pub use script::{Command, Script};
 pub use status::Status;
 pub use top::sim_top;
 pub use words::plan;
+
+#[cfg(test)]
+mod tests;
