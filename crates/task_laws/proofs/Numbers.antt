@@ -48,3 +48,7 @@ all_pass test (m ∷ ns) each = let rest = all_pass test ns (λ n i. each n (ome
 pub any_is : (n : ℕ) (ns : List ℕ) → list_any (λ m. n == m) ns ≡ true → 0 < number (λ m. n == m) ns
 any_is n [] e = absurd (cc)
 any_is n (m ∷ ns) e = let rest = any_is n ns in grind (arith, nat_tests, rest)
+
+pub not_any_is : (n : ℕ) (ns : List ℕ) → list_any (λ m. n == m) ns ≡ false → number (λ m. n == m) ns ≡ 0
+not_any_is n [] e = refl
+not_any_is n (m ∷ ns) e = let rest = not_any_is n ns in grind (arith, nat_tests, rest)
