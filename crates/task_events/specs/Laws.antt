@@ -1,12 +1,18 @@
--- The laws of cancellation, each of them about one history.
-use Rattle.std.specs.Prelude.{ℕ, ◌+◌, ◌≡◌, ◌≢◌, Bool, true, false, ◌&&◌, not, is_some, ◌==◌, List, ◌∷◌, Option, Some, None, cond, Contains}
+-- The laws of cancellation.
+use Rattle.std.specs.Prelude.{ℕ, ◌+◌, ◌<◌, ◌≤◌, ◌≡◌, ◌≢◌, ◌⊎◌, Bool, true, false, ◌&&◌, not, is_some, ◌==◌, List, ◌∷◌, Option, Some, None, option_map, cond}
 use Rattle.std.specs.List.{list_any}
 use Rattle.task_ids.specs.declared.task_id.TaskId.{TaskId}
+use Rattle.task_ids.specs.declared.cluster.Cluster.{Cluster}
+use Rattle.task_events.specs.declared.reply.Reply.{Reply}
 use Rattle.task_events.specs.declared.event.Event.{Event}
-use Rattle.task_events.specs.Tasks.{is_live, has_ended, live_child}
+use Rattle.task_events.specs.declared.event.Event.TheVariants.{Root, RootRejected, Ask, Put, Reject, Refuse, Mark, Listed, Work, End, AnswerPlaced, AnswerDone}
+use Rattle.task_events.specs.Tasks.{is_live, has_ended, has_passed, refusal_of, live_child, live_on, parent_of, ancestors, descends}
 use Rattle.task_events.specs.Asks.{is_unanswered}
-use Rattle.task_events.specs.Bans.{mark_of, banned_nodes, standing_ban, listing_is_open, is_acked, is_gone, unbans_are_sent}
+use Rattle.task_events.specs.Bans.{mark_of, late_ban, banned_nodes, standing_ban, listing_is_open, is_listed, is_acked, is_gone, unbans_are_sent}
 use Rattle.task_events.specs.Messages.{is_request, is_answer, is_ban, is_ack, is_unban, number_in_flight}
+use Rattle.task_events.specs.Cancels.{is_named, is_answered_done, names_one_of}
+use Rattle.task_events.specs.Allowed.{cancellation_in}
+use Rattle.task_events.specs.Lawful.{Lawful}
 
 -- An ask is in one place: its request is in flight, or its child is live, or its answer is in flight; but in
 -- none once it is answered.
@@ -44,3 +50,80 @@ pub record OneStage (h : List Event) : Type 0 where
   -- and nothing of any other ban is on its way
   pub nothing_else : (n : ℕ) (p : TaskId) → is_banned n p h ≡ false →
     number_in_flight (is_ban n p) h + one_if (listing_is_open n p h) + number_in_flight (is_ack n p) h + number_in_flight (is_unban n p) h ≡ 0
+
+-- A child that is put where a ban of its parent has been put before never passes, and ends refused with that ban's
+-- number.
+pub record RefusesLateChildren (h : List Event) : Type 0 where
+  pub not_passed : (t : TaskId) (c : ℕ) → late_ban t h ≡ Some c → has_passed t h ≡ false
+  pub refused : (t : TaskId) (c : ℕ) → late_ban t h ≡ Some c → has_ended t h ≡ true → refusal_of t h ≡ Some c
+
+-- nothing of the bans of p is on its way
+pub record IsQuiet (p : TaskId) (h : List Event) : Type 0 where
+  pub no_ban : (n : ℕ) → number_in_flight (is_ban n p) h ≡ 0
+  pub no_listing : (n : ℕ) → listing_is_open n p h ≡ false
+  pub no_ack : (n : ℕ) → number_in_flight (is_ack n p) h ≡ 0
+  pub no_unban : (n : ℕ) → number_in_flight (is_unban n p) h ≡ 0
+
+-- Once its messages are handled, an ended task has no ban.
+abbrev pub LeavesNoBan : List Event → Type 0
+LeavesNoBan h = (p : TaskId) → has_ended p h ≡ true → IsQuiet p h → (n : ℕ) → standing_ban n p h ≡ None
+
+-- The listing for p on n ends with every child of p on n ended or marked.
+abbrev pub ListsAllChildren : ℕ → TaskId → List Event → Type 0
+ListsAllChildren n p h = (t : TaskId) → parent_of t h ≡ Some p → t.node ≡ n → has_ended t h ≡ false → mark_of t h ≢ None
+
+-- For each task that the cancellation named the listing has ended on each banned node.
+abbrev pub HasListedAll : ℕ → List Event → Type 0
+HasListedAll c h = (t : TaskId) (n : ℕ) → is_named c t h ≡ true → is_banned n t h ≡ true → is_listed n t h ≡ true
+
+-- A running earlier child is cancelled: where a listing has ended, and so before its acknowledgement, all children
+-- there are ended or marked; and a cancellation is answered only after all listings of its tasks have ended.
+pub record CancelsEarlyChildren (cluster : Cluster) : Type 0 where
+  pub listed : (n : ℕ) (p : TaskId) (h : List Event) → Lawful cluster (Listed n p ∷ h) → ListsAllChildren n p h
+  pub placed : (c : ℕ) (h : List Event) → Lawful cluster (AnswerPlaced c ∷ h) → HasListedAll c h
+  pub done : (c : ℕ) (h : List Event) → Lawful cluster (AnswerDone c ∷ h) → HasListedAll c h
+
+-- After the answer of a cancellation that waits no task that it named is live, and no descendant of one.
+pub record WaitsForDescendants (h : List Event) : Type 0 where
+  pub named : (c : ℕ) (t : TaskId) → is_answered_done c h ≡ true → is_named c t h ≡ true → has_ended t h ≡ true
+  pub not_live : (c : ℕ) (t : TaskId) → is_answered_done c h ≡ true → is_named c t h ≡ true → is_live t h ≡ false
+  pub descendants : (c : ℕ) (a t : TaskId) → is_answered_done c h ≡ true → is_named c a h ≡ true → descends a t h ≡ true → is_live t h ≡ false
+
+-- A task is marked only by a cancellation that named it or an ancestor, and refused only by one that named an
+-- ancestor.
+pub record CancelsWithCause (h : List Event) : Type 0 where
+  pub mark : (t : TaskId) (c : ℕ) → mark_of t h ≡ Some c → names_one_of c (t ∷ ancestors t h) h ≡ true
+  pub refusal : (t : TaskId) (c : ℕ) → refusal_of t h ≡ Some c → names_one_of c (ancestors t h) h ≡ true
+
+-- a ban of the task's parent with this number stands on the task's node
+abbrev pub IsUnderBan : TaskId → ℕ → List Event → Type 0
+IsUnderBan t c h = (p : TaskId) × (parent_of t h ≡ Some p) × (standing_ban t.node p h ≡ Some c)
+
+-- the same, with the ban's listing open
+abbrev pub IsUnderListing : TaskId → ℕ → List Event → Type 0
+IsUnderListing t c h = (p : TaskId) × (parent_of t h ≡ Some p) × (standing_ban t.node p h ≡ Some c) × (listing_is_open t.node p h ≡ true)
+
+-- What is so when each of these events comes.
+pub record EventsHaveCauses (cluster : Cluster) : Type 0 where
+  -- a task is marked once
+  pub marked_once : (t : TaskId) (c : ℕ) (h : List Event) → Lawful cluster (Mark t c ∷ h) → mark_of t h ≡ None
+  -- by the cancellation that names it, or by the open listing of its parent's ban on its node
+  pub marked_by : (t : TaskId) (c : ℕ) (h : List Event) → Lawful cluster (Mark t c ∷ h) → (is_named c t h ≡ true) ⊎ IsUnderListing t c h
+  pub refused_by : (t : TaskId) (c : ℕ) (h : List Event) → Lawful cluster (Refuse t c ∷ h) → IsUnderBan t c h
+  -- a task ends with a cancelled reply exactly where it is marked, with the mark's number
+  pub ended_by : (t : TaskId) (reply : Reply) (h : List Event) → Lawful cluster (End t reply ∷ h) → cancellation_in reply ≡ option_map (λ c. (t, c)) (mark_of t h)
+  pub no_ask : (p : TaskId) (k n : ℕ) (h : List Event) → Lawful cluster (Ask p k n ∷ h) → mark_of p h ≡ None
+  pub no_work : (t : TaskId) (h : List Event) → Lawful cluster (Work t ∷ h) → mark_of t h ≡ None
+  -- a rejection comes exactly where as many tasks are live on the node as it has slots
+  pub rejected : (n : ℕ) (p : TaskId) (k : ℕ) (h : List Event) → Lawful cluster (Reject n p k ∷ h) → live_on n h ≡ cluster.slots
+  pub root_rejected : (k n : ℕ) (h : List Event) → Lawful cluster (RootRejected k n ∷ h) → live_on n h ≡ cluster.slots
+  pub put : (t p : TaskId) (k : ℕ) (h : List Event) → Lawful cluster (Put t p k ∷ h) → live_on t.node h < cluster.slots
+  pub root : (k : ℕ) (t : TaskId) (h : List Event) → Lawful cluster (Root k t ∷ h) → live_on t.node h < cluster.slots
+
+-- Each message is in flight at most once.
+pub record OnceInFlight (h : List Event) : Type 0 where
+  pub request : (p : TaskId) (k : ℕ) → number_in_flight (is_request p k) h ≤ 1
+  pub answer : (p : TaskId) (k : ℕ) → number_in_flight (is_answer p k) h ≤ 1
+  pub ban : (n : ℕ) (p : TaskId) → number_in_flight (is_ban n p) h ≤ 1
+  pub ack : (n : ℕ) (p : TaskId) → number_in_flight (is_ack n p) h ≤ 1
+  pub unban : (n : ℕ) (p : TaskId) → number_in_flight (is_unban n p) h ≤ 1

@@ -19,6 +19,8 @@ pub record AskFacts (h : List Event) : Type 0 where
   pub born : (t : TaskId) → is_live t h ≡ true → t.number ≤ last_number t.node h
   pub unborn_ended : (t : TaskId) → last_number t.node h < t.number → has_ended t h ≡ false
   pub live_or_ended : (t : TaskId) → is_live t h ≡ true → has_ended t h ≡ false
+  pub put_lives : (t p : TaskId) → parent_of t h ≡ Some p → is_live t h ≡ false → has_ended t h ≡ true
+  pub parent_born : (t p : TaskId) → parent_of t h ≡ Some p → p.number ≤ last_number p.node h
   pub unborn_asks : (t : TaskId) → last_number t.node h < t.number → last_ask t h ≡ 0
   pub new_asks : (t : TaskId) → is_new t h ≡ true → last_ask t h ≡ 0
   pub not_asked : (p : TaskId) (k : ℕ) → last_ask p h < k → is_unanswered p k h ≡ false
@@ -30,6 +32,25 @@ pub record AskFacts (h : List Event) : Type 0 where
   pub child_knows : (p : TaskId) (k : ℕ) (u : TaskId) → child_of p k h ≡ Some u → is_child_of p k u h ≡ true
   pub ask_knows : (p : TaskId) (k : ℕ) (u : TaskId) → is_child_of p k u h ≡ true → child_of p k h ≡ Some u
   pub place : (p : TaskId) (k : ℕ) → requests p k h + live_child p k h + answers p k h ≡ cond (is_unanswered p k h) 1 0
+
+-- the task whose request is in flight is live
+pub requested_live : (p : TaskId) (k : ℕ) (h : List Event) → AskFacts h → 0 < number_in_flight (is_request p k) h → is_live p h ≡ true
+requested_live p k h f i = grind (arith, requests_in_flight p k h, f.place p k, f.live_asker p k)
+
+requested_born : (p : TaskId) (k : ℕ) (h : List Event) → AskFacts h → 0 < number_in_flight (is_request p k) h → p.number ≤ last_number p.node h
+requested_born p k h f i = f.born p (requested_live p k h f i)
+
+-- the ask of a live child is unanswered
+pub child_unanswered : (t p : TaskId) (h : List Event) → AskFacts h → parent_of t h ≡ Some p → is_live t h ≡ true → is_unanswered p (ask_of t h) h ≡ true
+child_unanswered t p h f e l =
+    let mine : is_child_of p (ask_of t h) t h ≡ true = rw e (grind (arith, same_tests)) in
+    let child = f.ask_knows p (ask_of t h) t mine in
+    let one : live_child p (ask_of t h) h ≡ 1 = rw child (rw l) in
+    grind (arith, f.place p (ask_of t h))
+
+-- the parent of a live child is live
+pub parent_live : (t p : TaskId) (h : List Event) → AskFacts h → parent_of t h ≡ Some p → is_live t h ≡ true → is_live p h ≡ true
+parent_live t p h f e l = f.live_asker p (ask_of t h) (child_unanswered t p h f e l)
 
 module _ (cluster : Cluster) where
 
@@ -53,6 +74,18 @@ module _ (cluster : Cluster) where
   keep_live_or_ended (Refuse u c) h a f t l = grind (arith, same_tests, f.live_or_ended t)
   keep_live_or_ended (End u r) h a f t l = grind (arith, same_tests, f.live_or_ended t)
   keep_live_or_ended _ h a f t l = f.live_or_ended t l
+
+  keep_put_lives : (e : Event) (h : List Event) → Allowed cluster e h → AskFacts h → (t p : TaskId) → parent_of t (e ∷ h) ≡ Some p → is_live t (e ∷ h) ≡ false → has_ended t (e ∷ h) ≡ true
+  keep_put_lives (Root c u) h a f t p e l = grind (arith, same_tests, f.put_lives t p)
+  keep_put_lives (Put u q k) h a f t p e l = grind (arith, same_tests, f.put_lives t p)
+  keep_put_lives (Refuse u c) h a f t p e l = grind (arith, same_tests, f.put_lives t p)
+  keep_put_lives (End u r) h a f t p e l = grind (arith, same_tests, f.put_lives t p)
+  keep_put_lives _ h a f t p e l = f.put_lives t p e l
+
+  keep_parent_born : (e : Event) (h : List Event) → Allowed cluster e h → AskFacts h → (t p : TaskId) → parent_of t (e ∷ h) ≡ Some p → p.number ≤ last_number p.node (e ∷ h)
+  keep_parent_born (Root c u) h a f t p e = grind (arith, same_tests, f.parent_born t p)
+  keep_parent_born (Put u q k) h a f t p e = grind (arith, same_tests, f.parent_born t p, requested_born q k h f a.requested)
+  keep_parent_born _ h a f t p e = f.parent_born t p e
 
   keep_unborn_asks : (e : Event) (h : List Event) → Allowed cluster e h → AskFacts h → (t : TaskId) → last_number t.node (e ∷ h) < t.number → last_ask t (e ∷ h) ≡ 0
   keep_unborn_asks (Root c u) h a f t l = grind (arith, same_tests, f.unborn_asks t)
@@ -125,6 +158,8 @@ module _ (cluster : Cluster) where
       born = keep_born e h a f;
       unborn_ended = keep_unborn_ended e h a f;
       live_or_ended = keep_live_or_ended e h a f;
+      put_lives = keep_put_lives e h a f;
+      parent_born = keep_parent_born e h a f;
       unborn_asks = keep_unborn_asks e h a f;
       new_asks = keep_new_asks e h a f;
       not_asked = keep_not_asked e h a f;
@@ -143,6 +178,8 @@ module _ (cluster : Cluster) where
       born = λ t e. cc;
       unborn_ended = λ t e. refl;
       live_or_ended = λ t e. refl;
+      put_lives = λ t p e l. cc;
+      parent_born = λ t p e. cc;
       unborn_asks = λ t e. refl;
       new_asks = λ t e. refl;
       not_asked = λ p k e. refl;

@@ -1,8 +1,11 @@
 pub mod Asks
 pub mod Bans
+pub mod Marks
 pub mod Counts
 pub mod InFlight
+pub mod Late
 pub mod Nodes
 pub mod Numbers
 pub mod Pending
 pub mod Same
+pub mod Tree

@@ -1,12 +1,15 @@
 //! The laws of cancellation, over every lawful history.
 #![tactic(auto)]
 
-ghost use Rattle.std.specs.Prelude.{◌≡◌, List, ℕ};
+ghost use Rattle.std.specs.Prelude.{◌≡◌, ◌≢◌, ◌<◌, ◌≤◌, ◌∷◌, ◌⊎◌, List, Option, Some, None, Bool, true, false, ℕ};
 ghost use Rattle.task_ids.specs.declared.task_id.TaskId.{TaskId};
 ghost use Rattle.task_ids.specs.declared.cluster.Cluster.{Cluster};
 ghost use Rattle.task_events.specs.declared.event.Event.{Event};
 ghost use Rattle.task_events.specs.Lawful.{Lawful};
-ghost use Rattle.task_events.specs.Laws.{OnePlace, OneStage};
+ghost use Rattle.task_events.specs.Laws.{CancelsEarlyChildren, CancelsWithCause, EventsHaveCauses, LeavesNoBan, OnceInFlight, OnePlace, OneStage, RefusesLateChildren, WaitsForDescendants};
+ghost use Rattle.task_events.specs.Tasks.{parent_of, descends};
+ghost use Rattle.task_events.specs.Cancels.{is_answered_done, is_named};
+ghost use Rattle.task_events.specs.Bans.{ban_put};
 
 /// At each moment of a lawful history each unanswered ask has a live asker and is in exactly one of three
 /// places: its request is in flight, its child is live, or its answer is in flight. An ended task has no
@@ -20,5 +23,50 @@ pub fn one_place()
 /// one of six stages, and no other ban stands.
 pub fn one_stage()
     ensures { (cluster : Cluster) (h : List Event) → Lawful cluster h → OneStage h }
+{
+}
+
+/// A child that is put where a ban of its parent has been put before never passes, and ends refused with that
+/// ban's number. So no pass of a child comes after the ban of its parent on its node.
+pub fn late_children()
+    ensures refused { (cluster : Cluster) (h : List Event) → Lawful cluster h → RefusesLateChildren h }
+    ensures no_pass { (cluster : Cluster) (h : List Event) (t p : TaskId) → Lawful cluster (Event.Pass t ∷ h)
+        → parent_of t h ≡ Some p → ban_put t.node p h ≡ None }
+{
+}
+
+/// Once its messages are handled, an ended task has no ban.
+pub fn drained_bans()
+    ensures { (cluster : Cluster) (h : List Event) → Lawful cluster h → LeavesNoBan h }
+{
+}
+
+/// A running earlier child is cancelled: a listing ends, and its acknowledgement is sent, only when every child
+/// of the banned task on the node is ended or marked, and a cancellation is answered only after that.
+pub fn early_children()
+    ensures { (cluster : Cluster) → CancelsEarlyChildren cluster }
+{
+}
+
+/// A cancellation that waits is answered only when none of its tasks and none of their descendants is live, and
+/// no descendant is put later.
+pub fn waiting()
+    ensures ended { (cluster : Cluster) (h : List Event) → Lawful cluster h → WaitsForDescendants h }
+    ensures no_put { (cluster : Cluster) (h : List Event) (c k : ℕ) (a t p : TaskId) → Lawful cluster (Event.Put t p k ∷ h)
+        → is_answered_done c h ≡ true → is_named c a h ≡ true → descends a t (Event.Put t p k ∷ h) ≡ false }
+{
+}
+
+/// A task is cancelled, and a reply says so, only where the task or an ancestor was named; and a task is rejected
+/// exactly where its node is full.
+pub fn causes()
+    ensures named { (cluster : Cluster) (h : List Event) → Lawful cluster h → CancelsWithCause h }
+    ensures events { (cluster : Cluster) → EventsHaveCauses cluster }
+{
+}
+
+/// Each message is in flight at most once.
+pub fn once_in_flight()
+    ensures { (cluster : Cluster) (h : List Event) → Lawful cluster h → OnceInFlight h }
 {
 }
