@@ -1,10 +1,13 @@
 -- The asks of a task, and which of them are unanswered. A task numbers its asks from 1.
-use Rattle.std.specs.Prelude.{ℕ, zero, suc, ◌+◌, Bool, true, false, not, List, [], ◌∷◌, ◌++◌, Option, Some, None, filter, cond, if◌then◌else◌, ◌==◌}
+use Rattle.std.specs.Prelude.{ℕ, zero, suc, ◌+◌, Bool, true, false, not, List, [], ◌∷◌, ◌++◌, Option, Some, None, option_and_then, filter, cond, if◌then◌else◌, ◌==◌}
 use Rattle.std.specs.List.{list_any}
 use Rattle.task_ids.specs.declared.task_id.TaskId.{TaskId}
+use Rattle.task_events.specs.declared.reply.Reply.{Reply}
+use Rattle.task_events.specs.declared.reply.Reply.TheVariants.{Rejected}
 use Rattle.task_events.specs.declared.event.Event.{Event}
 use Rattle.task_events.specs.declared.event.Event.TheVariants.{Begin, Root, RootRejected, Ask, Put, Reject, Pass, Refuse, Cancel, NotFound, Mark, BanPut, Listed, Acked, BanGone, Work, Write, Answered, End, AnswerPlaced, AnswerDone, Tick}
 use Rattle.task_events.specs.Same.{same_task, same_pair}
+use Rattle.task_events.specs.Tasks.{child_of, reply_of}
 
 -- the number of the task's last ask, 0 before the first
 abbrev pub last_ask : TaskId → List Event → ℕ
@@ -49,3 +52,17 @@ all_nodes = up_to 15
 -- the nodes of the task's unanswered asks, ascending, each once
 abbrev pub unanswered_nodes : TaskId → List Event → List ℕ
 unanswered_nodes p h = filter (λ n. list_any (λ a. a.node == n) (unanswered p h)) all_nodes
+
+-- the node that rejected the ask
+abbrev pub rejection_of : TaskId → ℕ → List Event → Option ℕ
+rejection_of p k [] = None
+rejection_of p k (Reject n q j ∷ h) = if same_pair p k q j then Some n else rejection_of p k h
+rejection_of p k (_ ∷ h) = rejection_of p k h
+
+-- the answer to the ask: a rejection, or else the reply of its child
+abbrev pub answer_or : Option ℕ → Option Reply → Option Reply
+answer_or None reply = reply
+answer_or (Some n) reply = Some (Rejected n)
+
+abbrev pub answer_of : TaskId → ℕ → List Event → Option Reply
+answer_of p k h = answer_or (rejection_of p k h) (option_and_then (λ t. reply_of t h) (child_of p k h))

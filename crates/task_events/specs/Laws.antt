@@ -1,15 +1,16 @@
 -- The laws of cancellation.
-use Rattle.std.specs.Prelude.{ℕ, ◌+◌, ◌<◌, ◌≤◌, ◌≡◌, ◌≢◌, ◌⊎◌, Bool, true, false, ◌&&◌, not, is_some, ◌==◌, List, ◌∷◌, Option, Some, None, option_map, cond}
+use Rattle.std.specs.Prelude.{ℕ, ◌+◌, ◌<◌, ◌≤◌, ◌≡◌, ◌≢◌, ◌⊎◌, Bool, true, false, ◌&&◌, not, is_some, ◌==◌, List, [], ◌∷◌, Option, Some, None, option_map, cond, All}
 use Rattle.std.specs.List.{list_any}
 use Rattle.task_ids.specs.declared.task_id.TaskId.{TaskId}
 use Rattle.task_ids.specs.declared.cluster.Cluster.{Cluster}
 use Rattle.task_events.specs.declared.reply.Reply.{Reply}
 use Rattle.task_events.specs.declared.event.Event.{Event}
 use Rattle.task_events.specs.declared.event.Event.TheVariants.{Root, RootRejected, Ask, Put, Reject, Refuse, Mark, Listed, Work, End, AnswerPlaced, AnswerDone}
-use Rattle.task_events.specs.Tasks.{is_live, has_ended, has_passed, refusal_of, live_child, live_on, parent_of, ancestors, descends}
-use Rattle.task_events.specs.Asks.{is_unanswered}
+use Rattle.task_events.specs.Tasks.{is_live, has_ended, is_new, has_passed, refusal_of, live_child, live_on, parent_of, ancestors, descends}
+use Rattle.task_events.specs.Asks.{is_unanswered, unanswered, node_of_ask, answer_of}
 use Rattle.task_events.specs.Bans.{mark_of, late_ban, banned_nodes, standing_ban, listing_is_open, is_listed, is_acked, is_gone, unbans_are_sent}
-use Rattle.task_events.specs.Messages.{is_request, is_answer, is_ban, is_ack, is_unban, number_in_flight}
+use Rattle.task_events.specs.Messages.{Message, in_flight, is_request, is_answer, is_ban, is_ack, is_unban, number_in_flight}
+use Rattle.task_events.specs.Messages.Message.{Request, Answer, Ban, Ack, Unban}
 use Rattle.task_events.specs.Cancels.{is_named, is_answered_done, names_one_of}
 use Rattle.task_events.specs.Allowed.{cancellation_in}
 use Rattle.task_events.specs.Lawful.{Lawful}
@@ -127,3 +128,34 @@ pub record OnceInFlight (h : List Event) : Type 0 where
   pub ban : (n : ℕ) (p : TaskId) → number_in_flight (is_ban n p) h ≤ 1
   pub ack : (n : ℕ) (p : TaskId) → number_in_flight (is_ack n p) h ≤ 1
   pub unban : (n : ℕ) (p : TaskId) → number_in_flight (is_unban n p) h ≤ 1
+
+-- What a message in flight says is what has happened: a request goes to the node of its ask, an answer has the
+-- reply of the ask's child or its rejection, a ban has its task's mark and goes to a banned node, an acknowledgement
+-- comes from an ended listing, and an unban goes to a banned node once the task has ended and its bans are placed.
+abbrev pub IsTold : Message → List Event → Type 0
+IsTold (Request p k n) h = node_of_ask p k h ≡ Some n
+IsTold (Answer p k reply) h = answer_of p k h ≡ Some reply
+IsTold (Ban p c n) h = (mark_of p h ≡ Some c) × (is_banned n p h ≡ true)
+IsTold (Ack p n) h = is_listed n p h ≡ true
+IsTold (Unban p n) h = (unbans_are_sent p h ≡ true) × (is_banned n p h ≡ true)
+
+abbrev pub MessagesTellThePast : List Event → Type 0
+MessagesTellThePast h = All (λ m. IsTold m h) (in_flight h)
+
+-- nothing is on its way, no listing is open, and no live task has to pass, to be refused, or to end as cancelled
+pub record IsAtRest (h : List Event) : Type 0 where
+  pub nothing_in_flight : in_flight h ≡ []
+  pub no_listing : (n : ℕ) (p : TaskId) → listing_is_open n p h ≡ false
+  pub no_first_step : (t : TaskId) → is_live t h ≡ true → is_new t h ≡ false
+  pub no_cancelled_end : (t : TaskId) → is_live t h ≡ true → mark_of t h ≢ None → unanswered t h ≢ []
+
+-- a live task that is not marked and has no ask unanswered: where it takes no step, it waits for a due moment
+pub record IsLeaf (t : TaskId) (h : List Event) : Type 0 where
+  pub live : is_live t h ≡ true
+  pub passed : is_new t h ≡ false
+  pub unmarked : mark_of t h ≡ None
+  pub answered : unanswered t h ≡ []
+
+-- At rest nothing is live but such tasks and their ancestors.
+abbrev pub RestsOnLeaves : List Event → Type 0
+RestsOnLeaves h = IsAtRest h → (t : TaskId) → is_live t h ≡ true → (u : TaskId) × IsLeaf u h × ((u ≡ t) ⊎ (descends t u h ≡ true))

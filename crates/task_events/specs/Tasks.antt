@@ -3,6 +3,8 @@
 use Rattle.std.specs.Prelude.{ℕ, ◌+◌, ◌-◌, Bool, true, false, ◌&&◌, List, [], ◌∷◌, Option, Some, None, option_map, cond, if◌then◌else◌, ◌==◌}
 use Rattle.std.specs.List.{list_any}
 use Rattle.task_ids.specs.declared.task_id.TaskId.{TaskId}
+use Rattle.task_events.specs.declared.reply.Reply.{Reply}
+use Rattle.task_events.specs.declared.reply.Reply.TheVariants.{Cancelled}
 use Rattle.task_events.specs.declared.event.Event.{Event}
 use Rattle.task_events.specs.declared.event.Event.TheVariants.{Begin, Root, RootRejected, Ask, Put, Reject, Pass, Refuse, Cancel, NotFound, Mark, BanPut, Listed, Acked, BanGone, Work, Write, Answered, End, AnswerPlaced, AnswerDone, Tick}
 use Rattle.task_events.specs.Same.{same_task, same_pair}
@@ -95,3 +97,10 @@ number_that test (Some t) = cond (test t) 1 0
 -- 1 where a task was put for the ask and is live, else 0
 abbrev pub live_child : TaskId → ℕ → List Event → ℕ
 live_child p k h = number_that (λ t. is_live t h) (child_of p k h)
+
+-- what the task answered when it ended
+abbrev pub reply_of : TaskId → List Event → Option Reply
+reply_of t [] = None
+reply_of t (Refuse u c ∷ h) = if same_task t u then Some (Cancelled u c) else reply_of t h
+reply_of t (End u r ∷ h) = if same_task t u then Some r else reply_of t h
+reply_of t (_ ∷ h) = reply_of t h

@@ -1,6 +1,7 @@
 pub mod Asks
 pub mod Bans
 pub mod Marks
+pub mod Content
 pub mod Counts
 pub mod InFlight
 pub mod Late

@@ -6,7 +6,7 @@ ghost use Rattle.task_ids.specs.declared.task_id.TaskId.{TaskId};
 ghost use Rattle.task_ids.specs.declared.cluster.Cluster.{Cluster};
 ghost use Rattle.task_events.specs.declared.event.Event.{Event};
 ghost use Rattle.task_events.specs.Lawful.{Lawful};
-ghost use Rattle.task_events.specs.Laws.{CancelsEarlyChildren, CancelsWithCause, EventsHaveCauses, LeavesNoBan, OnceInFlight, OnePlace, OneStage, RefusesLateChildren, WaitsForDescendants};
+ghost use Rattle.task_events.specs.Laws.{CancelsEarlyChildren, CancelsWithCause, EventsHaveCauses, LeavesNoBan, MessagesTellThePast, OnceInFlight, OnePlace, OneStage, RefusesLateChildren, WaitsForDescendants};
 ghost use Rattle.task_events.specs.Tasks.{parent_of, descends};
 ghost use Rattle.task_events.specs.Cancels.{is_answered_done, is_named};
 ghost use Rattle.task_events.specs.Bans.{ban_put};
@@ -68,5 +68,12 @@ pub fn causes()
 /// Each message is in flight at most once.
 pub fn once_in_flight()
     ensures { (cluster : Cluster) (h : List Event) → Lawful cluster h → OnceInFlight h }
+{
+}
+
+/// What a message in flight says is determined by what has happened: a request's node by its ask, an answer's
+/// reply by the ask's child or its rejection, a ban's number by its task's mark.
+pub fn message_contents()
+    ensures { (cluster : Cluster) (h : List Event) → Lawful cluster h → MessagesTellThePast h }
 {
 }
