@@ -20,6 +20,7 @@ pub record AskFacts (h : List Event) : Type 0 where
   pub unborn_ended : (t : TaskId) → last_number t.node h < t.number → has_ended t h ≡ false
   pub live_or_ended : (t : TaskId) → is_live t h ≡ true → has_ended t h ≡ false
   pub put_lives : (t p : TaskId) → parent_of t h ≡ Some p → is_live t h ≡ false → has_ended t h ≡ true
+  pub child_is_born : (t p : TaskId) → parent_of t h ≡ Some p → t.number ≤ last_number t.node h
   pub parent_born : (t p : TaskId) → parent_of t h ≡ Some p → p.number ≤ last_number p.node h
   pub unborn_asks : (t : TaskId) → last_number t.node h < t.number → last_ask t h ≡ 0
   pub new_asks : (t : TaskId) → is_new t h ≡ true → last_ask t h ≡ 0
@@ -81,6 +82,11 @@ module _ (cluster : Cluster) where
   keep_put_lives (Refuse u c) h a f t p e l = grind (arith, same_tests, f.put_lives t p)
   keep_put_lives (End u r) h a f t p e l = grind (arith, same_tests, f.put_lives t p)
   keep_put_lives _ h a f t p e l = f.put_lives t p e l
+
+  keep_child_is_born : (e : Event) (h : List Event) → Allowed cluster e h → AskFacts h → (t p : TaskId) → parent_of t (e ∷ h) ≡ Some p → t.number ≤ last_number t.node (e ∷ h)
+  keep_child_is_born (Root c u) h a f t p e = grind (arith, same_tests, f.child_is_born t p)
+  keep_child_is_born (Put u q k) h a f t p e = grind (arith, same_tests, f.child_is_born t p)
+  keep_child_is_born _ h a f t p e = f.child_is_born t p e
 
   keep_parent_born : (e : Event) (h : List Event) → Allowed cluster e h → AskFacts h → (t p : TaskId) → parent_of t (e ∷ h) ≡ Some p → p.number ≤ last_number p.node (e ∷ h)
   keep_parent_born (Root c u) h a f t p e = grind (arith, same_tests, f.parent_born t p)
@@ -159,6 +165,7 @@ module _ (cluster : Cluster) where
       unborn_ended = keep_unborn_ended e h a f;
       live_or_ended = keep_live_or_ended e h a f;
       put_lives = keep_put_lives e h a f;
+      child_is_born = keep_child_is_born e h a f;
       parent_born = keep_parent_born e h a f;
       unborn_asks = keep_unborn_asks e h a f;
       new_asks = keep_new_asks e h a f;
@@ -179,6 +186,7 @@ module _ (cluster : Cluster) where
       unborn_ended = λ t e. refl;
       live_or_ended = λ t e. refl;
       put_lives = λ t p e l. cc;
+      child_is_born = λ t p e. absurd (cc);
       parent_born = λ t p e. cc;
       unborn_asks = λ t e. refl;
       new_asks = λ t e. refl;

@@ -8,5 +8,6 @@ pub mod Late
 pub mod Nodes
 pub mod Numbers
 pub mod Pending
+pub mod Rest
 pub mod Same
 pub mod Tree

@@ -43,7 +43,7 @@ module _ (cluster : Cluster) where
     }
 
 -- the list begins with the parent
-parent_first : (t x : TaskId) (ys : List TaskId) (h : List Event) → TreeFacts h → ancestors t h ≡ x ∷ ys → (o : Option TaskId) → parent_of t h ≡ o → (parent_of t h ≡ Some x) × (ancestors x h ≡ ys)
+pub parent_first : (t x : TaskId) (ys : List TaskId) (h : List Event) → TreeFacts h → ancestors t h ≡ x ∷ ys → (o : Option TaskId) → parent_of t h ≡ o → (parent_of t h ≡ Some x) × (ancestors x h ≡ ys)
 parent_first t x ys h g e None o = absurd (let w = g.above t in cc)
 parent_first t x ys h g e (Some p) o = let w = rw o at (g.above t) in (cc, cc)
 

@@ -6,7 +6,7 @@ ghost use Rattle.task_ids.specs.declared.task_id.TaskId.{TaskId};
 ghost use Rattle.task_ids.specs.declared.cluster.Cluster.{Cluster};
 ghost use Rattle.task_events.specs.declared.event.Event.{Event};
 ghost use Rattle.task_events.specs.Lawful.{Lawful};
-ghost use Rattle.task_events.specs.Laws.{CancelsEarlyChildren, CancelsWithCause, EventsHaveCauses, LeavesNoBan, MessagesTellThePast, OnceInFlight, OnePlace, OneStage, RefusesLateChildren, WaitsForDescendants};
+ghost use Rattle.task_events.specs.Laws.{CancelsEarlyChildren, CancelsWithCause, EventsHaveCauses, LeavesNoBan, MessagesTellThePast, OnceInFlight, OnePlace, OneStage, RefusesLateChildren, RestsOnLeaves, WaitsForDescendants};
 ghost use Rattle.task_events.specs.Tasks.{parent_of, descends};
 ghost use Rattle.task_events.specs.Cancels.{is_answered_done, is_named};
 ghost use Rattle.task_events.specs.Bans.{ban_put};
@@ -75,5 +75,12 @@ pub fn once_in_flight()
 /// reply by the ask's child or its rejection, a ban's number by its task's mark.
 pub fn message_contents()
     ensures { (cluster : Cluster) (h : List Event) → Lawful cluster h → MessagesTellThePast h }
+{
+}
+
+/// Where nothing is in flight, no listing is open, and no live task has to pass, to be refused or to end as
+/// cancelled, nothing is live but tasks that wait for a due moment and their ancestors.
+pub fn at_rest()
+    ensures { (cluster : Cluster) (h : List Event) → Lawful cluster h → RestsOnLeaves h }
 {
 }
