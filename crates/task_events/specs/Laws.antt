@@ -39,18 +39,18 @@ is_banned n p h = list_any (λ m. n == m) (banned_nodes p h)
 -- not sent; it stands and its unban is in flight; it is gone.
 pub record OneStage (h : List Event) : Type 0 where
   pub stage : (n : ℕ) (p : TaskId) → is_banned n p h ≡ true →
-    number_in_flight (is_ban n p) h
-    + one_if (stands n p h && listing_is_open n p h)
-    + cond (stands n p h) (number_in_flight (is_ack n p) h) 0
-    + one_if (stands n p h && (is_acked n p h && not (unbans_are_sent p h)))
-    + cond (stands n p h) (number_in_flight (is_unban n p) h) 0
-    + one_if (is_gone n p h)
-    ≡ 1
+      number_in_flight (is_ban n p) h
+      + one_if (stands n p h && listing_is_open n p h)
+      + cond (stands n p h) (number_in_flight (is_ack n p) h) 0
+      + one_if (stands n p h && (is_acked n p h && not (unbans_are_sent p h)))
+      + cond (stands n p h) (number_in_flight (is_unban n p) h) 0
+      + one_if (is_gone n p h)
+      ≡ 1
   -- no other ban stands, and each that stands has the number of the task's mark
   pub no_other : (n : ℕ) (p : TaskId) (c : ℕ) → standing_ban n p h ≡ Some c → (is_banned n p h ≡ true) × (mark_of p h ≡ Some c)
   -- and nothing of any other ban is on its way
   pub nothing_else : (n : ℕ) (p : TaskId) → is_banned n p h ≡ false →
-    number_in_flight (is_ban n p) h + one_if (listing_is_open n p h) + number_in_flight (is_ack n p) h + number_in_flight (is_unban n p) h ≡ 0
+      number_in_flight (is_ban n p) h + one_if (listing_is_open n p h) + number_in_flight (is_ack n p) h + number_in_flight (is_unban n p) h ≡ 0
 
 -- A child that is put where a ban of its parent has been put before never passes, and ends refused with that ban's
 -- number.

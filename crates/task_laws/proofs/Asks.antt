@@ -54,7 +54,6 @@ pub parent_live : (t p : TaskId) (h : List Event) → AskFacts h → parent_of t
 parent_live t p h f e l = f.live_asker p (ask_of t h) (child_unanswered t p h f e l)
 
 module _ (cluster : Cluster) where
-
   keep_born : (e : Event) (h : List Event) → Allowed cluster e h → AskFacts h → (t : TaskId) → is_live t (e ∷ h) ≡ true → t.number ≤ last_number t.node (e ∷ h)
   keep_born (Root c u) h a f t l = grind (arith, same_tests, f.born t)
   keep_born (Put u p k) h a f t l = grind (arith, same_tests, f.born t)
@@ -161,43 +160,43 @@ module _ (cluster : Cluster) where
 
   keep_asks : (e : Event) (h : List Event) → Allowed cluster e h → AskFacts h → AskFacts (e ∷ h)
   keep_asks e h a f = record {
-      born = keep_born e h a f;
-      unborn_ended = keep_unborn_ended e h a f;
-      live_or_ended = keep_live_or_ended e h a f;
-      put_lives = keep_put_lives e h a f;
-      child_is_born = keep_child_is_born e h a f;
-      parent_born = keep_parent_born e h a f;
-      unborn_asks = keep_unborn_asks e h a f;
-      new_asks = keep_new_asks e h a f;
-      not_asked = keep_not_asked e h a f;
-      first_ask = keep_first_ask e h a f;
-      live_asker = keep_live_asker e h a f;
-      no_child = keep_no_child e h a f;
-      child_born = keep_child_born e h a f;
-      child_put = keep_child_put e h a f;
-      child_knows = keep_child_knows e h a f;
-      ask_knows = keep_ask_knows e h a f;
-      place = keep_place e h a f;
-    }
+    born = keep_born e h a f;
+    unborn_ended = keep_unborn_ended e h a f;
+    live_or_ended = keep_live_or_ended e h a f;
+    put_lives = keep_put_lives e h a f;
+    child_is_born = keep_child_is_born e h a f;
+    parent_born = keep_parent_born e h a f;
+    unborn_asks = keep_unborn_asks e h a f;
+    new_asks = keep_new_asks e h a f;
+    not_asked = keep_not_asked e h a f;
+    first_ask = keep_first_ask e h a f;
+    live_asker = keep_live_asker e h a f;
+    no_child = keep_no_child e h a f;
+    child_born = keep_child_born e h a f;
+    child_put = keep_child_put e h a f;
+    child_knows = keep_child_knows e h a f;
+    ask_knows = keep_ask_knows e h a f;
+    place = keep_place e h a f;
+  }
 
   pub ask_facts : (h : List Event) → Lawful cluster h → AskFacts h
   ask_facts [] l = record {
-      born = λ t e. cc;
-      unborn_ended = λ t e. refl;
-      live_or_ended = λ t e. refl;
-      put_lives = λ t p e l. cc;
-      child_is_born = λ t p e. absurd (cc);
-      parent_born = λ t p e. cc;
-      unborn_asks = λ t e. refl;
-      new_asks = λ t e. refl;
-      not_asked = λ p k e. refl;
-      first_ask = λ p. refl;
-      live_asker = λ p k e. cc;
-      no_child = λ p k e. refl;
-      child_born = λ p k u e. cc;
-      child_put = λ p k u e. refl;
-      child_knows = λ p k u e. cc;
-      ask_knows = λ p k u e. cc;
-      place = λ p k. refl;
-    }
+    born = λ t e. cc;
+    unborn_ended = λ t e. refl;
+    live_or_ended = λ t e. refl;
+    put_lives = λ t p e l. cc;
+    child_is_born = λ t p e. absurd (cc);
+    parent_born = λ t p e. cc;
+    unborn_asks = λ t e. refl;
+    new_asks = λ t e. refl;
+    not_asked = λ p k e. refl;
+    first_ask = λ p. refl;
+    live_asker = λ p k e. cc;
+    no_child = λ p k e. refl;
+    child_born = λ p k u e. cc;
+    child_put = λ p k u e. refl;
+    child_knows = λ p k u e. cc;
+    ask_knows = λ p k u e. cc;
+    place = λ p k. refl;
+  }
   ask_facts (e ∷ h) l = keep_asks e h l.0 (ask_facts h l.1)

@@ -65,7 +65,6 @@ acked_other p q m h d [] = refl
 acked_other p q m h d (n ∷ ns) = grind (arith, same_tests, acked_other p q m h d ns)
 
 module _ (cluster : Cluster) where
-
   keep_once : (e : Event) (h : List Event) → Allowed cluster e h → AskFacts h → BanFacts h → (n : ℕ) (p : TaskId) → banned n p (e ∷ h) ≤ 1
   keep_once (Mark q c) h a f b n p = either_once n (same_task p q) _ _ (once (λ m. list_any (λ a. a.node == m) (unanswered p h)) n) (b.once n p)
   keep_once _ h a f b n p = b.once n p
@@ -108,23 +107,23 @@ module _ (cluster : Cluster) where
 
   keep_bans : (e : Event) (h : List Event) → Allowed cluster e h → AskFacts h → BanFacts h → BanFacts (e ∷ h)
   keep_bans e h a f b = record {
-      once = keep_once e h a f b;
-      unmarked = keep_unmarked e h a f b;
-      course = keep_course e h a f b;
-      stay = keep_stay e h a f b;
-      going = keep_going e h a f b;
-      reason = keep_reason e h a f b;
-      listed = keep_listed e h a f b;
-    }
+    once = keep_once e h a f b;
+    unmarked = keep_unmarked e h a f b;
+    course = keep_course e h a f b;
+    stay = keep_stay e h a f b;
+    going = keep_going e h a f b;
+    reason = keep_reason e h a f b;
+    listed = keep_listed e h a f b;
+  }
 
   pub ban_facts : (h : List Event) → Lawful cluster h → BanFacts h
   ban_facts [] l = record {
-      once = λ n p. omega arith;
-      unmarked = λ p e. refl;
-      course = λ n p. refl;
-      stay = λ n p. refl;
-      going = λ n p. refl;
-      reason = λ n p c e. cc;
-      listed = λ n p. refl;
-    }
+    once = λ n p. omega arith;
+    unmarked = λ p e. refl;
+    course = λ n p. refl;
+    stay = λ n p. refl;
+    going = λ n p. refl;
+    reason = λ n p c e. cc;
+    listed = λ n p. refl;
+  }
   ban_facts (e ∷ h) l = keep_bans e h l.0 (ask_facts cluster h l.1) (ban_facts h l.1)

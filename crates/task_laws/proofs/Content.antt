@@ -60,12 +60,11 @@ each_map P f (n ∷ ns) a = (a.0, each_map P f ns a.1)
 members : (ns : List ℕ) → AllByRecursion (λ n. list_any (λ m. n == m) ns ≡ true) ns
 members [] = tt
 members (n ∷ ns) = (
-    grind (arith, same_tests),
-    each_grow (λ x. list_any (λ m. x == m) ns ≡ true) (λ x. list_any (λ m. x == m) (n ∷ ns) ≡ true) (λ x e. grind arith) ns (members ns)
-  )
+  grind (arith, same_tests),
+  each_grow (λ x. list_any (λ m. x == m) ns ≡ true) (λ x. list_any (λ m. x == m) (n ∷ ns) ≡ true) (λ x e. grind arith) ns (members ns),
+)
 
 module _ (cluster : Cluster) where
-
   keep_node_asked : (e : Event) (h : List Event) → Allowed cluster e h → AnswerFacts h → (p : TaskId) (k n : ℕ) → node_of_ask p k (e ∷ h) ≡ Some n → k ≤ last_ask p (e ∷ h)
   keep_node_asked (Ask q j m) h a g p k n e = grind (arith, same_tests, g.node_asked p k n)
   keep_node_asked _ h a g p k n e = g.node_asked p k n e
@@ -92,11 +91,11 @@ module _ (cluster : Cluster) where
 
   pub answer_facts : (h : List Event) → Lawful cluster h → AnswerFacts h
   answer_facts [] l = record {
-      node_asked = λ p k n e. absurd (cc);
-      rejected_asked = λ p k n e. absurd (cc);
-      rejected_put = λ p k n e. absurd (cc);
-      reply_ended = λ t r e. cc;
-    }
+    node_asked = λ p k n e. absurd (cc);
+    rejected_asked = λ p k n e. absurd (cc);
+    rejected_put = λ p k n e. absurd (cc);
+    reply_ended = λ t r e. cc;
+  }
   answer_facts (e ∷ h) l =
       let f = ask_facts cluster h l.1 in
       let g = answer_facts h l.1 in
@@ -195,8 +194,10 @@ module _ (cluster : Cluster) where
     where
       mark_now : mark_of t (Mark t c ∷ h) ≡ Some c
       mark_now = grind (arith, same_tests)
+
       same : same_task t t ≡ true
       same = grind (arith, same_tests)
+
       banned_now : (n : ℕ) → list_any (λ m. n == m) (unanswered_nodes t h) ≡ true → is_banned n t (Mark t c ∷ h) ≡ true
       banned_now n i = rw same i
 
@@ -221,12 +222,12 @@ module _ (cluster : Cluster) where
   keep_told (Refuse t c) h a f g all =
       each_append (λ m. IsTold m (Refuse t c ∷ h)) (in_flight h ++ answer_from (parent_of t h) (ask_of t h) (Cancelled t c)) (unbans_from t (Refuse t c ∷ h))
       (each_append (λ m. IsTold m (Refuse t c ∷ h)) (in_flight h) (answer_from (parent_of t h) (ask_of t h) (Cancelled t c)) all
-        (new_answer t (Cancelled t c) h (Refuse t c ∷ h) f g a.live (grind (arith, same_tests)) (λ p k. refl) (λ p k. refl) (parent_of t h) refl))
+      (new_answer t (Cancelled t c) h (Refuse t c ∷ h) f g a.live (grind (arith, same_tests)) (λ p k. refl) (λ p k. refl) (parent_of t h) refl))
       (new_unbans t (Refuse t c ∷ h) (unbans_are_sent t (Refuse t c ∷ h)) refl)
   keep_told (End t r) h a f g all =
       each_append (λ m. IsTold m (End t r ∷ h)) (in_flight h ++ answer_from (parent_of t h) (ask_of t h) r) (unbans_from t (End t r ∷ h))
       (each_append (λ m. IsTold m (End t r ∷ h)) (in_flight h) (answer_from (parent_of t h) (ask_of t h) r) all
-        (new_answer t r h (End t r ∷ h) f g a.goes_on.live (grind (arith, same_tests)) (λ p k. refl) (λ p k. refl) (parent_of t h) refl))
+      (new_answer t r h (End t r ∷ h) f g a.goes_on.live (grind (arith, same_tests)) (λ p k. refl) (λ p k. refl) (parent_of t h) refl))
       (new_unbans t (End t r ∷ h) (unbans_are_sent t (End t r ∷ h)) refl)
   keep_told _ h a f g all = all
 

@@ -45,7 +45,6 @@ gone_ended : (n : ℕ) (p : TaskId) (h : List Event) → BanFacts h → 0 < numb
 gone_ended n p h b i = grind (arith, b.going n p, unbans_in_flight n p h)
 
 module _ (cluster : Cluster) where
-
   keep_put_number : (e : Event) (h : List Event) → Allowed cluster e h → LateFacts h → (n : ℕ) (p : TaskId) (c : ℕ) → ban_put n p (e ∷ h) ≡ Some c → mark_of p (e ∷ h) ≡ Some c
   keep_put_number (Mark q d) h a g n p c e = grind (arith, same_tests, g.put_number n p c)
   keep_put_number (BanPut m q d) h a g n p c e = grind (arith, same_tests, g.put_number n p c)
@@ -95,25 +94,25 @@ module _ (cluster : Cluster) where
 
   keep_late : (e : Event) (h : List Event) → Allowed cluster e h → AskFacts h → BanFacts h → LateFacts h → LateFacts (e ∷ h)
   keep_late e h a f b g = record {
-      put_number = keep_put_number e h a g;
-      put_stands = keep_put_stands e h a b g;
-      still_put = keep_still_put e h a g;
-      late_born = keep_late_born e h a g;
-      unborn_passed = keep_unborn_passed e h a f g;
-      still_new = keep_still_new e h a f g;
-      not_passed = keep_not_passed e h a f g;
-      refused = keep_refused e h a f g;
-    }
+    put_number = keep_put_number e h a g;
+    put_stands = keep_put_stands e h a b g;
+    still_put = keep_still_put e h a g;
+    late_born = keep_late_born e h a g;
+    unborn_passed = keep_unborn_passed e h a f g;
+    still_new = keep_still_new e h a f g;
+    not_passed = keep_not_passed e h a f g;
+    refused = keep_refused e h a f g;
+  }
 
   pub late_facts : (h : List Event) → Lawful cluster h → LateFacts h
   late_facts [] l = record {
-      put_number = λ n p c e. cc;
-      put_stands = λ n p c e i. cc;
-      still_put = λ t c e. cc;
-      late_born = λ t c e. absurd (cc);
-      unborn_passed = λ t e. refl;
-      still_new = λ t c e i. cc;
-      not_passed = λ t c e. refl;
-      refused = λ t c e i. cc;
-    }
+    put_number = λ n p c e. cc;
+    put_stands = λ n p c e i. cc;
+    still_put = λ t c e. cc;
+    late_born = λ t c e. absurd (cc);
+    unborn_passed = λ t e. refl;
+    still_new = λ t c e i. cc;
+    not_passed = λ t c e. refl;
+    refused = λ t c e i. cc;
+  }
   late_facts (e ∷ h) l = keep_late e h l.0 (ask_facts cluster h l.1) (ban_facts cluster h l.1) (late_facts h l.1)

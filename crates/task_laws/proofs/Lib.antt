@@ -3,6 +3,7 @@ pub mod Bans
 pub mod Marks
 pub mod Content
 pub mod Counts
+pub mod Examples
 pub mod InFlight
 pub mod Late
 pub mod Nodes

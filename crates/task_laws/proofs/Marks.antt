@@ -68,7 +68,6 @@ under_named slots t p c h b g k e s =
     rw above named
 
 module _ (cluster : Cluster) where
-
   keep_mark_born : (e : Event) (h : List Event) → Allowed cluster e h → AskFacts h → CauseFacts cluster.slots h → (t : TaskId) (c : ℕ) → mark_of t (e ∷ h) ≡ Some c → t.number ≤ last_number t.node (e ∷ h)
   keep_mark_born (Root d u) h a f k t c e = grind (arith, same_tests, k.mark_born t c)
   keep_mark_born (Put u q j) h a f k t c e = grind (arith, same_tests, k.mark_born t c)
@@ -90,9 +89,9 @@ module _ (cluster : Cluster) where
   -- the mark that comes now
   new_mark : (t : TaskId) (c : ℕ) (h : List Event) → BanFacts h → TreeFacts h → CauseFacts cluster.slots h → (is_named c t h ≡ true) ⊎ IsUnderListing t c h → names_one_of c (t ∷ ancestors t h) h ≡ true
   new_mark t c h b g k = elim [
-      inl n ↦ rw n
+    | inl n ↦ rw n
     | inr u ↦ let above = under_named cluster.slots t u.0 c h b g k u.1 u.2 in grind arith
-    ]
+  ]
 
   keep_mark : (e : Event) (h : List Event) → Allowed cluster e h → AskFacts h → BanFacts h → TreeFacts h → CauseFacts cluster.slots h → (t : TaskId) (c : ℕ) → mark_of t (e ∷ h) ≡ Some c → names_one_of c (t ∷ ancestors t (e ∷ h)) (e ∷ h) ≡ true
   keep_mark (Mark u d) h a f b g k t c e = let n = new_mark u d h b g k (marked_by u d h a.cause) in grind (arith, same_tests, k.mark t c)
@@ -111,12 +110,12 @@ module _ (cluster : Cluster) where
 
   pub cause_facts : (h : List Event) → Lawful cluster h → CauseFacts cluster.slots h
   cause_facts [] l = record {
-      mark_born = λ t c e. absurd (cc);
-      mark = λ t c e. cc;
-      refusal_ended = λ t c e. cc;
-      refusal = λ t c e. cc;
-      room = λ n. omega arith;
-    }
+    mark_born = λ t c e. absurd (cc);
+    mark = λ t c e. cc;
+    refusal_ended = λ t c e. cc;
+    refusal = λ t c e. cc;
+    room = λ n. omega arith;
+  }
   cause_facts (e ∷ h) l =
       let f = ask_facts cluster h l.1 in
       let b = ban_facts cluster h l.1 in

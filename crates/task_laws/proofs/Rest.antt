@@ -61,9 +61,9 @@ HasLeaf t h = (u : TaskId) × IsLeaf u h × ((u ≡ t) ⊎ (descends t u h ≡ t
 
 below : (t u : TaskId) (h : List Event) → TreeFacts h → parent_of u h ≡ Some t → (w : TaskId) → (w ≡ u) ⊎ (descends u w h ≡ true) → descends t w h ≡ true
 below t u h g e w = elim [
-    inl same ↦ let above = rw e at (g.above u) in grind (arith, same_tests)
+  | inl same ↦ let above = rw e at (g.above u) in grind (arith, same_tests)
   | inr d ↦ through_child t u h g e (ancestors w h) w refl d
-  ]
+]
 
 -- the live child of an ask that is unanswered where nothing is in flight
 child_at_rest : (t : TaskId) (k : ℕ) (h : List Event) → AskFacts h → in_flight h ≡ [] → is_unanswered t k h ≡ true → (o : Option TaskId) → child_of t k h ≡ o → (u : TaskId) × (is_live u h ≡ true) × (parent_of u h ≡ Some t)
@@ -85,6 +85,7 @@ child_at_rest t k h f q e (Some u) o =
     live_of : (b : Bool) → cond {A = ℕ} b 1 0 ≡ 1 → b ≡ true
     live_of true e = refl
     live_of false e = absurd (omega arith)
+
     parent_is : (t : TaskId) (k : ℕ) (o : Option TaskId) (j : ℕ) → is_for t k o j ≡ true → o ≡ Some t
     parent_is t k None j e = absurd (cc)
     parent_is t k (Some q) j e = grind (arith, same_tests)
@@ -109,12 +110,12 @@ from_child t h f g r l deeper (a ∷ more) e o m =
 leaf_within : (cluster : Cluster) (h : List Event) → Lawful cluster h → IsAtRest h → (n : ℕ) (t : TaskId) → length h ≤ birth t h + n → is_live t h ≡ true → HasLeaf t h
 leaf_within cluster h l r zero t b i =
     from_child t h (ask_facts cluster h l) (tree_facts cluster h l) r i
-      (λ u live p. absurd (let after = child_after cluster h l u t p in let early = birth-le u h in omega arith))
-      (unanswered t h) refl (mark_of t h) refl
+    (λ u live p. absurd (let after = child_after cluster h l u t p in let early = birth-le u h in omega arith))
+    (unanswered t h) refl (mark_of t h) refl
 leaf_within cluster h l r (suc n) t b i =
     from_child t h (ask_facts cluster h l) (tree_facts cluster h l) r i
-      (λ u live p. leaf_within cluster h l r n u (let after = child_after cluster h l u t p in omega arith) live)
-      (unanswered t h) refl (mark_of t h) refl
+    (λ u live p. leaf_within cluster h l r n u (let after = child_after cluster h l u t p in omega arith) live)
+    (unanswered t h) refl (mark_of t h) refl
 
 pub leaf : (cluster : Cluster) (h : List Event) → Lawful cluster h → IsAtRest h → (t : TaskId) → is_live t h ≡ true → (u : TaskId) × IsLeaf u h × ((u ≡ t) ⊎ (descends t u h ≡ true))
 leaf cluster h l r t i = leaf_within cluster h l r (length h) t (omega arith) i

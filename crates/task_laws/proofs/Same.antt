@@ -10,10 +10,11 @@ use Rattle.task_events.specs.Same.{same_task, same_pair}
 -- an id is its node and its number
 pub same_fields : (t u : TaskId) → t.node ≡ u.node → t.number ≡ u.number → t ≡ u
 same_fields t u p q = λ i. record {
-    node = p i; number = q i;
-    node_in_range = is_prop→PathP (λ i. IsNode (p i)) (λ i. hlevel le_prop) t.node_in_range u.node_in_range i;
-    number_in_range = is_prop→PathP (λ i. IsNumber (q i)) (λ i. hlevel le_prop) t.number_in_range u.number_in_range i;
-  }
+  node = p i;
+  number = q i;
+  node_in_range = is_prop→PathP (λ i. IsNode (p i)) (λ i. hlevel le_prop) t.node_in_range u.node_in_range i;
+  number_in_range = is_prop→PathP (λ i. IsNumber (q i)) (λ i. hlevel le_prop) t.number_in_range u.number_in_range i;
+}
 
 pub same_task_tells : (t u : TaskId) → ((same_task t u ≡ true) × (t ≡ u)) ⊎ ((same_task t u ≡ false) × (t ≢ u))
 unfolding same_task

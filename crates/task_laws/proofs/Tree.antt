@@ -23,7 +23,6 @@ pub record TreeFacts (h : List Event) : Type 0 where
   pub done_ended : (c : ℕ) (t : TaskId) → is_answered_done c h ≡ true → is_named c t h ≡ true → has_ended t h ≡ true
 
 module _ (cluster : Cluster) where
-
   keep_above : (e : Event) (h : List Event) → Allowed cluster e h → AskFacts h → TreeFacts h → (t : TaskId) → ancestors t (e ∷ h) ≡ from_parent (λ p. ancestors p (e ∷ h)) (parent_of t (e ∷ h))
   keep_above (Put u q k) h a f g t = grind (arith, same_tests, g.above t, f.parent_born t, f.born q (requested_live q k h f a.requested))
   keep_above _ h a f g t = g.above t
@@ -38,9 +37,9 @@ module _ (cluster : Cluster) where
   pub tree_facts : (h : List Event) → Lawful cluster h → TreeFacts h
   tree_facts [] l = record { above = λ t. refl; done_ended = λ c t e i. cc }
   tree_facts (e ∷ h) l = record {
-      above = keep_above e h l.0 (ask_facts cluster h l.1) (tree_facts h l.1);
-      done_ended = keep_done_ended e h l.0 (ask_facts cluster h l.1) (tree_facts h l.1);
-    }
+    above = keep_above e h l.0 (ask_facts cluster h l.1) (tree_facts h l.1);
+    done_ended = keep_done_ended e h l.0 (ask_facts cluster h l.1) (tree_facts h l.1);
+  }
 
 -- the list begins with the parent
 pub parent_first : (t x : TaskId) (ys : List TaskId) (h : List Event) → TreeFacts h → ancestors t h ≡ x ∷ ys → (o : Option TaskId) → parent_of t h ≡ o → (parent_of t h ≡ Some x) × (ancestors x h ≡ ys)

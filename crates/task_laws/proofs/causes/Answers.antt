@@ -18,14 +18,14 @@ returns-clause-named c = λ cluster h l. law cluster.slots h (cause_facts cluste
 
 pub returns-clause-events : goal.returns-clause-events
 returns-clause-events c = λ cluster. record {
-    marked_once = λ t d h l. l.0.unmarked;
-    marked_by = λ t d h l. marked_by t d h l.0.cause;
-    refused_by = λ t d h l. refused_under t d h l.0.ban;
-    ended_by = λ t r h l. l.0.cancelled;
-    no_ask = λ p k n h l. l.0.unmarked;
-    no_work = λ t h l. l.0.unmarked;
-    rejected = λ n p k h l. full cluster.slots n h (cause_facts cluster h l.1) l.0.full;
-    root_rejected = λ k n h l. full cluster.slots n h (cause_facts cluster h l.1) l.0.full;
-    put = λ t p k h l. l.0.takes.free;
-    root = λ k t h l. l.0.takes.free;
-  }
+  marked_once = λ t d h l. l.0.unmarked;
+  marked_by = λ t d h l. marked_by t d h l.0.cause;
+  refused_by = λ t d h l. refused_under t d h l.0.ban;
+  ended_by = λ t r h l. l.0.cancelled;
+  no_ask = λ p k n h l. l.0.unmarked;
+  no_work = λ t h l. l.0.unmarked;
+  rejected = λ n p k h l. full cluster.slots n h (cause_facts cluster h l.1) l.0.full;
+  root_rejected = λ k n h l. full cluster.slots n h (cause_facts cluster h l.1) l.0.full;
+  put = λ t p k h l. l.0.takes.free;
+  root = λ k t h l. l.0.takes.free;
+}

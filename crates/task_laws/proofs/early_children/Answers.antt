@@ -22,7 +22,7 @@ all_listed c h b placed t n i e =
 
 pub returns : goal.returns
 returns c = λ cluster. record {
-    listed = λ n p h l. listed n p h (ask_facts cluster h l.1) l.0.all_marked;
-    placed = λ d h l. all_listed d h (ban_facts cluster h l.1) l.0.placed;
-    done = λ d h l. all_listed d h (ban_facts cluster h l.1) l.0.placed;
-  }
+  listed = λ n p h l. listed n p h (ask_facts cluster h l.1) l.0.all_marked;
+  placed = λ d h l. all_listed d h (ban_facts cluster h l.1) l.0.placed;
+  done = λ d h l. all_listed d h (ban_facts cluster h l.1) l.0.placed;
+}

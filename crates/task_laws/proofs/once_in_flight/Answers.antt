@@ -10,12 +10,12 @@ use Rattle.task_laws.proofs.once_in_flight.Goals as goal
 
 law : (h : List Event) → AskFacts h → BanFacts h → OnceInFlight h
 law h f b = record {
-    request = λ p k. grind (arith, requests_in_flight p k h, f.place p k);
-    answer = λ p k. grind (arith, answers_in_flight p k h, f.place p k);
-    ban = λ n p. grind (arith, bans_in_flight n p h, b.course n p, b.once n p);
-    ack = λ n p. grind (arith, acks_in_flight n p h, b.course n p, b.once n p);
-    unban = λ n p. grind (arith, unbans_in_flight n p h, b.going n p, b.once n p);
-  }
+  request = λ p k. grind (arith, requests_in_flight p k h, f.place p k);
+  answer = λ p k. grind (arith, answers_in_flight p k h, f.place p k);
+  ban = λ n p. grind (arith, bans_in_flight n p h, b.course n p, b.once n p);
+  ack = λ n p. grind (arith, acks_in_flight n p h, b.course n p, b.once n p);
+  unban = λ n p. grind (arith, unbans_in_flight n p h, b.going n p, b.once n p);
+}
 
 pub returns : goal.returns
 returns c = λ cluster h l. law h (ask_facts cluster h l) (ban_facts cluster h l)

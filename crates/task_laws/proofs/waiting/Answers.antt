@@ -13,10 +13,10 @@ use Rattle.task_laws.proofs.waiting.Goals as goal
 
 law : (h : List Event) → AskFacts h → TreeFacts h → WaitsForDescendants h
 law h f g = record {
-    named = g.done_ended;
-    not_live = λ c t e i. grind (arith, f.live_or_ended t, g.done_ended c t e i);
-    descendants = λ c a t e i d. descendant_ended a t h f g (g.done_ended c a e i) d (is_live t h) refl;
-  }
+  named = g.done_ended;
+  not_live = λ c t e i. grind (arith, f.live_or_ended t, g.done_ended c t e i);
+  descendants = λ c a t e i d. descendant_ended a t h f g (g.done_ended c a e i) d (is_live t h) refl;
+}
 
 -- what has just been put is live, and so descends from nothing that has ended
 not_below : (a t p : TaskId) (k : ℕ) (h : List Event) → AskFacts (Put t p k ∷ h) → TreeFacts (Put t p k ∷ h) → has_ended a (Put t p k ∷ h) ≡ true → (b : Bool) → descends a t (Put t p k ∷ h) ≡ b → descends a t (Put t p k ∷ h) ≡ false
