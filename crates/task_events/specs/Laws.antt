@@ -4,14 +4,15 @@ use Rattle.std.specs.List.{list_any}
 use Rattle.task_ids.specs.declared.task_id.TaskId.{TaskId}
 use Rattle.task_ids.specs.declared.cluster.Cluster.{Cluster}
 use Rattle.task_events.specs.declared.reply.Reply.{Reply}
+use Rattle.task_events.specs.declared.reply.Reply.TheVariants.{Cancelled}
 use Rattle.task_events.specs.declared.event.Event.{Event}
-use Rattle.task_events.specs.declared.event.Event.TheVariants.{Root, RootRejected, Ask, Put, Reject, Refuse, Mark, Listed, Work, End, AnswerPlaced, AnswerDone}
-use Rattle.task_events.specs.Tasks.{is_live, has_ended, is_new, has_passed, refusal_of, live_child, live_on, parent_of, ancestors, descends}
+use Rattle.task_events.specs.declared.event.Event.TheVariants.{Root, RootRejected, Ask, Put, Reject, Refuse, Cancel, Mark, Listed, Work, End, AnswerPlaced, AnswerDone}
+use Rattle.task_events.specs.Tasks.{is_live, has_ended, is_new, has_passed, refusal_of, reply_of, live_child, live_on, parent_of, ancestors, descends}
 use Rattle.task_events.specs.Asks.{is_unanswered, unanswered, node_of_ask, answer_of}
-use Rattle.task_events.specs.Bans.{mark_of, late_ban, banned_nodes, standing_ban, listing_is_open, is_listed, is_acked, is_gone, unbans_are_sent}
+use Rattle.task_events.specs.Bans.{mark_of, late_ban, banned_nodes, standing_ban, listing_is_open, is_listed, is_acked, is_gone, bans_are_placed, unbans_are_sent}
 use Rattle.task_events.specs.Messages.{Message, in_flight, is_request, is_answer, is_ban, is_ack, is_unban, number_in_flight}
 use Rattle.task_events.specs.Messages.Message.{Request, Answer, Ban, Ack, Unban}
-use Rattle.task_events.specs.Cancels.{is_named, is_answered_done, names_one_of}
+use Rattle.task_events.specs.Cancels.{is_named, waits, is_answered_placed, is_answered_done, names_one_of}
 use Rattle.task_events.specs.Allowed.{cancellation_in}
 use Rattle.task_events.specs.Lawful.{Lawful}
 
@@ -46,6 +47,8 @@ pub record OneStage (h : List Event) : Type 0 where
       + cond (stands n p h) (number_in_flight (is_unban n p) h) 0
       + one_if (is_gone n p h)
       ≡ 1
+  -- the unbans are sent exactly where the task has ended and its bans are placed
+  pub sent : (n : ℕ) (p : TaskId) → is_banned n p h ≡ true → number_in_flight (is_unban n p) h + one_if (is_gone n p h) ≡ one_if (unbans_are_sent p h)
   -- no other ban stands, and each that stands has the number of the task's mark
   pub no_other : (n : ℕ) (p : TaskId) (c : ℕ) → standing_ban n p h ≡ Some c → (is_banned n p h ≡ true) × (mark_of p h ≡ Some c)
   -- and nothing of any other ban is on its way
@@ -91,10 +94,14 @@ pub record WaitsForDescendants (h : List Event) : Type 0 where
   pub descendants : (c : ℕ) (a t : TaskId) → is_answered_done c h ≡ true → is_named c a h ≡ true → descends a t h ≡ true → is_live t h ≡ false
 
 -- A task is marked only by a cancellation that named it or an ancestor, and refused only by one that named an
--- ancestor.
+-- ancestor. So a reply is cancelled only by such a one.
 pub record CancelsWithCause (h : List Event) : Type 0 where
   pub mark : (t : TaskId) (c : ℕ) → mark_of t h ≡ Some c → names_one_of c (t ∷ ancestors t h) h ≡ true
   pub refusal : (t : TaskId) (c : ℕ) → refusal_of t h ≡ Some c → names_one_of c (ancestors t h) h ≡ true
+  pub refused_reply : (t : TaskId) (c : ℕ) → refusal_of t h ≡ Some c → reply_of t h ≡ Some (Cancelled t c)
+  -- a task that was not refused has a cancelled reply exactly where it is marked, with the mark's number
+  pub ended_reply : (t : TaskId) (reply : Reply) → reply_of t h ≡ Some reply → refusal_of t h ≡ None → cancellation_in reply ≡ option_map (λ c. (t, c)) (mark_of t h)
+  pub reply : (t u : TaskId) (c : ℕ) (reply : Reply) → reply_of t h ≡ Some reply → cancellation_in reply ≡ Some (u, c) → (u ≡ t) × (names_one_of c (t ∷ ancestors t h) h ≡ true)
 
 -- a ban of the task's parent with this number stands on the task's node
 abbrev pub IsUnderBan : TaskId → ℕ → List Event → Type 0
@@ -115,10 +122,10 @@ pub record EventsHaveCauses (cluster : Cluster) : Type 0 where
   pub ended_by : (t : TaskId) (reply : Reply) (h : List Event) → Lawful cluster (End t reply ∷ h) → cancellation_in reply ≡ option_map (λ c. (t, c)) (mark_of t h)
   pub no_ask : (p : TaskId) (k n : ℕ) (h : List Event) → Lawful cluster (Ask p k n ∷ h) → mark_of p h ≡ None
   pub no_work : (t : TaskId) (h : List Event) → Lawful cluster (Work t ∷ h) → mark_of t h ≡ None
-  -- a rejection comes exactly where as many tasks are live on the node as it has slots
-  pub rejected : (n : ℕ) (p : TaskId) (k : ℕ) (h : List Event) → Lawful cluster (Reject n p k ∷ h) → live_on n h ≡ cluster.slots
+  -- on the ask's node, a rejection comes exactly where as many tasks are live as it has slots
+  pub rejected : (n : ℕ) (p : TaskId) (k : ℕ) (h : List Event) → Lawful cluster (Reject n p k ∷ h) → (live_on n h ≡ cluster.slots) × (node_of_ask p k h ≡ Some n)
   pub root_rejected : (k n : ℕ) (h : List Event) → Lawful cluster (RootRejected k n ∷ h) → live_on n h ≡ cluster.slots
-  pub put : (t p : TaskId) (k : ℕ) (h : List Event) → Lawful cluster (Put t p k ∷ h) → live_on t.node h < cluster.slots
+  pub put : (t p : TaskId) (k : ℕ) (h : List Event) → Lawful cluster (Put t p k ∷ h) → (live_on t.node h < cluster.slots) × (node_of_ask p k h ≡ Some t.node)
   pub root : (k : ℕ) (t : TaskId) (h : List Event) → Lawful cluster (Root k t ∷ h) → live_on t.node h < cluster.slots
 
 -- Each message is in flight at most once.
@@ -159,3 +166,34 @@ pub record IsLeaf (t : TaskId) (h : List Event) : Type 0 where
 -- At rest nothing is live but such tasks and their ancestors.
 abbrev pub RestsOnLeaves : List Event → Type 0
 RestsOnLeaves h = IsAtRest h → (t : TaskId) → is_live t h ≡ true → (u : TaskId) × IsLeaf u h × ((u ≡ t) ⊎ (descends t u h ≡ true))
+
+-- The bans of a marked task go to every node to which an unanswered ask of it was sent; so to every node on which it
+-- has a live child, or may get one.
+pub record ReachesEveryChild (h : List Event) : Type 0 where
+  pub asked : (p : TaskId) (k n : ℕ) → mark_of p h ≢ None → is_unanswered p k h ≡ true → node_of_ask p k h ≡ Some n → is_banned n p h ≡ true
+  pub live : (t p : TaskId) → mark_of p h ≢ None → parent_of t h ≡ Some p → is_live t h ≡ true → is_banned t.node p h ≡ true
+
+-- every live task stands on a node of the cluster
+abbrev pub StandsInCluster : Cluster → List Event → Type 0
+StandsInCluster cluster h = (t : TaskId) → is_live t h ≡ true → t.node ≤ cluster.nodes
+
+-- A child passes or is refused as its first step, and a root needs neither.
+pub record StepsFirst (h : List Event) : Type 0 where
+  pub child : (t p : TaskId) → parent_of t h ≡ Some p → is_live t h ≡ true → is_new t h ≡ not (has_passed t h)
+  pub root : (t : TaskId) → parent_of t h ≡ None → (is_new t h ≡ false) × (has_passed t h ≡ false)
+
+-- nothing is live, in flight or listed
+pub record IsDrained (h : List Event) : Type 0 where
+  pub nothing_in_flight : in_flight h ≡ []
+  pub no_listing : (n : ℕ) (p : TaskId) → listing_is_open n p h ≡ false
+  pub nothing_live : (t : TaskId) → is_live t h ≡ false
+
+-- Then no ban stands, and of each marked task the bans are placed and it has ended: each answer is due.
+abbrev pub DrainsAll : List Event → Type 0
+DrainsAll h = IsDrained h → ((n : ℕ) (p : TaskId) → standing_ban n p h ≡ None) × ((t : TaskId) → mark_of t h ≢ None → (bans_are_placed t h ≡ true) × (has_ended t h ≡ true))
+
+-- A cancellation is answered once, in the way that its command asks for, and names live tasks before that.
+pub record AnswersCancelsOnce (cluster : Cluster) : Type 0 where
+  pub placed : (c : ℕ) (h : List Event) → Lawful cluster (AnswerPlaced c ∷ h) → (waits c h ≢ Some true) × (is_answered_placed c h ≡ false) × (is_answered_done c h ≡ false)
+  pub done : (c : ℕ) (h : List Event) → Lawful cluster (AnswerDone c ∷ h) → (waits c h ≢ Some false) × (is_answered_placed c h ≡ false) × (is_answered_done c h ≡ false)
+  pub named : (c : ℕ) (t : TaskId) (wait : Bool) (h : List Event) → Lawful cluster (Cancel c t wait ∷ h) → (is_live t h ≡ true) × (is_answered_placed c h ≡ false) × (is_answered_done c h ≡ false)

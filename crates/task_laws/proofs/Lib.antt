@@ -1,14 +1,16 @@
 pub mod Asks
 pub mod Bans
-pub mod Marks
 pub mod Content
 pub mod Counts
 pub mod Examples
+pub mod FirstSteps
 pub mod InFlight
 pub mod Late
+pub mod Marks
 pub mod Nodes
 pub mod Numbers
 pub mod Pending
+pub mod Reach
 pub mod Rest
 pub mod Same
 pub mod Tree

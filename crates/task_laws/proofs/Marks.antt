@@ -1,18 +1,20 @@
 -- Where marks and refusals come from, and how many tasks are live on a node.
 use Rattle.std.proofs.Common.{◌≡◌, ◌≢◌, ◌⊎◌, ◌+◌, ◌≤◌, ◌<◌, ℕ, Bool, true, false, cond, ◌||◌, List, [], ◌∷◌, Option, Some, None, refl, sym, ◌∙◌, arith}
-use Rattle.std.specs.Prelude.{option_and_then}
+use Rattle.std.specs.Prelude.{option_and_then, option_map}
 use Rattle.std.proofs.Common.{inl, inr}
 use Rattle.std.specs.List.{list_any}
 use Rattle.task_ids.specs.declared.task_id.TaskId.{TaskId}
 use Rattle.task_ids.specs.declared.cluster.Cluster.{Cluster}
+use Rattle.task_events.specs.declared.reply.Reply.{Reply}
+use Rattle.task_events.specs.declared.reply.Reply.TheVariants.{Cancelled}
 use Rattle.task_events.specs.declared.event.Event.{Event}
 use Rattle.task_events.specs.declared.event.Event.TheVariants.{Begin, Root, RootRejected, Ask, Put, Reject, Pass, Refuse, Cancel, NotFound, Mark, BanPut, Listed, Acked, BanGone, Work, Write, Answered, End, AnswerPlaced, AnswerDone, Tick}
 use Rattle.task_events.specs.Same.{same_task, same_pair}
-use Rattle.task_events.specs.Tasks.{is_live, has_ended, refusal_of, parent_of, ancestors, last_number, live_on}
+use Rattle.task_events.specs.Tasks.{is_live, has_ended, refusal_of, reply_of, parent_of, ancestors, last_number, live_on}
 use Rattle.task_events.specs.Bans.{mark_of, standing_ban, listing_is_open, ban_over, open_ban_over}
 use Rattle.task_events.specs.Cancels.{is_named, names_one_of}
 use Rattle.task_events.specs.Laws.{IsUnderBan, IsUnderListing}
-use Rattle.task_events.specs.Allowed.{Allowed, is_number}
+use Rattle.task_events.specs.Allowed.{Allowed, EndAllowed, cancellation_in, is_number}
 use Rattle.task_events.specs.Lawful.{Lawful}
 use Rattle.task_laws.proofs.Same.{same_tests}
 use Rattle.task_laws.proofs.Asks.{AskFacts, ask_facts}
@@ -53,6 +55,11 @@ pub record CauseFacts (slots : ℕ) (h : List Event) : Type 0 where
   pub mark : (t : TaskId) (c : ℕ) → mark_of t h ≡ Some c → names_one_of c (t ∷ ancestors t h) h ≡ true
   pub refusal_ended : (t : TaskId) (c : ℕ) → refusal_of t h ≡ Some c → has_ended t h ≡ true
   pub refusal : (t : TaskId) (c : ℕ) → refusal_of t h ≡ Some c → names_one_of c (ancestors t h) h ≡ true
+  pub refused_reply : (t : TaskId) (c : ℕ) → refusal_of t h ≡ Some c → reply_of t h ≡ Some (Cancelled t c)
+  pub reply_ended : (t : TaskId) (r : Reply) → reply_of t h ≡ Some r → has_ended t h ≡ true
+  pub ended_reply : (t : TaskId) (r : Reply) → reply_of t h ≡ Some r → refusal_of t h ≡ None → cancellation_in r ≡ option_map (λ c. (t, c)) (mark_of t h)
+  -- a marked task is live or has ended
+  pub marked_lives : (t : TaskId) (c : ℕ) → mark_of t h ≡ Some c → is_live t h ≡ false → has_ended t h ≡ true
   pub room : (n : ℕ) → live_on n h ≤ slots
 
 -- a cancellation that names one more task named what it named before
@@ -78,6 +85,35 @@ module _ (cluster : Cluster) where
   keep_refusal_ended (Refuse u d) h a k t c e = grind (arith, same_tests, k.refusal_ended t c)
   keep_refusal_ended (End u r) h a k t c e = grind (arith, same_tests, k.refusal_ended t c)
   keep_refusal_ended _ h a k t c e = k.refusal_ended t c e
+
+  keep_refused_reply : (e : Event) (h : List Event) → Allowed cluster e h → CauseFacts cluster.slots h → AskFacts h → (t : TaskId) (c : ℕ) → refusal_of t (e ∷ h) ≡ Some c → reply_of t (e ∷ h) ≡ Some (Cancelled t c)
+  keep_refused_reply (Refuse u d) h a k f t c e = grind (arith, same_tests, k.refused_reply t c)
+  keep_refused_reply (End u r) h a k f t c e = grind (arith, same_tests, k.refused_reply t c, k.refusal_ended t c, f.live_or_ended u)
+  keep_refused_reply _ h a k f t c e = k.refused_reply t c e
+
+  keep_reply_ended : (e : Event) (h : List Event) → Allowed cluster e h → CauseFacts cluster.slots h → (t : TaskId) (r : Reply) → reply_of t (e ∷ h) ≡ Some r → has_ended t (e ∷ h) ≡ true
+  keep_reply_ended (Refuse u d) h a k t r e = grind (arith, same_tests, k.reply_ended t r)
+  keep_reply_ended (End u s) h a k t r e = grind (arith, same_tests, k.reply_ended t r)
+  keep_reply_ended _ h a k t r e = k.reply_ended t r e
+
+  -- the reply of the task that ends now, and the replies of the others
+  end_reply : (u : TaskId) (s : Reply) (h : List Event) → EndAllowed u s h → CauseFacts cluster.slots h → (t : TaskId) (r : Reply) (b : Bool) → same_task t u ≡ b → cond b (Some s) (reply_of t h) ≡ Some r → refusal_of t h ≡ None → cancellation_in r ≡ option_map (λ c. (t, c)) (mark_of t h)
+  end_reply u s h a k t r true b e i = let same : t ≡ u = grind (arith, same_tests) in let is : r ≡ s = cc in rw (same, is) a.cancelled
+  end_reply u s h a k t r false b e i = k.ended_reply t r e i
+
+  keep_ended_reply : (e : Event) (h : List Event) → Allowed cluster e h → CauseFacts cluster.slots h → AskFacts h → (t : TaskId) (r : Reply) → reply_of t (e ∷ h) ≡ Some r → refusal_of t (e ∷ h) ≡ None → cancellation_in r ≡ option_map (λ c. (t, c)) (mark_of t (e ∷ h))
+  keep_ended_reply (Refuse u d) h a k f t r e i = k.ended_reply t r (grind (arith, same_tests)) (grind (arith, same_tests))
+  keep_ended_reply (End u s) h a k f t r e i = end_reply u s h a k t r (same_task t u) refl e i
+  keep_ended_reply (Mark u d) h a k f t r e i = let other : same_task t u ≡ false = grind (arith, same_tests, k.reply_ended t r, f.live_or_ended u) in rw other (k.ended_reply t r e i)
+  keep_ended_reply _ h a k f t r e i = k.ended_reply t r e i
+
+  keep_marked_lives : (e : Event) (h : List Event) → Allowed cluster e h → CauseFacts cluster.slots h → (t : TaskId) (c : ℕ) → mark_of t (e ∷ h) ≡ Some c → is_live t (e ∷ h) ≡ false → has_ended t (e ∷ h) ≡ true
+  keep_marked_lives (Root d u) h a k t c e i = grind (arith, same_tests, k.marked_lives t c)
+  keep_marked_lives (Put u q j) h a k t c e i = grind (arith, same_tests, k.marked_lives t c)
+  keep_marked_lives (Refuse u d) h a k t c e i = grind (arith, same_tests, k.marked_lives t c)
+  keep_marked_lives (End u r) h a k t c e i = grind (arith, same_tests, k.marked_lives t c)
+  keep_marked_lives (Mark u d) h a k t c e i = grind (arith, same_tests, k.marked_lives t c)
+  keep_marked_lives _ h a k t c e i = k.marked_lives t c e i
 
   keep_room : (e : Event) (h : List Event) → Allowed cluster e h → CauseFacts cluster.slots h → (n : ℕ) → live_on n (e ∷ h) ≤ cluster.slots
   keep_room (Root d u) h a k n = grind (arith, same_tests, k.room n)
@@ -114,6 +150,10 @@ module _ (cluster : Cluster) where
     mark = λ t c e. cc;
     refusal_ended = λ t c e. cc;
     refusal = λ t c e. cc;
+    refused_reply = λ t c e. absurd (cc);
+    reply_ended = λ t r e. cc;
+    ended_reply = λ t r e i. absurd (cc);
+    marked_lives = λ t c e i. cc;
     room = λ n. omega arith;
   }
   cause_facts (e ∷ h) l =
@@ -126,5 +166,9 @@ module _ (cluster : Cluster) where
         mark = keep_mark e h l.0 f b g k;
         refusal_ended = keep_refusal_ended e h l.0 k;
         refusal = keep_refusal e h l.0 f b g k;
+        refused_reply = keep_refused_reply e h l.0 k f;
+        reply_ended = keep_reply_ended e h l.0 k;
+        ended_reply = keep_ended_reply e h l.0 k f;
+        marked_lives = keep_marked_lives e h l.0 k;
         room = keep_room e h l.0 k;
       }

@@ -5,7 +5,7 @@ ghost use Rattle.std.specs.Prelude.{◌≡◌, ◌≢◌, ◌<◌, ◌≤◌, �
 ghost use Rattle.task_events.specs.declared.event.Event.{Event};
 ghost use Rattle.task_laws.specs.Example.{IsId, example};
 ghost use Rattle.task_events.specs.Lawful.{Lawful};
-ghost use Rattle.task_events.specs.Laws.{CancelsEarlyChildren, CancelsWithCause, EventsHaveCauses, LeavesNoBan, MessagesTellThePast, OnceInFlight, OnePlace, OneStage, RefusesLateChildren, RestsOnLeaves, WaitsForDescendants};
+ghost use Rattle.task_events.specs.Laws.{AnswersCancelsOnce, CancelsEarlyChildren, CancelsWithCause, DrainsAll, EventsHaveCauses, LeavesNoBan, MessagesTellThePast, OnceInFlight, OnePlace, OneStage, ReachesEveryChild, RefusesLateChildren, RestsOnLeaves, StandsInCluster, StepsFirst, WaitsForDescendants};
 ghost use Rattle.task_events.specs.Tasks.{parent_of, descends};
 ghost use Rattle.task_events.specs.Cancels.{is_answered_done, is_named};
 ghost use Rattle.task_events.specs.Bans.{ban_put, late_ban};
@@ -33,9 +33,11 @@ pub fn late_children()
         → parent_of t h ≡ Some p → ban_put t.node p h ≡ None }
 {}
 
-/// Once its messages are handled, an ended task has no ban.
+/// Once its messages are handled, an ended task has no ban. So where nothing is live, in flight or listed, no ban
+/// stands, and the bans of each marked task are placed.
 pub fn drained_bans()
-    ensures { (cluster : Cluster) (h : List Event) → Lawful cluster h → LeavesNoBan h }
+    ensures ended { (cluster : Cluster) (h : List Event) → Lawful cluster h → LeavesNoBan h }
+    ensures all { (cluster : Cluster) (h : List Event) → Lawful cluster h → DrainsAll h }
 {}
 
 /// A running earlier child is cancelled: a listing ends, and its acknowledgement is sent, only when every child
@@ -75,6 +77,26 @@ pub fn message_contents()
 pub fn at_rest()
     ensures { (cluster : Cluster) (h : List Event) → Lawful cluster h → RestsOnLeaves h }
 {}
+
+/// The bans of a marked task go to every node on which it has a live child, or may get one; and every task stands
+/// on a node of the cluster.
+pub fn reached_children()
+    ensures reached { (cluster : Cluster) (h : List Event) → Lawful cluster h → ReachesEveryChild h }
+    ensures nodes { (cluster : Cluster) (h : List Event) → Lawful cluster h → StandsInCluster cluster h }
+{
+}
+
+/// A child passes or is refused as its first step, and a root needs neither.
+pub fn first_steps()
+    ensures { (cluster : Cluster) (h : List Event) → Lawful cluster h → StepsFirst h }
+{
+}
+
+/// A cancellation is answered once, in the way that its command asks for, and names live tasks before that.
+pub fn cancels_answered()
+    ensures { (cluster : Cluster) → AnswersCancelsOnce cluster }
+{
+}
 
 /// The laws are not empty: a history with a waiting cancellation, an early child, a late child and a rejected
 /// request is lawful.

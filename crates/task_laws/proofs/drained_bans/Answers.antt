@@ -1,15 +1,16 @@
-use Rattle.std.proofs.Common.{◌≡◌, ◌≢◌, ◌+◌, ◌<◌, ℕ, Bool, true, false, cond, ◌&&◌, List, ◌∷◌, Option, Some, None, refl, sym, ap, ◌∙◌, arith}
+use Rattle.std.proofs.Common.{◌≡◌, ◌+◌, ◌<◌, ℕ, Bool, true, false, cond, ◌&&◌, List, ◌∷◌, Option, Some, None, refl, sym, ap, ◌∙◌, arith, ◌≢◌}
 use Rattle.std.specs.Prelude.{is_some}
 use Rattle.std.specs.List.{list_all}
 use Rattle.task_ids.specs.declared.task_id.TaskId.{TaskId}
 use Rattle.task_events.specs.declared.event.Event.{Event}
 use Rattle.task_events.specs.Tasks.{has_ended}
 use Rattle.task_events.specs.Bans.{mark_of, banned_nodes, standing_ban, is_acked, is_gone, bans_are_placed, unbans_are_sent}
-use Rattle.task_events.specs.Laws.{LeavesNoBan, IsQuiet}
+use Rattle.task_events.specs.Laws.{LeavesNoBan, IsQuiet, IsDrained}
 use Rattle.task_laws.proofs.Numbers.{number, all_pass}
 use Rattle.task_laws.proofs.Counts.{banned, freed}
 use Rattle.task_laws.proofs.InFlight.{bans_in_flight, acks_in_flight, unbans_in_flight}
 use Rattle.task_laws.proofs.Bans.{BanFacts, ban_facts}
+use Rattle.task_laws.proofs.Marks.{CauseFacts, cause_facts}
 use Rattle.task_laws.proofs.drained_bans.Goals as goal
 
 -- where nothing is on its way each banned node has acknowledged
@@ -48,5 +49,33 @@ drained : (n : ℕ) (p : TaskId) (h : List Event) → BanFacts h → has_ended p
 drained n p h b e q None m = unmarked_none n p h b m
 drained n p h b e q (Some c) m = marked_none n p h b e q (rw m)
 
-pub returns : goal.returns
-returns c = λ cluster h l p e q n. drained n p h (ban_facts cluster h l) e q (mark_of p h) refl
+-- where nothing moves at all, all is quiet
+quiet : (p : TaskId) (h : List Event) → IsDrained h → IsQuiet p h
+quiet p h d = record {
+    no_ban = λ n. rw d.nothing_in_flight;
+    no_listing = λ n. d.no_listing n p;
+    no_ack = λ n. rw d.nothing_in_flight;
+    no_unban = λ n. rw d.nothing_in_flight;
+  }
+
+marked_ended : (slots : ℕ) (h : List Event) → CauseFacts slots h → IsDrained h → (p : TaskId) (c : ℕ) → mark_of p h ≡ Some c → has_ended p h ≡ true
+marked_ended slots h k d p c m = k.marked_lives p c m (d.nothing_live p)
+
+no_ban_left : (slots : ℕ) (h : List Event) → BanFacts h → CauseFacts slots h → IsDrained h → (n : ℕ) (p : TaskId) (o : Option ℕ) → mark_of p h ≡ o → standing_ban n p h ≡ None
+no_ban_left slots h b k d n p None m = unmarked_none n p h b m
+no_ban_left slots h b k d n p (Some c) m = drained n p h b (marked_ended slots h k d p c m) (quiet p h d) (mark_of p h) refl
+
+due : (slots : ℕ) (h : List Event) → BanFacts h → CauseFacts slots h → IsDrained h → (p : TaskId) (o : Option ℕ) → mark_of p h ≡ o → mark_of p h ≢ None → (bans_are_placed p h ≡ true) × (has_ended p h ≡ true)
+due slots h b k d p None m i = absurd (i m)
+due slots h b k d p (Some c) m i =
+    let acked = all_acked p h b (quiet p h d) in
+    (rw (m, acked), marked_ended slots h k d p c m)
+
+pub returns-clause-ended : goal.returns-clause-ended
+returns-clause-ended c = λ cluster h l p e q n. drained n p h (ban_facts cluster h l) e q (mark_of p h) refl
+
+pub returns-clause-all : goal.returns-clause-all
+returns-clause-all c = λ cluster h l d.
+    let b = ban_facts cluster h l in
+    let k = cause_facts cluster h l in
+    (λ n p. no_ban_left cluster.slots h b k d n p (mark_of p h) refl, λ t i. due cluster.slots h b k d t (mark_of t h) refl i)

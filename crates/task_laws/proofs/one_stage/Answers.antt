@@ -30,6 +30,13 @@ no_unban : (s : Bool) (n u g : ℕ) → n ≡ 0 → u + g ≡ cond s n 0 → u �
 no_unban true n u g e f = omega arith
 no_unban false n u g e f = omega arith
 
+sent : (h : List Event) → BanFacts h → (n : ℕ) (p : TaskId) → is_banned n p h ≡ true → number_in_flight (is_unban n p) h + one_if (is_gone n p h) ≡ one_if (unbans_are_sent p h)
+sent h f n p e =
+    let here : banned n p h ≡ 1 = let x = any_is n (banned_nodes p h) e in let y = f.once n p in omega arith in
+    let z = unbans_in_flight n p h in
+    let w = f.going n p in
+    rw here at (rw (← z) at w)
+
 stage : (h : List Event) → BanFacts h → (n : ℕ) (p : TaskId) → is_banned n p h ≡ true →
     number_in_flight (is_ban n p) h + one_if (stands n p h && listing_is_open n p h) + cond (stands n p h) (number_in_flight (is_ack n p) h) 0
     + one_if (stands n p h && (is_acked n p h && not (unbans_are_sent p h))) + cond (stands n p h) (number_in_flight (is_unban n p) h) 0 + one_if (is_gone n p h) ≡ 1
@@ -40,7 +47,7 @@ stage h f n p e =
     let z = unbans_in_flight n p h in
     let c : number_in_flight (is_ban n p) h + cond (listing_is_open n p h) 1 0 + number_in_flight (is_ack n p) h + cond (is_acked n p h) 1 0 ≡ 1 = let w = f.course n p in omega arith in
     let d : number_in_flight (is_ban n p) h + cond (stands n p h) 1 0 + cond (is_gone n p h) 1 0 ≡ 1 = let w = f.stay n p in omega arith in
-    let g : number_in_flight (is_unban n p) h + cond (is_gone n p h) 1 0 ≡ cond (unbans_are_sent p h) 1 0 = let w = f.going n p in rw here at (rw (← z) at w) in
+    let g = sent h f n p e in
     let s = sent_acked n p h here in
     six (number_in_flight (is_ban n p) h) (number_in_flight (is_ack n p) h) (number_in_flight (is_unban n p) h) (stands n p h) (listing_is_open n p h) (is_acked n p h) (unbans_are_sent p h) (is_gone n p h) c d g s
 
@@ -60,7 +67,7 @@ nothing_else h f n p e =
     omega arith
 
 law : (h : List Event) → BanFacts h → OneStage h
-law h f = record { stage = stage h f; no_other = no_other h f; nothing_else = nothing_else h f }
+law h f = record { stage = stage h f; sent = sent h f; no_other = no_other h f; nothing_else = nothing_else h f }
 
 pub returns : goal.returns
 returns c = λ cluster h l. law h (ban_facts cluster h l)
