@@ -1,5 +1,5 @@
 -- The laws of cancellation.
-use Rattle.std.specs.Prelude.{ℕ, ◌+◌, ◌<◌, ◌≤◌, ◌≡◌, ◌≢◌, ◌⊎◌, Bool, true, false, ◌&&◌, not, is_some, ◌==◌, List, [], ◌∷◌, Option, Some, None, option_map, cond, All}
+use Rattle.std.specs.Prelude.{ℕ, ◌+◌, ◌<◌, ◌≤◌, ◌≡◌, ◌≢◌, ◌⊎◌, Bool, true, false, ◌&&◌, not, is_some, ◌==◌, List, [], ◌∷◌, Option, Some, None, option_map, cond, All, remove, slice_get}
 use Rattle.std.specs.List.{list_any}
 use Rattle.task_ids.specs.declared.task_id.TaskId.{TaskId}
 use Rattle.task_ids.specs.declared.cluster.Cluster.{Cluster}
@@ -10,7 +10,7 @@ use Rattle.task_events.specs.declared.event.Event.TheVariants.{Root, RootRejecte
 use Rattle.task_events.specs.Tasks.{is_live, has_ended, is_new, has_passed, refusal_of, reply_of, live_child, live_on, parent_of, ancestors, descends}
 use Rattle.task_events.specs.Asks.{is_unanswered, unanswered, node_of_ask, answer_of}
 use Rattle.task_events.specs.Bans.{mark_of, late_ban, banned_nodes, standing_ban, listing_is_open, is_listed, is_acked, is_gone, bans_are_placed, unbans_are_sent}
-use Rattle.task_events.specs.Messages.{Message, in_flight, is_request, is_answer, is_ban, is_ack, is_unban, number_in_flight}
+use Rattle.task_events.specs.Messages.{Message, in_flight, is_request, is_answer, is_ban, is_ack, is_unban, without, number_in_flight}
 use Rattle.task_events.specs.Messages.Message.{Request, Answer, Ban, Ack, Unban}
 use Rattle.task_events.specs.Cancels.{is_named, waits, is_answered_placed, is_answered_done, names_one_of}
 use Rattle.task_events.specs.Allowed.{cancellation_in}
@@ -197,3 +197,15 @@ pub record AnswersCancelsOnce (cluster : Cluster) : Type 0 where
   pub placed : (c : ℕ) (h : List Event) → Lawful cluster (AnswerPlaced c ∷ h) → (waits c h ≢ Some true) × (is_answered_placed c h ≡ false) × (is_answered_done c h ≡ false)
   pub done : (c : ℕ) (h : List Event) → Lawful cluster (AnswerDone c ∷ h) → (waits c h ≢ Some false) × (is_answered_placed c h ≡ false) × (is_answered_done c h ≡ false)
   pub named : (c : ℕ) (t : TaskId) (wait : Bool) (h : List Event) → Lawful cluster (Cancel c t wait ∷ h) → (is_live t h ≡ true) × (is_answered_placed c h ≡ false) × (is_answered_done c h ≡ false)
+
+-- A message of this kind is in flight, and to deliver it is to take away what stands at this place.
+abbrev pub IsDeliveredAt : ℕ → (Message → Bool) → List Event → Type 0
+IsDeliveredAt i kind h = (0 < number_in_flight kind h) × (without kind (in_flight h) ≡ remove (in_flight h) i)
+
+-- Whichever message in flight is delivered next, it is taken from its own place, and the order of the others stays.
+pub record DeliversAnyMessage (h : List Event) : Type 0 where
+  pub request : (i : ℕ) (p : TaskId) (k n : ℕ) → slice_get (in_flight h) i ≡ Some (Request p k n) → IsDeliveredAt i (is_request p k) h
+  pub answer : (i : ℕ) (p : TaskId) (k : ℕ) (reply : Reply) → slice_get (in_flight h) i ≡ Some (Answer p k reply) → IsDeliveredAt i (is_answer p k) h
+  pub ban : (i : ℕ) (p : TaskId) (c n : ℕ) → slice_get (in_flight h) i ≡ Some (Ban p c n) → IsDeliveredAt i (is_ban n p) h
+  pub ack : (i : ℕ) (p : TaskId) (n : ℕ) → slice_get (in_flight h) i ≡ Some (Ack p n) → IsDeliveredAt i (is_ack n p) h
+  pub unban : (i : ℕ) (p : TaskId) (n : ℕ) → slice_get (in_flight h) i ≡ Some (Unban p n) → IsDeliveredAt i (is_unban n p) h

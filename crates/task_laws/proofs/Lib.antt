@@ -9,7 +9,9 @@ pub mod Late
 pub mod Marks
 pub mod Nodes
 pub mod Numbers
+pub mod Once
 pub mod Pending
+pub mod Places
 pub mod Reach
 pub mod Rest
 pub mod Same

@@ -25,3 +25,6 @@ unfolding same_pair
 same_pair_tells t k u j = grind (arith, nat_tests, same_task_tells)
 
 pub ruleset same_tests = (same_task_tells, same_pair_tells, nat_tests)
+
+pub same_pair_refl : (t : TaskId) (k : ℕ) → same_pair t k t k ≡ true
+same_pair_refl t k = grind (arith, same_tests)

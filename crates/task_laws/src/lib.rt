@@ -1,16 +1,22 @@
 //! The laws of cancellation, over every lawful history.
 #![tactic(auto)]
 
-ghost use Rattle.std.specs.Prelude.{◌≡◌, ◌≢◌, ◌<◌, ◌≤◌, ◌∷◌, ◌⊎◌, List, Option, Some, None, Bool, true, false, ℕ};
+ghost use Rattle.std.specs.Prelude.{◌≡◌, ◌≢◌, ◌<◌, ◌≤◌, ◌∷◌, ◌++◌, ◌⊎◌, List, Option, Some, None, Bool, true, false, ℕ};
 ghost use Rattle.task_events.specs.declared.event.Event.{Event};
 ghost use Rattle.task_laws.specs.Example.{IsId, example};
 ghost use Rattle.task_events.specs.Lawful.{Lawful};
-ghost use Rattle.task_events.specs.Laws.{AnswersCancelsOnce, CancelsEarlyChildren, CancelsWithCause, DrainsAll, EventsHaveCauses, LeavesNoBan, MessagesTellThePast, OnceInFlight, OnePlace, OneStage, ReachesEveryChild, RefusesLateChildren, RestsOnLeaves, StandsInCluster, StepsFirst, WaitsForDescendants};
+ghost use Rattle.task_events.specs.Laws.{AnswersCancelsOnce, CancelsEarlyChildren, CancelsWithCause, DeliversAnyMessage, DrainsAll, EventsHaveCauses, LeavesNoBan, MessagesTellThePast, OnceInFlight, OnePlace, OneStage, ReachesEveryChild, RefusesLateChildren, RestsOnLeaves, StandsInCluster, StepsFirst, WaitsForDescendants};
 ghost use Rattle.task_events.specs.Tasks.{parent_of, descends};
 ghost use Rattle.task_events.specs.Cancels.{is_answered_done, is_named};
 ghost use Rattle.task_events.specs.Bans.{ban_put, late_ban};
 
 use task_ids::{Cluster, TaskId};
+
+/// What a lawful history was at each earlier moment is lawful; so each law below holds at every moment.
+pub fn earlier_is_lawful()
+    ensures { (cluster : Cluster) (later h : List Event) → Lawful cluster (later ++ h) → Lawful cluster h }
+{
+}
 
 /// At each moment of a lawful history each unanswered ask has a live asker and is in exactly one of three
 /// places: its request is in flight, its child is live, or its answer is in flight. An ended task has no
@@ -61,9 +67,11 @@ pub fn causes()
     ensures events { (cluster : Cluster) → EventsHaveCauses cluster }
 {}
 
-/// Each message is in flight at most once.
+/// Each message is in flight at most once. So whichever is delivered next, it is taken from its own place, and the
+/// order of the others stays.
 pub fn once_in_flight()
-    ensures { (cluster : Cluster) (h : List Event) → Lawful cluster h → OnceInFlight h }
+    ensures once { (cluster : Cluster) (h : List Event) → Lawful cluster h → OnceInFlight h }
+    ensures delivered { (cluster : Cluster) (h : List Event) → Lawful cluster h → DeliversAnyMessage h }
 {}
 
 /// What a message in flight says is determined by what has happened: a request's node by its ask, an answer's

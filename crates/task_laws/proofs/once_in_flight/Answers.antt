@@ -1,21 +1,28 @@
-use Rattle.std.proofs.Common.{◌≡◌, ◌≤◌, ◌+◌, ℕ, Bool, true, false, cond, List, arith}
+use Rattle.std.proofs.Common.{◌≡◌, List, Some, Option, ℕ, refl}
+use Rattle.std.specs.Prelude.{slice_get}
 use Rattle.task_ids.specs.declared.task_id.TaskId.{TaskId}
 use Rattle.task_events.specs.declared.event.Event.{Event}
-use Rattle.task_events.specs.Messages.{is_request, is_answer, is_ban, is_ack, is_unban, number_in_flight}
-use Rattle.task_events.specs.Laws.{OnceInFlight}
-use Rattle.task_laws.proofs.InFlight.{requests_in_flight, answers_in_flight, bans_in_flight, acks_in_flight, unbans_in_flight}
-use Rattle.task_laws.proofs.Asks.{AskFacts, ask_facts}
-use Rattle.task_laws.proofs.Bans.{BanFacts, ban_facts}
+use Rattle.task_events.specs.Messages.{is_request, is_answer, is_ban, is_ack, is_unban}
+use Rattle.task_events.specs.Messages.Message.{Request, Answer, Ban, Ack, Unban}
+use Rattle.task_events.specs.Laws.{OnceInFlight, DeliversAnyMessage}
+use Rattle.task_laws.proofs.Same.{same_pair_refl}
+use Rattle.task_laws.proofs.Asks.{ask_facts}
+use Rattle.task_laws.proofs.Bans.{ban_facts}
+use Rattle.task_laws.proofs.Once.{once_each}
+use Rattle.task_laws.proofs.Places.{at_place}
 use Rattle.task_laws.proofs.once_in_flight.Goals as goal
 
-law : (h : List Event) → AskFacts h → BanFacts h → OnceInFlight h
-law h f b = record {
-  request = λ p k. grind (arith, requests_in_flight p k h, f.place p k);
-  answer = λ p k. grind (arith, answers_in_flight p k h, f.place p k);
-  ban = λ n p. grind (arith, bans_in_flight n p h, b.course n p, b.once n p);
-  ack = λ n p. grind (arith, acks_in_flight n p h, b.course n p, b.once n p);
-  unban = λ n p. grind (arith, unbans_in_flight n p h, b.going n p, b.once n p);
-}
+delivered : (h : List Event) → OnceInFlight h → DeliversAnyMessage h
+delivered h o = record {
+    request = λ i p k n e. at_place (is_request p k) h i (Request p k n) (o.request p k) e (same_pair_refl p k);
+    answer = λ i p k r e. at_place (is_answer p k) h i (Answer p k r) (o.answer p k) e (same_pair_refl p k);
+    ban = λ i p c n e. at_place (is_ban n p) h i (Ban p c n) (o.ban n p) e (same_pair_refl p n);
+    ack = λ i p n e. at_place (is_ack n p) h i (Ack p n) (o.ack n p) e (same_pair_refl p n);
+    unban = λ i p n e. at_place (is_unban n p) h i (Unban p n) (o.unban n p) e (same_pair_refl p n);
+  }
 
-pub returns : goal.returns
-returns c = λ cluster h l. law h (ask_facts cluster h l) (ban_facts cluster h l)
+pub returns-clause-once : goal.returns-clause-once
+returns-clause-once c = λ cluster h l. once_each h (ask_facts cluster h l) (ban_facts cluster h l)
+
+pub returns-clause-delivered : goal.returns-clause-delivered
+returns-clause-delivered c = λ cluster h l. delivered h (once_each h (ask_facts cluster h l) (ban_facts cluster h l))
