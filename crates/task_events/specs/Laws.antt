@@ -1,5 +1,5 @@
 -- The laws of cancellation.
-use Rattle.std.specs.Prelude.{ℕ, ◌+◌, ◌<◌, ◌≤◌, ◌≡◌, ◌≢◌, ◌⊎◌, Bool, true, false, ◌&&◌, not, is_some, ◌==◌, List, [], ◌∷◌, Option, Some, None, option_map, cond, All, remove, slice_get}
+use Rattle.std.specs.Prelude.{ℕ, ◌+◌, ◌<◌, ◌≤◌, ◌≡◌, ◌≢◌, ◌⊎◌, Bool, true, false, ◌&&◌, not, is_some, ◌==◌, List, [], ◌∷◌, Option, Some, None, option_map, cond, All, remove, slice_get, count_by}
 use Rattle.std.specs.List.{list_any}
 use Rattle.task_ids.specs.declared.task_id.TaskId.{TaskId}
 use Rattle.task_ids.specs.declared.cluster.Cluster.{Cluster}
@@ -7,7 +7,8 @@ use Rattle.task_events.specs.declared.reply.Reply.{Reply}
 use Rattle.task_events.specs.declared.reply.Reply.TheVariants.{Cancelled}
 use Rattle.task_events.specs.declared.event.Event.{Event}
 use Rattle.task_events.specs.declared.event.Event.TheVariants.{Root, RootRejected, Ask, Put, Reject, Refuse, Cancel, Mark, Listed, Work, End, AnswerPlaced, AnswerDone}
-use Rattle.task_events.specs.Tasks.{is_live, has_ended, is_new, has_passed, refusal_of, reply_of, live_child, live_on, parent_of, ancestors, descends}
+use Rattle.task_events.specs.Same.{same_task}
+use Rattle.task_events.specs.Tasks.{is_live, live_tasks, has_ended, is_new, has_passed, refusal_of, reply_of, live_child, live_on, parent_of, ancestors, descends}
 use Rattle.task_events.specs.Asks.{is_unanswered, unanswered, node_of_ask, answer_of}
 use Rattle.task_events.specs.Bans.{mark_of, late_ban, banned_nodes, standing_ban, listing_is_open, is_listed, is_acked, is_gone, bans_are_placed, unbans_are_sent}
 use Rattle.task_events.specs.Messages.{Message, in_flight, is_request, is_answer, is_ban, is_ack, is_unban, without, number_in_flight}
@@ -25,7 +26,7 @@ pub record OnePlace (h : List Event) : Type 0 where
   -- so an ended task has no unanswered ask
   pub ended : (p : TaskId) (k : ℕ) → has_ended p h ≡ true → is_unanswered p k h ≡ false
 
--- 1 where all of these hold, else 0
+-- 1 where this holds, else 0
 abbrev pub one_if : Bool → ℕ
 one_if b = cond b 1 0
 
@@ -40,20 +41,22 @@ is_banned n p h = list_any (λ m. n == m) (banned_nodes p h)
 -- not sent; it stands and its unban is in flight; it is gone.
 pub record OneStage (h : List Event) : Type 0 where
   pub stage : (n : ℕ) (p : TaskId) → is_banned n p h ≡ true →
-      number_in_flight (is_ban n p) h
-      + one_if (stands n p h && listing_is_open n p h)
-      + cond (stands n p h) (number_in_flight (is_ack n p) h) 0
-      + one_if (stands n p h && (is_acked n p h && not (unbans_are_sent p h)))
-      + cond (stands n p h) (number_in_flight (is_unban n p) h) 0
-      + one_if (is_gone n p h)
-      ≡ 1
-  -- the unbans are sent exactly where the task has ended and its bans are placed
-  pub sent : (n : ℕ) (p : TaskId) → is_banned n p h ≡ true → number_in_flight (is_unban n p) h + one_if (is_gone n p h) ≡ one_if (unbans_are_sent p h)
-  -- no other ban stands, and each that stands has the number of the task's mark
-  pub no_other : (n : ℕ) (p : TaskId) (c : ℕ) → standing_ban n p h ≡ Some c → (is_banned n p h ≡ true) × (mark_of p h ≡ Some c)
-  -- and nothing of any other ban is on its way
-  pub nothing_else : (n : ℕ) (p : TaskId) → is_banned n p h ≡ false →
-      number_in_flight (is_ban n p) h + one_if (listing_is_open n p h) + number_in_flight (is_ack n p) h + number_in_flight (is_unban n p) h ≡ 0
+    number_in_flight (is_ban n p) h
+    + one_if (stands n p h && listing_is_open n p h)
+    + cond (stands n p h) (number_in_flight (is_ack n p) h) 0
+    + one_if (stands n p h && (is_acked n p h && not (unbans_are_sent p h)))
+    + cond (stands n p h) (number_in_flight (is_unban n p) h) 0
+    + one_if (is_gone n p h)
+    ≡ 1
+  -- on the way there a ban is in flight, or listed, or being acknowledged, or acknowledged
+  pub placing : (n : ℕ) (p : TaskId) → number_in_flight (is_ban n p) h + one_if (listing_is_open n p h) + number_in_flight (is_ack n p) h + one_if (is_acked n p h) ≡ one_if (is_banned n p h)
+  -- it is in flight, or it stands, or it is gone; and no other ban stands
+  pub standing : (n : ℕ) (p : TaskId) → number_in_flight (is_ban n p) h + one_if (stands n p h) + one_if (is_gone n p h) ≡ one_if (is_banned n p h)
+  -- the unbans are sent exactly where the task has ended and its bans are placed, and then come
+  pub going : (n : ℕ) (p : TaskId) → number_in_flight (is_unban n p) h + one_if (is_gone n p h) ≡ one_if (is_banned n p h && unbans_are_sent p h)
+  -- a banned node is one of a marked task, and a ban that stands has the number of the mark
+  pub marked : (n : ℕ) (p : TaskId) → is_banned n p h ≡ true → mark_of p h ≢ None
+  pub number : (n : ℕ) (p : TaskId) (c : ℕ) → standing_ban n p h ≡ Some c → mark_of p h ≡ Some c
 
 -- A child that is put where a ban of its parent has been put before never passes, and ends refused with that ban's
 -- number.
@@ -209,3 +212,8 @@ pub record DeliversAnyMessage (h : List Event) : Type 0 where
   pub ban : (i : ℕ) (p : TaskId) (c n : ℕ) → slice_get (in_flight h) i ≡ Some (Ban p c n) → IsDeliveredAt i (is_ban n p) h
   pub ack : (i : ℕ) (p : TaskId) (n : ℕ) → slice_get (in_flight h) i ≡ Some (Ack p n) → IsDeliveredAt i (is_ack n p) h
   pub unban : (i : ℕ) (p : TaskId) (n : ℕ) → slice_get (in_flight h) i ≡ Some (Unban p n) → IsDeliveredAt i (is_unban n p) h
+
+-- The list of live tasks has each live task once and no other, and as many of a node as are live there.
+pub record ListsLiveTasks (h : List Event) : Type 0 where
+  pub once : (t : TaskId) → count_by (same_task t) (live_tasks h) ≡ one_if (is_live t h)
+  pub on_node : (n : ℕ) → count_by (λ t. n == t.node) (live_tasks h) ≡ live_on n h

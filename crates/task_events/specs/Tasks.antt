@@ -1,6 +1,6 @@
 -- Which tasks are live and which have ended, what their numbers are, and the tree that they form.
 -- A history is the list of its events with the newest first; so each question goes by the newest event.
-use Rattle.std.specs.Prelude.{ℕ, ◌+◌, ◌-◌, Bool, true, false, ◌&&◌, List, [], ◌∷◌, Option, Some, None, option_map, cond, if◌then◌else◌, ◌==◌}
+use Rattle.std.specs.Prelude.{ℕ, ◌+◌, ◌-◌, Bool, true, false, ◌&&◌, List, [], ◌∷◌, Option, Some, None, option_map, filter, not, cond, if◌then◌else◌, ◌==◌}
 use Rattle.std.specs.List.{list_any}
 use Rattle.task_ids.specs.declared.task_id.TaskId.{TaskId}
 use Rattle.task_events.specs.declared.reply.Reply.{Reply}
@@ -24,6 +24,15 @@ has_ended t [] = false
 has_ended t (Refuse u c ∷ h) = if same_task t u then true else has_ended t h
 has_ended t (End u r ∷ h) = if same_task t u then true else has_ended t h
 has_ended t (_ ∷ h) = has_ended t h
+
+-- the live tasks, the youngest first
+abbrev pub live_tasks : List Event → List TaskId
+live_tasks [] = []
+live_tasks (Root c t ∷ h) = t ∷ live_tasks h
+live_tasks (Put t p k ∷ h) = t ∷ live_tasks h
+live_tasks (Refuse t c ∷ h) = filter (λ u. not (same_task t u)) (live_tasks h)
+live_tasks (End t r ∷ h) = filter (λ u. not (same_task t u)) (live_tasks h)
+live_tasks (_ ∷ h) = live_tasks h
 
 -- how many tasks are live on the node
 abbrev pub live_on : ℕ → List Event → ℕ

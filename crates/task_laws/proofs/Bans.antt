@@ -14,7 +14,7 @@ use Rattle.task_events.specs.Messages.{is_ban, is_ack, is_unban, number_in_fligh
 use Rattle.task_events.specs.Allowed.{Allowed}
 use Rattle.task_events.specs.Lawful.{Lawful}
 use Rattle.task_laws.proofs.Same.{same_tests}
-use Rattle.task_laws.proofs.Numbers.{number, passes_of_all}
+use Rattle.task_laws.proofs.Numbers.{number, passes_of_all, both}
 use Rattle.task_laws.proofs.Nodes.{once}
 use Rattle.task_laws.proofs.Counts.{bans, acks, unbans, banned, freed}
 use Rattle.task_laws.proofs.InFlight.{bans_in_flight, acks_in_flight, unbans_in_flight}
@@ -34,11 +34,7 @@ pub record BanFacts (h : List Event) : Type 0 where
 
 -- where the bans are placed, each banned node has acknowledged
 pub placed_acked : (n : ℕ) (p : TaskId) (h : List Event) → bans_are_placed p h ≡ true → 0 < banned n p h → is_acked n p h ≡ true
-placed_acked n p h e i = passes_of_all (λ m. is_acked m p h) n (banned_nodes p h) (second (is_some (mark_of p h)) _ e) i
-  where
-    second : (a b : Bool) → (a && b) ≡ true → b ≡ true
-    second true b e = e
-    second false b e = grind arith
+placed_acked n p h e i = passes_of_all (λ m. is_acked m p h) n (banned_nodes p h) (both (is_some (mark_of p h)) _ e).1 i
 
 -- an unban is in flight only where the ban is acknowledged
 unban_acked : (n : ℕ) (p : TaskId) (h : List Event) → BanFacts h → 0 < unbans n p h → is_acked n p h ≡ true

@@ -18,6 +18,7 @@ use Rattle.task_events.specs.Allowed.{Allowed}
 use Rattle.task_events.specs.Lawful.{Lawful}
 use Rattle.task_events.specs.Laws.{IsTold, is_banned}
 use Rattle.task_laws.proofs.Same.{same_tests}
+use Rattle.task_laws.proofs.Numbers.{both}
 use Rattle.task_laws.proofs.Counts.{requests, answers, is_child_of, is_for}
 use Rattle.task_laws.proofs.InFlight.{requests_in_flight, answers_in_flight}
 use Rattle.task_laws.proofs.Asks.{AskFacts, ask_facts}
@@ -32,9 +33,6 @@ pub record AnswerFacts (h : List Event) : Type 0 where
 all_grow : (f g : ℕ → Bool) → ((n : ℕ) → f n ≡ true → g n ≡ true) → (ns : List ℕ) → list_all f ns ≡ true → list_all g ns ≡ true
 all_grow f g each [] e = refl
 all_grow f g each (n ∷ ns) e = let rest = all_grow f g each ns in grind (arith, each n, rest)
-
-both : (a b : Bool) → (a && b) ≡ true → (a ≡ true) × (b ≡ true)
-both a b e = grind arith
 
 -- what is said of each message stays when one is delivered, and when more are sent
 each_either : (P : Message → Type 0) (b : Bool) (xs ys : List Message) → AllByRecursion P xs → AllByRecursion P ys → AllByRecursion P (cond b xs ys)

@@ -6,6 +6,7 @@ pub mod Examples
 pub mod FirstSteps
 pub mod InFlight
 pub mod Late
+pub mod Living
 pub mod Marks
 pub mod Nodes
 pub mod Numbers

@@ -44,11 +44,11 @@ pub all_pass : (test : ℕ → Bool) (ns : List ℕ) → ((n : ℕ) → 0 < numb
 all_pass test [] each = refl
 all_pass test (m ∷ ns) each = let rest = all_pass test ns (λ n i. each n (omega arith)) in grind (arith, nat_tests, each m)
 
--- an element is in the list where it is counted
-pub any_is : (n : ℕ) (ns : List ℕ) → list_any (λ m. n == m) ns ≡ true → 0 < number (λ m. n == m) ns
-any_is n [] e = absurd (cc)
-any_is n (m ∷ ns) e = let rest = any_is n ns in grind (arith, nat_tests, rest)
+-- an element that is counted at most once is counted as often as it is in the list
+pub in_list : (n : ℕ) (ns : List ℕ) → number (λ m. n == m) ns ≤ 1 → number (λ m. n == m) ns ≡ cond (list_any (λ m. n == m) ns) 1 0
+in_list n [] l = refl
+in_list n (m ∷ ns) l = let rest = in_list n ns (omega arith) in grind (arith, nat_tests, rest)
 
-pub not_any_is : (n : ℕ) (ns : List ℕ) → list_any (λ m. n == m) ns ≡ false → number (λ m. n == m) ns ≡ 0
-not_any_is n [] e = refl
-not_any_is n (m ∷ ns) e = let rest = not_any_is n ns in grind (arith, nat_tests, rest)
+pub both : (a b : Bool) → (a && b) ≡ true → (a ≡ true) × (b ≡ true)
+both true b e = (refl, e)
+both false b e = absurd (cc)

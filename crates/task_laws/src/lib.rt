@@ -5,7 +5,7 @@ ghost use Rattle.std.specs.Prelude.{◌≡◌, ◌≢◌, ◌<◌, ◌≤◌, �
 ghost use Rattle.task_events.specs.declared.event.Event.{Event};
 ghost use Rattle.task_laws.specs.Example.{IsId, example};
 ghost use Rattle.task_events.specs.Lawful.{Lawful};
-ghost use Rattle.task_events.specs.Laws.{AnswersCancelsOnce, CancelsEarlyChildren, CancelsWithCause, DeliversAnyMessage, DrainsAll, EventsHaveCauses, LeavesNoBan, MessagesTellThePast, OnceInFlight, OnePlace, OneStage, ReachesEveryChild, RefusesLateChildren, RestsOnLeaves, StandsInCluster, StepsFirst, WaitsForDescendants};
+ghost use Rattle.task_events.specs.Laws.{AnswersCancelsOnce, CancelsEarlyChildren, CancelsWithCause, DeliversAnyMessage, DrainsAll, EventsHaveCauses, LeavesNoBan, ListsLiveTasks, MessagesTellThePast, OnceInFlight, OnePlace, OneStage, ReachesEveryChild, RefusesLateChildren, RestsOnLeaves, StandsInCluster, StepsFirst, WaitsForDescendants};
 ghost use Rattle.task_events.specs.Tasks.{parent_of, descends};
 ghost use Rattle.task_events.specs.Cancels.{is_answered_done, is_named};
 ghost use Rattle.task_events.specs.Bans.{ban_put, late_ban};
@@ -91,6 +91,12 @@ pub fn at_rest()
 pub fn reached_children()
     ensures reached { (cluster : Cluster) (h : List Event) → Lawful cluster h → ReachesEveryChild h }
     ensures nodes { (cluster : Cluster) (h : List Event) → Lawful cluster h → StandsInCluster cluster h }
+{
+}
+
+/// The list of live tasks has each live task once and no other, and as many of a node as are counted there.
+pub fn live_tasks_listed()
+    ensures { (cluster : Cluster) (h : List Event) → Lawful cluster h → ListsLiveTasks h }
 {
 }
 

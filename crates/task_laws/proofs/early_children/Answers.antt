@@ -7,7 +7,7 @@ use Rattle.task_events.specs.Bans.{mark_of, banned_nodes, bans_are_placed, is_li
 use Rattle.task_events.specs.Cancels.{is_named}
 use Rattle.task_events.specs.Allowed.{HasAllMarked}
 use Rattle.task_events.specs.Laws.{CancelsEarlyChildren, ListsAllChildren, HasListedAll, is_banned}
-use Rattle.task_laws.proofs.Numbers.{any_is}
+use Rattle.task_laws.proofs.Numbers.{in_list}
 use Rattle.task_laws.proofs.Asks.{AskFacts, ask_facts}
 use Rattle.task_laws.proofs.Bans.{BanFacts, ban_facts, placed_acked}
 use Rattle.task_laws.proofs.early_children.Goals as goal
@@ -17,7 +17,8 @@ listed n p h f m t e i l = m t e i (grind (arith, f.put_lives t p e))
 
 all_listed : (c : ℕ) (h : List Event) → BanFacts h → ((t : TaskId) → is_named c t h ≡ true → bans_are_placed t h ≡ true) → HasListedAll c h
 all_listed c h b placed t n i e =
-    let acked = placed_acked n t h (placed t i) (any_is n (banned_nodes t h) e) in
+    let here = rw e at (in_list n (banned_nodes t h) (b.once n t)) in
+    let acked = placed_acked n t h (placed t i) (omega arith) in
     grind (arith, b.listed n t)
 
 pub returns : goal.returns
