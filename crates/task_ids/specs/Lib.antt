@@ -3,6 +3,7 @@ pub mod Cause
 pub mod DataCode
 pub mod Limits
 pub mod Placing
+pub mod Rows
 pub mod Source
 pub mod TaskId
 pub mod TaskIdOrder

@@ -1,0 +1,58 @@
+-- Commands, the tasks that a cancellation names, and its answer.
+use Rattle.std.specs.Prelude.{ℕ, Bool, true, false, ◌&&◌, ◌==◌, ◌≡◌, List, [], ◌∷◌, Option, Some, None, cond, if◌then◌else◌}
+use Rattle.std.specs.List.{list_any}
+use Rattle.task_ids.specs.declared.task_id.TaskId.{TaskId}
+use Rattle.task_events.specs.declared.event.Event.{Event}
+use Rattle.task_events.specs.declared.event.Event.TheVariants.{Begin, Root, RootRejected, Ask, Put, Reject, Pass, Refuse, Cancel, NotFound, Mark, BanPut, Listed, Acked, BanGone, Work, Write, Answered, End, AnswerPlaced, AnswerDone, Tick}
+use Rattle.task_events.specs.Same.{same_pair}
+
+-- the command that began last, 0 before the first
+abbrev pub last_command : List Event → ℕ
+last_command [] = 0
+last_command (Begin k ∷ h) = k
+last_command (_ ∷ h) = last_command h
+
+-- the command of which nothing but its beginning has happened
+abbrev pub beginning : List Event → Option ℕ
+beginning (Begin k ∷ h) = Some k
+beginning _ = None
+
+-- a document may be written only in a turn of work: behind its work event or another document of it
+abbrev pub is_in_turn : List Event → Bool
+is_in_turn (Work t ∷ h) = true
+is_in_turn (Write index shard outcome id ∷ h) = true
+is_in_turn _ = false
+
+-- the cancellation names the task
+abbrev pub is_named : ℕ → TaskId → List Event → Bool
+is_named c t [] = false
+is_named c t (Cancel d u w ∷ h) = if same_pair t c u d then true else is_named c t h
+is_named c t (_ ∷ h) = is_named c t h
+
+-- whether the cancellation waits, as far as it has named a task
+abbrev pub waits : ℕ → List Event → Option Bool
+waits c [] = None
+waits c (Cancel d u w ∷ h) = if c == d then Some w else waits c h
+waits c (_ ∷ h) = waits c h
+
+-- the cancellation found no task
+abbrev pub found_none : ℕ → List Event → Bool
+found_none c [] = false
+found_none c (NotFound d ∷ h) = if c == d then true else found_none c h
+found_none c (_ ∷ h) = found_none c h
+
+-- the cancellation is answered because its bans are placed
+abbrev pub is_answered_placed : ℕ → List Event → Bool
+is_answered_placed c [] = false
+is_answered_placed c (AnswerPlaced d ∷ h) = if c == d then true else is_answered_placed c h
+is_answered_placed c (_ ∷ h) = is_answered_placed c h
+
+-- the cancellation is answered because its tasks have ended too
+abbrev pub is_answered_done : ℕ → List Event → Bool
+is_answered_done c [] = false
+is_answered_done c (AnswerDone d ∷ h) = if c == d then true else is_answered_done c h
+is_answered_done c (_ ∷ h) = is_answered_done c h
+
+-- the cancellation named the task or one of its ancestors
+abbrev pub names_one_of : ℕ → List TaskId → List Event → Bool
+names_one_of c ts h = list_any (λ t. is_named c t h) ts

@@ -1,0 +1,54 @@
+-- How many elements of a list pass a test, counted from the front.
+use Rattle.std.proofs.Common.{◌≡◌, ◌≢◌, ◌+◌, ◌-◌, ◌≤◌, ◌<◌, ℕ, Bool, true, false, cond, ◌&&◌, List, [], ◌∷◌, ◌++◌, map, refl, sym, ap, ◌∙◌, arith}
+use Rattle.std.specs.Prelude.{count_by, ◌==◌}
+use Rattle.std.specs.List.{list_any, list_all}
+use Rattle.std.proofs.lemmas.List.Sums.{sum_by-cons}
+use Rattle.std.proofs.lemmas.Bool.Decides.{nat_tests}
+use Rattle.task_events.specs.Messages.{Message, without}
+
+abbrev pub number : {X : Type 0} → (X → Bool) → List X → ℕ
+number test [] = 0
+number test (x ∷ xs) = cond (test x) 1 0 + number test xs
+
+-- it is what `count_by` says
+pub number_is : {X : Type 0} (test : X → Bool) (xs : List X) → count_by test xs ≡ number test xs
+number_is test [] = refl
+number_is test (x ∷ xs) = sum_by-cons (λ x. cond (test x) 1 0) x xs ∙ ap (λ n. cond (test x) 1 0 + n) (number_is test xs)
+
+pub number-append : {X : Type 0} (test : X → Bool) (xs ys : List X) → number test (xs ++ ys) ≡ number test xs + number test ys
+number-append test [] ys = omega arith
+number-append test (x ∷ xs) ys = let e = number-append test xs ys in omega arith
+
+-- a message of another kind is taken away, or one of this kind
+pub number-without : (test other : Message → Bool) (b : Bool) → ((m : Message) → other m ≡ true → test m ≡ b) → (b ≡ true → (m : Message) → test m ≡ true → other m ≡ true) → (ms : List Message) → number test (without other ms) ≡ number test ms - cond b 1 0
+number-without test other b each all [] = grind arith
+number-without test other true each all (m ∷ ms) = let e = number-without test other true each all ms in grind (arith, each m, all refl m)
+number-without test other false each all (m ∷ ms) = let e = number-without test other false each all ms in grind (arith, each m)
+
+pub number-none : {X : Type 0} (test : X → Bool) (f : ℕ → X) → ((n : ℕ) → test (f n) ≡ false) → (ns : List ℕ) → number test (map f ns) ≡ 0
+number-none test f fails [] = refl
+number-none test f fails (n ∷ ns) = let e = number-none test f fails ns in grind (arith, fails n)
+
+pub number-nodes : {X : Type 0} (test : X → Bool) (f : ℕ → X) (b : Bool) (n : ℕ) → ((m : ℕ) → test (f m) ≡ (b && (n == m))) → (ns : List ℕ) → number test (map f ns) ≡ cond b (number (λ m. n == m) ns) 0
+number-nodes test f true n each [] = refl
+number-nodes test f false n each [] = refl
+number-nodes test f true n each (m ∷ ns) = let e = number-nodes test f true n each ns in grind (arith, each m)
+number-nodes test f false n each (m ∷ ns) = let e = number-nodes test f false n each ns in grind (arith, each m)
+
+-- an element that all pass passes
+pub passes_of_all : (test : ℕ → Bool) (n : ℕ) (ns : List ℕ) → list_all test ns ≡ true → 0 < number (λ m. n == m) ns → test n ≡ true
+passes_of_all test n [] l i = absurd (omega arith)
+passes_of_all test n (m ∷ ns) l i = let rest = passes_of_all test n ns in grind (arith, nat_tests, rest)
+
+pub all_pass : (test : ℕ → Bool) (ns : List ℕ) → ((n : ℕ) → 0 < number (λ m. n == m) ns → test n ≡ true) → list_all test ns ≡ true
+all_pass test [] each = refl
+all_pass test (m ∷ ns) each = let rest = all_pass test ns (λ n i. each n (omega arith)) in grind (arith, nat_tests, each m)
+
+-- an element that is counted at most once is counted as often as it is in the list
+pub in_list : (n : ℕ) (ns : List ℕ) → number (λ m. n == m) ns ≤ 1 → number (λ m. n == m) ns ≡ cond (list_any (λ m. n == m) ns) 1 0
+in_list n [] l = refl
+in_list n (m ∷ ns) l = let rest = in_list n ns (omega arith) in grind (arith, nat_tests, rest)
+
+pub both : (a b : Bool) → (a && b) ≡ true → (a ≡ true) × (b ≡ true)
+both true b e = (refl, e)
+both false b e = absurd (cc)

@@ -1,0 +1,143 @@
+//! The laws of cancellation, over every lawful history.
+#![tactic(auto)]
+
+ghost use Rattle.std.specs.Prelude.{◌≡◌, ◌≢◌, ◌<◌, ◌≤◌, ◌∷◌, ◌++◌, ◌⊎◌, List, Option, Some, None, Bool, true, false, ℕ};
+ghost use Rattle.task_events.specs.declared.event.Event.{Event};
+ghost use Rattle.task_laws.specs.Example.{IsId, example};
+ghost use Rattle.task_events.specs.Lawful.{Lawful};
+ghost use Rattle.task_events.specs.Laws.{AnswersCancelsOnce, CancelsEarlyChildren, CancelsWithCause, DeliversAnyMessage, DrainsAll, EventsHaveCauses, LeavesNoBan, ListsLiveTasks, MessagesTellThePast, OnceInFlight, OnePlace, OneStage, ReachesEveryChild, RefusesLateChildren, RestsOnLeaves, StandsInCluster, StepsFirst, WaitsForDescendants};
+ghost use Rattle.task_events.specs.Tasks.{parent_of, descends};
+ghost use Rattle.task_events.specs.Cancels.{is_answered_done, is_named};
+ghost use Rattle.task_events.specs.Bans.{ban_put, late_ban};
+
+use task_ids::{Cluster, TaskId};
+
+/// What a lawful history was at each earlier moment is lawful; so each law below holds at every moment.
+pub fn earlier_is_lawful()
+    ensures { (cluster : Cluster) (later h : List Event) → Lawful cluster (later ++ h) → Lawful cluster h }
+{
+}
+
+/// At each moment of a lawful history each unanswered ask has a live asker and is in exactly one of three
+/// places: its request is in flight, its child is live, or its answer is in flight. An ended task has no
+/// unanswered ask.
+pub fn one_place()
+    ensures { (cluster : Cluster) (h : List Event) → Lawful cluster h → OnePlace h }
+{}
+
+/// At each moment of a lawful history the ban of each marked task on each of its banned nodes is in exactly
+/// one of six stages, and no other ban stands.
+pub fn one_stage()
+    ensures { (cluster : Cluster) (h : List Event) → Lawful cluster h → OneStage h }
+{}
+
+/// A child that is put where a ban of its parent has been put before never passes, and ends refused with that
+/// ban's number. So no pass of a child comes after the ban of its parent on its node.
+pub fn late_children()
+    ensures refused { (cluster : Cluster) (h : List Event) → Lawful cluster h → RefusesLateChildren h }
+    ensures no_pass { (cluster : Cluster) (h : List Event) (t p : TaskId) → Lawful cluster (Event.Pass t ∷ h)
+        → parent_of t h ≡ Some p → ban_put t.node p h ≡ None }
+{}
+
+/// Once its messages are handled, an ended task has no ban. So where nothing is live, in flight or listed, no ban
+/// stands, and the bans of each marked task are placed.
+pub fn drained_bans()
+    ensures ended { (cluster : Cluster) (h : List Event) → Lawful cluster h → LeavesNoBan h }
+    ensures all { (cluster : Cluster) (h : List Event) → Lawful cluster h → DrainsAll h }
+{}
+
+/// A running earlier child is cancelled: a listing ends, and its acknowledgement is sent, only when every child
+/// of the banned task on the node is ended or marked, and a cancellation is answered only after that.
+pub fn early_children()
+    ensures { (cluster : Cluster) → CancelsEarlyChildren cluster }
+{}
+
+/// A cancellation that waits is answered only when none of its tasks and none of their descendants is live, and
+/// no descendant is put later.
+pub fn waiting()
+    ensures ended { (cluster : Cluster) (h : List Event) → Lawful cluster h → WaitsForDescendants h }
+    ensures no_put { (cluster : Cluster) (h : List Event) (c k : ℕ) (a t p : TaskId) → Lawful cluster (Event.Put t p k ∷ h)
+        → is_answered_done c h ≡ true → is_named c a h ≡ true → descends a t (Event.Put t p k ∷ h) ≡ false }
+{}
+
+/// A task is cancelled, and a reply says so, only where the task or an ancestor was named; and a task is rejected
+/// exactly where its node is full.
+pub fn causes()
+    ensures named { (cluster : Cluster) (h : List Event) → Lawful cluster h → CancelsWithCause h }
+    ensures events { (cluster : Cluster) → EventsHaveCauses cluster }
+{}
+
+/// Each message is in flight at most once. So whichever is delivered next, it is taken from its own place, and the
+/// order of the others stays.
+pub fn once_in_flight()
+    ensures once { (cluster : Cluster) (h : List Event) → Lawful cluster h → OnceInFlight h }
+    ensures delivered { (cluster : Cluster) (h : List Event) → Lawful cluster h → DeliversAnyMessage h }
+{}
+
+/// What a message in flight says is determined by what has happened: a request's node by its ask, an answer's
+/// reply by the ask's child or its rejection, a ban's number by its task's mark.
+pub fn message_contents()
+    ensures { (cluster : Cluster) (h : List Event) → Lawful cluster h → MessagesTellThePast h }
+{}
+
+/// Where nothing is in flight, no listing is open, and no live task has to pass, to be refused or to end as
+/// cancelled, nothing is live but tasks that wait for a due moment and their ancestors.
+pub fn at_rest()
+    ensures { (cluster : Cluster) (h : List Event) → Lawful cluster h → RestsOnLeaves h }
+{}
+
+/// The bans of a marked task go to every node on which it has a live child, or may get one; and every task stands
+/// on a node of the cluster.
+pub fn reached_children()
+    ensures reached { (cluster : Cluster) (h : List Event) → Lawful cluster h → ReachesEveryChild h }
+    ensures nodes { (cluster : Cluster) (h : List Event) → Lawful cluster h → StandsInCluster cluster h }
+{
+}
+
+/// The list of live tasks has each live task once and no other, and as many of a node as are counted there.
+pub fn live_tasks_listed()
+    ensures { (cluster : Cluster) (h : List Event) → Lawful cluster h → ListsLiveTasks h }
+{
+}
+
+/// A child passes or is refused as its first step, and a root needs neither.
+pub fn first_steps()
+    ensures { (cluster : Cluster) (h : List Event) → Lawful cluster h → StepsFirst h }
+{
+}
+
+/// A cancellation is answered once, in the way that its command asks for, and names live tasks before that.
+pub fn cancels_answered()
+    ensures { (cluster : Cluster) → AnswersCancelsOnce cluster }
+{
+}
+
+/// The laws are not empty: a history with a waiting cancellation, an early child, a late child and a rejected
+/// request is lawful.
+pub fn example_is_lawful(cluster: Cluster, root: TaskId, early: TaskId, late: TaskId)
+    requires nodes { cluster.nodes ≡ 2 }
+    requires slots { cluster.slots ≡ 2 }
+    requires root { IsId root 1 1 }
+    requires early { IsId early 2 1 }
+    requires late { IsId late 2 2 }
+    ensures lawful { Lawful cluster (example root early late) }
+    ensures late { late_ban late (example root early late) ≡ Some 2 }
+{}
+
+#[cfg(test)]
+mod tests {
+    use super::*;
+
+    #[test]
+    fn the_example_has_ids() {
+        let cluster = Cluster {
+            nodes: 2,
+            shards: 1,
+            slots: 2,
+        };
+        let root = TaskId { node: 1, number: 1 };
+        let early = TaskId { node: 2, number: 1 };
+        let late = TaskId { node: 2, number: 2 };
+        example_is_lawful(cluster, root, early, late);
+    }
+}
