@@ -1,6 +1,7 @@
 pub mod AnswerLemmas
 pub mod CorpusLemmas
 pub mod DistinctLemmas
+pub mod LawfulRun
 pub mod LineLemmas
 pub mod LinesLemmas
 pub mod PrintLemmas

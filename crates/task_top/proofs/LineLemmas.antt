@@ -7,10 +7,12 @@ use Rattle.task_events.specs.declared.reply.SearchAsk.{SearchAsk}
 use Rattle.task_events.specs.declared.reply.SearchReply.{SearchReply}
 use Rattle.task_events.specs.Printed.{printed, reply_line, search_json}
 use Rattle.task_events.specs.Run.{run_of}
+use Rattle.task_events.specs.Same.{same_task}
 use Rattle.task_top.specs.Kept.{newest_answer}
 
 one_line : (shards : ℕ) (corpus : Corpus) (search : Option SearchAsk) (reply : SearchReply) → Some reply ≡ newest_answer (run_of corpus search)
     → printed shards search (run_of corpus search) ≡ reply_line 1 (search_json shards reply)
+unfolding same_task
 one_line shards corpus None reply e = cc
 one_line shards corpus (Some ask) reply e = ap (λ r. printed_reply r) (sym e)
   where
@@ -22,6 +24,9 @@ module _ (shards : ℕ) (corpus : Corpus) (search : Option SearchAsk) (history :
   -- the newest answer is the one that is printed
   pub printed_line : printed shards search history ≡ reply_line 1 (search_json shards reply)
   printed_line = ap (printed shards search) ran ∙ one_line shards corpus search reply (newest ∙ ap newest_answer ran)
+
+  pub printed_whole : (line : List ℕ) (old new : Option (List ℕ)) → line ≡ reply_line 1 (search_json shards reply) → Appends old new line → Appends old new (printed shards search history)
+  printed_whole line old new e all = let same : line ≡ printed shards search history = e ∙ sym printed_line in rw same at all
 
   -- a first part of that line is a first part of what is printed
   pub printed_part : (line : List ℕ) (n : ℕ) (old new : Option (List ℕ)) → line ≡ reply_line 1 (search_json shards reply) → n < length line → Appends old new (take n line)

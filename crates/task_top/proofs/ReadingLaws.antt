@@ -22,20 +22,26 @@ pub never_both : (input : List ℕ) → IsRead input → IsRefused input → ⊥
 never_both input read refused = let clash : ◌≡◌ {A = Outcome} (Ok (read.0, read.1)) (Err (refused.0, refused.1)) = sym read.2 ∙ refused.2 in cc
 
 pub one_corpus_and_script : (input : List ℕ) (c d : Corpus) (s t : Script) → Reads input c s → Reads input d t → (c ≡ d) × (s ≡ t)
-one_corpus_and_script input c d s t r q = let same : ◌≡◌ {A = Outcome} (Ok (c, s)) (Ok (d, t)) = sym r ∙ q in (cc, cc)
+one_corpus_and_script input c d s t r q =
+    let same : ◌≡◌ {A = Outcome} (Ok (c, s)) (Ok (d, t)) = sym r ∙ q in
+    let pair : ◌≡◌ {A = Corpus × Script} (c, s) (d, t) = cc in
+    (ap (λ p. p.0) pair, ap (λ p. p.1) pair)
+
+same_refusal : (l m : ℕ) (c d : Cause) → ◌≡◌ {A = Outcome} (Err (l, c)) (Err (m, d)) → (l ≡ m) × (c ≡ d)
+same_refusal l m c d same = let pair : ◌≡◌ {A = ℕ × Cause} (l, c) (m, d) = cc in (ap (λ p. p.0) pair, ap (λ p. p.1) pair)
 
 pub one_line_and_cause : (input : List ℕ) (l m : ℕ) (c d : Cause) → Refuses input l c → Refuses input m d → (l ≡ m) × (c ≡ d)
-one_line_and_cause input l m c d r q = let same : ◌≡◌ {A = Outcome} (Err (l, c)) (Err (m, d)) = sym r ∙ q in (cc, cc)
+one_line_and_cause input l m c d r q = same_refusal l m c d (sym r ∙ q)
 
 form_refused : (found : Option (Corpus × Script)) (line : ℕ) (cause : Cause) → form_or_refusal found ≡ Err (line, cause) → (found ≡ None) × (line ≡ 0) × (cause ≡ NotBuilt)
-form_refused None line cause e = (refl, cc, cc)
+form_refused None line cause e = let same = same_refusal line 0 cause NotBuilt (sym e) in (refl, same.0, same.1)
 form_refused (Some x) line cause e = cc
 
 -- what a refusal says of the input
 refused_for : (input : List ℕ) (line : ℕ) (cause : Cause) → Refuses input line cause
     → ((max_input < length input) × (line ≡ 0) × (cause ≡ TooLong)) ⊎ ((length input ≤ max_input) × (first_form input ≡ None) × (line ≡ 0) × (cause ≡ NotBuilt))
 refused_for input line cause e = ⊎_elim
-    (λ longer. let same : ◌≡◌ {A = Outcome} (Err (0, TooLong)) (Err (line, cause)) = sym (by_length input longer) ∙ e in inl (longer, cc, cc))
+    (λ longer. let same = same_refusal line 0 cause TooLong (sym e ∙ by_length input longer) in inl (longer, same.0, same.1))
     (λ fits. let f = form_refused (first_form input) line cause (sym (by_form input fits) ∙ e) in inr (fits, f.0, f.1, f.2))
     (cases_lt max_input (length input))
 

@@ -1,5 +1,6 @@
 ghost use Rattle.std.specs.Prelude.{◌≡◌, Some, true, IfSome, option_map};
 ghost use Rattle.es_io.specs.Count.{Rose};
+ghost use Rattle.task_events.specs.Lawful.{Lawful};
 ghost use Rattle.task_events.specs.Run.{run_of};
 ghost use Rattle.task_top.specs.FirstForm.{are_distinct, search_in};
 ghost use Rattle.task_top.specs.Kept.{AnswersInput, RanAsRead, WritesLines, HasCause, IsAfterReading, newest_answer};
@@ -36,6 +37,8 @@ pub fn sim_top<S: Source, K: Sink>(
     ensures input { IfSome (S.left input.old) (λ bytes. AnswersInput bytes result.0 result.1) }
     // What happened is the run of what was read.
     ensures run { RanAsRead result.0 result.1 }
+    // Each event of it was allowed when it came, so the laws of cancellation hold of it at every moment.
+    ensures lawful { Lawful cluster.now result.1.history }
     // Where the sink tells its bytes: they grew by the printed lines of the run.
     ensures output { WritesLines cluster.now.shards (K.written out.old) (K.written out.new) result.0 result.1 }
     // A fault has its cause.
