@@ -1,5 +1,5 @@
 -- When each kind of event may come next.
-use Rattle.std.specs.Prelude.{ℕ, ◌+◌, ◌<◌, ◌≤◌, ◌≡◌, ◌≢◌, Bool, true, false, ◌||◌, ◌==◌, List, [], ◌∷◌, Option, Some, None, option_map, IsTrue, ⊤}
+use Rattle.std.specs.Prelude.{ℕ, ◌+◌, ◌<◌, ◌≤◌, ◌≡◌, ◌≢◌, Bool, true, false, ◌||◌, ◌==◌, List, [], Option, Some, None, option_map, ⊤}
 use Rattle.task_ids.specs.declared.task_id.TaskId.{TaskId}
 use Rattle.task_ids.specs.declared.cluster.Cluster.{Cluster}
 use Rattle.task_events.specs.declared.reply.Reply.{Reply}
@@ -91,12 +91,11 @@ pub record RefuseAllowed (t : TaskId) (c : ℕ) (h : List Event) : Type 0 where
   pub first : is_new t h ≡ true
   pub ban : ban_over t h ≡ Some c
 
--- The current command names a live task, once, after the tasks that it named before are marked.
+-- The current command names a live task, once.
 pub record CancelAllowed (c : ℕ) (t : TaskId) (wait : Bool) (h : List Event) : Type 0 where
   pub current : last_command h ≡ c
   pub live : is_live t h ≡ true
   pub once : is_named c t h ≡ false
-  pub marked : (u : TaskId) → is_named c u h ≡ true → mark_of u h ≢ None
   pub one_kind : (other : Bool) → waits c h ≡ Some other → wait ≡ other
   pub not_placed : is_answered_placed c h ≡ false
   pub not_done : is_answered_done c h ≡ false

@@ -1,9 +1,9 @@
 -- Commands, the tasks that a cancellation names, and its answer.
-use Rattle.std.specs.Prelude.{ℕ, Bool, true, false, ◌&&◌, ◌==◌, ◌≡◌, List, [], ◌∷◌, Option, Some, None, cond, if◌then◌else◌}
+use Rattle.std.specs.Prelude.{ℕ, Bool, true, false, ◌==◌, List, [], ◌∷◌, Option, Some, None, if◌then◌else◌}
 use Rattle.std.specs.List.{list_any}
 use Rattle.task_ids.specs.declared.task_id.TaskId.{TaskId}
 use Rattle.task_events.specs.declared.event.Event.{Event}
-use Rattle.task_events.specs.declared.event.Event.TheVariants.{Begin, Root, RootRejected, Ask, Put, Reject, Pass, Refuse, Cancel, NotFound, Mark, BanPut, Listed, Acked, BanGone, Work, Write, Answered, End, AnswerPlaced, AnswerDone, Tick}
+use Rattle.task_events.specs.declared.event.Event.TheVariants.{Begin, Cancel, NotFound, Work, Write, AnswerPlaced, AnswerDone}
 use Rattle.task_events.specs.Same.{same_pair}
 
 -- the command that began last, 0 before the first

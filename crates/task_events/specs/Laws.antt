@@ -1,5 +1,5 @@
 -- The laws of cancellation.
-use Rattle.std.specs.Prelude.{ℕ, ◌+◌, ◌<◌, ◌≤◌, ◌≡◌, ◌≢◌, ◌⊎◌, Bool, true, false, ◌&&◌, not, is_some, ◌==◌, List, [], ◌∷◌, Option, Some, None, option_map, cond, All, remove, slice_get, count_by}
+use Rattle.std.specs.Prelude.{ℕ, ◌+◌, ◌<◌, ◌≤◌, ◌≡◌, ◌≢◌, ◌⊎◌, Bool, true, false, ◌&&◌, not, is_some, ◌==◌, List, [], ◌∷◌, Some, None, option_map, cond, All, remove, slice_get, count_by}
 use Rattle.std.specs.List.{list_any}
 use Rattle.task_ids.specs.declared.task_id.TaskId.{TaskId}
 use Rattle.task_ids.specs.declared.cluster.Cluster.{Cluster}
@@ -15,7 +15,7 @@ use Rattle.task_events.specs.Messages.{Message, in_flight, is_request, is_answer
 use Rattle.task_events.specs.Messages.Message.{Request, Answer, Ban, Ack, Unban}
 use Rattle.task_events.specs.Cancels.{is_named, waits, is_answered_placed, is_answered_done, names_one_of}
 use Rattle.task_events.specs.Allowed.{cancellation_in}
-use Rattle.task_events.specs.Lawful.{Lawful}
+use Rattle.task_events.specs.Lawful.{AwaitsNoMark, Lawful}
 
 -- An ask is in one place: its request is in flight, or its child is live, or its answer is in flight; but in
 -- none once it is answered.
@@ -41,13 +41,13 @@ is_banned n p h = list_any (λ m. n == m) (banned_nodes p h)
 -- not sent; it stands and its unban is in flight; it is gone.
 pub record OneStage (h : List Event) : Type 0 where
   pub stage : (n : ℕ) (p : TaskId) → is_banned n p h ≡ true →
-    number_in_flight (is_ban n p) h
-    + one_if (stands n p h && listing_is_open n p h)
-    + cond (stands n p h) (number_in_flight (is_ack n p) h) 0
-    + one_if (stands n p h && (is_acked n p h && not (unbans_are_sent p h)))
-    + cond (stands n p h) (number_in_flight (is_unban n p) h) 0
-    + one_if (is_gone n p h)
-    ≡ 1
+      number_in_flight (is_ban n p) h
+      + one_if (stands n p h && listing_is_open n p h)
+      + cond (stands n p h) (number_in_flight (is_ack n p) h) 0
+      + one_if (stands n p h && (is_acked n p h && not (unbans_are_sent p h)))
+      + cond (stands n p h) (number_in_flight (is_unban n p) h) 0
+      + one_if (is_gone n p h)
+      ≡ 1
   -- on the way there a ban is in flight, or listed, or being acknowledged, or acknowledged
   pub placing : (n : ℕ) (p : TaskId) → number_in_flight (is_ban n p) h + one_if (listing_is_open n p h) + number_in_flight (is_ack n p) h + one_if (is_acked n p h) ≡ one_if (is_banned n p h)
   -- it is in flight, or it stands, or it is gone; and no other ban stands
@@ -105,6 +105,10 @@ pub record CancelsWithCause (h : List Event) : Type 0 where
   -- a task that was not refused has a cancelled reply exactly where it is marked, with the mark's number
   pub ended_reply : (t : TaskId) (reply : Reply) → reply_of t h ≡ Some reply → refusal_of t h ≡ None → cancellation_in reply ≡ option_map (λ c. (t, c)) (mark_of t h)
   pub reply : (t u : TaskId) (c : ℕ) (reply : Reply) → reply_of t h ≡ Some reply → cancellation_in reply ≡ Some (u, c) → (u ≡ t) × (names_one_of c (t ∷ ancestors t h) h ≡ true)
+
+-- Each task that a cancellation named is marked, but for one that the newest event names.
+abbrev pub MarksNamedTasks : List Event → Type 0
+MarksNamedTasks h = AwaitsNoMark h → (c : ℕ) (t : TaskId) → is_named c t h ≡ true → mark_of t h ≢ None
 
 -- a ban of the task's parent with this number stands on the task's node
 abbrev pub IsUnderBan : TaskId → ℕ → List Event → Type 0

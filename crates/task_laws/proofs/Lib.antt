@@ -8,6 +8,7 @@ pub mod InFlight
 pub mod Late
 pub mod Living
 pub mod Marks
+pub mod Named
 pub mod Nodes
 pub mod Numbers
 pub mod Once
