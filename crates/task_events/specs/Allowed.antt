@@ -10,7 +10,7 @@ use Rattle.task_events.specs.Tasks.{is_live, has_ended, live_on, last_number, is
 use Rattle.task_events.specs.Asks.{last_ask, node_of_ask, unanswered}
 use Rattle.task_events.specs.Bans.{mark_of, listing_is_open, bans_are_placed, ban_over, open_ban_over}
 use Rattle.task_events.specs.Messages.{is_request, is_answer, is_ban, is_ack, is_unban, number_in_flight}
-use Rattle.task_events.specs.Cancels.{last_command, beginning, is_in_turn, is_named, waits, found_none, is_answered_placed, is_answered_done}
+use Rattle.task_events.specs.Cancels.{last_command, beginning, turn_of, is_named, waits, found_none, is_answered_placed, is_answered_done}
 
 -- the task and the number of the cancellation in a cancelled reply
 abbrev pub cancellation_in : Reply → Option (TaskId × ℕ)
@@ -159,7 +159,7 @@ Allowed cluster (Listed n p) h = ListedAllowed n p h
 Allowed cluster (Acked p n) h = 0 < number_in_flight (is_ack n p) h
 Allowed cluster (BanGone n p) h = 0 < number_in_flight (is_unban n p) h
 Allowed cluster (Work t) h = WorkAllowed t h
-Allowed cluster (Write index shard outcome id) h = is_in_turn h ≡ true
+Allowed cluster (Write index shard outcome id) h = turn_of h ≢ None
 Allowed cluster (Answered p k) h = 0 < number_in_flight (is_answer p k) h
 Allowed cluster (End t reply) h = EndAllowed t reply h
 Allowed cluster (AnswerPlaced c) h = AnswerPlacedAllowed c h

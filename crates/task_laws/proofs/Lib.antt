@@ -1,5 +1,6 @@
 pub mod Asks
 pub mod Bans
+pub mod Commands
 pub mod Content
 pub mod Counts
 pub mod Examples

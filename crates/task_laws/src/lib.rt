@@ -5,7 +5,7 @@ ghost use Rattle.std.specs.Prelude.{◌≡◌, ◌≢◌, ◌<◌, ◌≤◌, �
 ghost use Rattle.task_events.specs.declared.event.Event.{Event};
 ghost use Rattle.task_laws.specs.Example.{IsId, example};
 ghost use Rattle.task_events.specs.Lawful.{Lawful};
-ghost use Rattle.task_events.specs.Laws.{AnswersCancelsOnce, CancelsEarlyChildren, CancelsWithCause, DeliversAnyMessage, DrainsAll, EventsHaveCauses, LeavesNoBan, ListsLiveTasks, MarksNamedTasks, MessagesTellThePast, OnceInFlight, OnePlace, OneStage, ReachesEveryChild, RefusesLateChildren, RestsOnLeaves, StandsInCluster, StepsFirst, WaitsForDescendants};
+ghost use Rattle.task_events.specs.Laws.{AnswersCancelsOnce, CancelsEarlyChildren, CancelsWithCause, CommandsActInOrder, DeliversAnyMessage, DrainsAll, EventsHaveCauses, LeavesNoBan, ListsLiveTasks, MarksNamedTasks, MessagesTellThePast, OnceInFlight, OnePlace, OneStage, ReachesEveryChild, RefusesLateChildren, RestsOnLeaves, StandsInCluster, StepsFirst, WaitsForDescendants, WritesInTurns};
 ghost use Rattle.task_events.specs.Tasks.{parent_of, descends};
 ghost use Rattle.task_events.specs.Cancels.{is_answered_done, is_named};
 ghost use Rattle.task_events.specs.Bans.{ban_put, late_ban};
@@ -103,7 +103,15 @@ pub fn first_steps()
     ensures { (cluster : Cluster) (h : List Event) → Lawful cluster h → StepsFirst h }
 {}
 
-/// A cancellation is answered once, in the way that its command asks for, and names live tasks before that.
+/// Commands are numbered in order, and what a command begins with is the first that it does; documents are
+/// written only in a turn of work of a live task without a mark.
+pub fn commands_in_order()
+    ensures commands { (cluster : Cluster) → CommandsActInOrder cluster }
+    ensures writes { (cluster : Cluster) → WritesInTurns cluster }
+{}
+
+/// A cancellation is answered once, in the way that its command asks for; before that it names live tasks, each
+/// once.
 pub fn cancels_answered()
     ensures { (cluster : Cluster) → AnswersCancelsOnce cluster }
 {}

@@ -65,7 +65,7 @@ returns-clause-events c = λ cluster. record {
   no_ask = λ p k n h l. l.0.unmarked;
   no_work = λ t h l. l.0.unmarked;
   rejected = λ n p k h l. (full cluster.slots n h (cause_facts cluster h l.1) l.0.full, l.0.node);
-  root_rejected = λ k n h l. full cluster.slots n h (cause_facts cluster h l.1) l.0.full;
+  root_rejected = λ k n h l. (full cluster.slots n h (cause_facts cluster h l.1) l.0.full, l.0.low, l.0.high);
   put = λ t p k h l. (l.0.takes.free, l.0.node);
   root = λ k t h l. l.0.takes.free;
 }
