@@ -1,5 +1,5 @@
 -- When each kind of event may come next.
-use Rattle.std.specs.Prelude.{ℕ, ◌+◌, ◌<◌, ◌≤◌, ◌≡◌, ◌≢◌, Bool, true, false, ◌||◌, ◌==◌, List, [], ◌∷◌, Option, Some, None, option_map, IsTrue, ⊤}
+use Rattle.std.specs.Prelude.{ℕ, ◌+◌, ◌<◌, ◌≤◌, ◌≡◌, ◌≢◌, Bool, true, false, ◌||◌, ◌==◌, List, [], Option, Some, None, option_map, ⊤}
 use Rattle.task_ids.specs.declared.task_id.TaskId.{TaskId}
 use Rattle.task_ids.specs.declared.cluster.Cluster.{Cluster}
 use Rattle.task_events.specs.declared.reply.Reply.{Reply}
@@ -10,7 +10,7 @@ use Rattle.task_events.specs.Tasks.{is_live, has_ended, live_on, last_number, is
 use Rattle.task_events.specs.Asks.{last_ask, node_of_ask, unanswered}
 use Rattle.task_events.specs.Bans.{mark_of, listing_is_open, bans_are_placed, ban_over, open_ban_over}
 use Rattle.task_events.specs.Messages.{is_request, is_answer, is_ban, is_ack, is_unban, number_in_flight}
-use Rattle.task_events.specs.Cancels.{last_command, beginning, is_in_turn, is_named, waits, found_none, is_answered_placed, is_answered_done}
+use Rattle.task_events.specs.Cancels.{last_command, beginning, turn_of, is_named, waits, found_none, is_answered_placed, is_answered_done}
 
 -- the task and the number of the cancellation in a cancelled reply
 abbrev pub cancellation_in : Reply → Option (TaskId × ℕ)
@@ -91,12 +91,11 @@ pub record RefuseAllowed (t : TaskId) (c : ℕ) (h : List Event) : Type 0 where
   pub first : is_new t h ≡ true
   pub ban : ban_over t h ≡ Some c
 
--- The current command names a live task, once, after the tasks that it named before are marked.
+-- The current command names a live task, once.
 pub record CancelAllowed (c : ℕ) (t : TaskId) (wait : Bool) (h : List Event) : Type 0 where
   pub current : last_command h ≡ c
   pub live : is_live t h ≡ true
   pub once : is_named c t h ≡ false
-  pub marked : (u : TaskId) → is_named c u h ≡ true → mark_of u h ≢ None
   pub one_kind : (other : Bool) → waits c h ≡ Some other → wait ≡ other
   pub not_placed : is_answered_placed c h ≡ false
   pub not_done : is_answered_done c h ≡ false
@@ -160,7 +159,7 @@ Allowed cluster (Listed n p) h = ListedAllowed n p h
 Allowed cluster (Acked p n) h = 0 < number_in_flight (is_ack n p) h
 Allowed cluster (BanGone n p) h = 0 < number_in_flight (is_unban n p) h
 Allowed cluster (Work t) h = WorkAllowed t h
-Allowed cluster (Write index shard outcome id) h = is_in_turn h ≡ true
+Allowed cluster (Write index shard outcome id) h = turn_of h ≢ None
 Allowed cluster (Answered p k) h = 0 < number_in_flight (is_answer p k) h
 Allowed cluster (End t reply) h = EndAllowed t reply h
 Allowed cluster (AnswerPlaced c) h = AnswerPlacedAllowed c h

@@ -1,9 +1,9 @@
 -- Marks, the nodes that a mark bans, and how far the bans have come.
-use Rattle.std.specs.Prelude.{ℕ, Bool, true, false, ◌&&◌, List, [], ◌∷◌, Option, Some, None, is_some, option_and_then, cond, if◌then◌else◌}
+use Rattle.std.specs.Prelude.{ℕ, Bool, true, false, ◌&&◌, List, [], ◌∷◌, Option, Some, None, is_some, option_and_then, if◌then◌else◌}
 use Rattle.std.specs.List.{list_all}
 use Rattle.task_ids.specs.declared.task_id.TaskId.{TaskId}
 use Rattle.task_events.specs.declared.event.Event.{Event}
-use Rattle.task_events.specs.declared.event.Event.TheVariants.{Begin, Root, RootRejected, Ask, Put, Reject, Pass, Refuse, Cancel, NotFound, Mark, BanPut, Listed, Acked, BanGone, Work, Write, Answered, End, AnswerPlaced, AnswerDone, Tick}
+use Rattle.task_events.specs.declared.event.Event.TheVariants.{Put, Mark, BanPut, Listed, Acked, BanGone}
 use Rattle.task_events.specs.Same.{same_task, same_pair}
 use Rattle.task_events.specs.Tasks.{parent_of, has_ended}
 use Rattle.task_events.specs.Asks.{unanswered_nodes}

@@ -1,9 +1,9 @@
 -- Commands, the tasks that a cancellation names, and its answer.
-use Rattle.std.specs.Prelude.{ℕ, Bool, true, false, ◌&&◌, ◌==◌, ◌≡◌, List, [], ◌∷◌, Option, Some, None, cond, if◌then◌else◌}
+use Rattle.std.specs.Prelude.{ℕ, Bool, true, false, ◌==◌, List, [], ◌∷◌, Option, Some, None, if◌then◌else◌}
 use Rattle.std.specs.List.{list_any}
 use Rattle.task_ids.specs.declared.task_id.TaskId.{TaskId}
 use Rattle.task_events.specs.declared.event.Event.{Event}
-use Rattle.task_events.specs.declared.event.Event.TheVariants.{Begin, Root, RootRejected, Ask, Put, Reject, Pass, Refuse, Cancel, NotFound, Mark, BanPut, Listed, Acked, BanGone, Work, Write, Answered, End, AnswerPlaced, AnswerDone, Tick}
+use Rattle.task_events.specs.declared.event.Event.TheVariants.{Begin, Root, RootRejected, Cancel, NotFound, Work, Write, AnswerPlaced, AnswerDone}
 use Rattle.task_events.specs.Same.{same_pair}
 
 -- the command that began last, 0 before the first
@@ -17,11 +17,22 @@ abbrev pub beginning : List Event → Option ℕ
 beginning (Begin k ∷ h) = Some k
 beginning _ = None
 
--- a document may be written only in a turn of work: behind its work event or another document of it
-abbrev pub is_in_turn : List Event → Bool
-is_in_turn (Work t ∷ h) = true
-is_in_turn (Write index shard outcome id ∷ h) = true
-is_in_turn _ = false
+-- the task whose turn of work is going on: only documents of that turn have been written since
+abbrev pub turn_of : List Event → Option TaskId
+turn_of (Work t ∷ h) = Some t
+turn_of (Write index shard outcome id ∷ h) = turn_of h
+turn_of _ = None
+
+-- the command has done something: started a task or found no slot, named a task or found none, or been answered
+abbrev pub has_acted : ℕ → List Event → Bool
+has_acted k [] = false
+has_acted k (Root c t ∷ h) = if k == c then true else has_acted k h
+has_acted k (RootRejected c n ∷ h) = if k == c then true else has_acted k h
+has_acted k (NotFound c ∷ h) = if k == c then true else has_acted k h
+has_acted k (Cancel c t wait ∷ h) = if k == c then true else has_acted k h
+has_acted k (AnswerPlaced c ∷ h) = if k == c then true else has_acted k h
+has_acted k (AnswerDone c ∷ h) = if k == c then true else has_acted k h
+has_acted k (_ ∷ h) = has_acted k h
 
 -- the cancellation names the task
 abbrev pub is_named : ℕ → TaskId → List Event → Bool

@@ -1,21 +1,23 @@
 -- The laws of cancellation.
-use Rattle.std.specs.Prelude.{ℕ, ◌+◌, ◌<◌, ◌≤◌, ◌≡◌, ◌≢◌, ◌⊎◌, Bool, true, false, ◌&&◌, not, is_some, ◌==◌, List, [], ◌∷◌, Option, Some, None, option_map, cond, All, remove, slice_get, count_by}
+use Rattle.std.specs.Prelude.{ℕ, ◌+◌, ◌<◌, ◌≤◌, ◌≡◌, ◌≢◌, ◌⊎◌, Bool, true, false, ◌&&◌, not, is_some, ◌==◌, List, [], ◌∷◌, Some, None, option_map, cond, All, remove, slice_get, count_by}
 use Rattle.std.specs.List.{list_any}
 use Rattle.task_ids.specs.declared.task_id.TaskId.{TaskId}
 use Rattle.task_ids.specs.declared.cluster.Cluster.{Cluster}
 use Rattle.task_events.specs.declared.reply.Reply.{Reply}
 use Rattle.task_events.specs.declared.reply.Reply.TheVariants.{Cancelled}
+use Rattle.task_ids.specs.declared.text.Text.{Text}
+use Rattle.task_events.specs.declared.event.Outcome.{Outcome}
 use Rattle.task_events.specs.declared.event.Event.{Event}
-use Rattle.task_events.specs.declared.event.Event.TheVariants.{Root, RootRejected, Ask, Put, Reject, Refuse, Cancel, Mark, Listed, Work, End, AnswerPlaced, AnswerDone}
+use Rattle.task_events.specs.declared.event.Event.TheVariants.{Begin, NotFound, Write, Root, RootRejected, Ask, Put, Reject, Refuse, Cancel, Mark, Listed, Work, End, AnswerPlaced, AnswerDone}
 use Rattle.task_events.specs.Same.{same_task}
 use Rattle.task_events.specs.Tasks.{is_live, live_tasks, has_ended, is_new, has_passed, refusal_of, reply_of, live_child, live_on, parent_of, ancestors, descends}
 use Rattle.task_events.specs.Asks.{is_unanswered, unanswered, node_of_ask, answer_of}
 use Rattle.task_events.specs.Bans.{mark_of, late_ban, banned_nodes, standing_ban, listing_is_open, is_listed, is_acked, is_gone, bans_are_placed, unbans_are_sent}
 use Rattle.task_events.specs.Messages.{Message, in_flight, is_request, is_answer, is_ban, is_ack, is_unban, without, number_in_flight}
 use Rattle.task_events.specs.Messages.Message.{Request, Answer, Ban, Ack, Unban}
-use Rattle.task_events.specs.Cancels.{is_named, waits, is_answered_placed, is_answered_done, names_one_of}
+use Rattle.task_events.specs.Cancels.{last_command, has_acted, turn_of, is_named, waits, found_none, is_answered_placed, is_answered_done, names_one_of}
 use Rattle.task_events.specs.Allowed.{cancellation_in}
-use Rattle.task_events.specs.Lawful.{Lawful}
+use Rattle.task_events.specs.Lawful.{AwaitsNoMark, Lawful}
 
 -- An ask is in one place: its request is in flight, or its child is live, or its answer is in flight; but in
 -- none once it is answered.
@@ -41,13 +43,13 @@ is_banned n p h = list_any (λ m. n == m) (banned_nodes p h)
 -- not sent; it stands and its unban is in flight; it is gone.
 pub record OneStage (h : List Event) : Type 0 where
   pub stage : (n : ℕ) (p : TaskId) → is_banned n p h ≡ true →
-    number_in_flight (is_ban n p) h
-    + one_if (stands n p h && listing_is_open n p h)
-    + cond (stands n p h) (number_in_flight (is_ack n p) h) 0
-    + one_if (stands n p h && (is_acked n p h && not (unbans_are_sent p h)))
-    + cond (stands n p h) (number_in_flight (is_unban n p) h) 0
-    + one_if (is_gone n p h)
-    ≡ 1
+      number_in_flight (is_ban n p) h
+      + one_if (stands n p h && listing_is_open n p h)
+      + cond (stands n p h) (number_in_flight (is_ack n p) h) 0
+      + one_if (stands n p h && (is_acked n p h && not (unbans_are_sent p h)))
+      + cond (stands n p h) (number_in_flight (is_unban n p) h) 0
+      + one_if (is_gone n p h)
+      ≡ 1
   -- on the way there a ban is in flight, or listed, or being acknowledged, or acknowledged
   pub placing : (n : ℕ) (p : TaskId) → number_in_flight (is_ban n p) h + one_if (listing_is_open n p h) + number_in_flight (is_ack n p) h + one_if (is_acked n p h) ≡ one_if (is_banned n p h)
   -- it is in flight, or it stands, or it is gone; and no other ban stands
@@ -106,6 +108,10 @@ pub record CancelsWithCause (h : List Event) : Type 0 where
   pub ended_reply : (t : TaskId) (reply : Reply) → reply_of t h ≡ Some reply → refusal_of t h ≡ None → cancellation_in reply ≡ option_map (λ c. (t, c)) (mark_of t h)
   pub reply : (t u : TaskId) (c : ℕ) (reply : Reply) → reply_of t h ≡ Some reply → cancellation_in reply ≡ Some (u, c) → (u ≡ t) × (names_one_of c (t ∷ ancestors t h) h ≡ true)
 
+-- Each task that a cancellation named is marked, but for one that the newest event names.
+abbrev pub MarksNamedTasks : List Event → Type 0
+MarksNamedTasks h = AwaitsNoMark h → (c : ℕ) (t : TaskId) → is_named c t h ≡ true → mark_of t h ≢ None
+
 -- a ban of the task's parent with this number stands on the task's node
 abbrev pub IsUnderBan : TaskId → ℕ → List Event → Type 0
 IsUnderBan t c h = (p : TaskId) × (parent_of t h ≡ Some p) × (standing_ban t.node p h ≡ Some c)
@@ -127,7 +133,7 @@ pub record EventsHaveCauses (cluster : Cluster) : Type 0 where
   pub no_work : (t : TaskId) (h : List Event) → Lawful cluster (Work t ∷ h) → mark_of t h ≡ None
   -- on the ask's node, a rejection comes exactly where as many tasks are live as it has slots
   pub rejected : (n : ℕ) (p : TaskId) (k : ℕ) (h : List Event) → Lawful cluster (Reject n p k ∷ h) → (live_on n h ≡ cluster.slots) × (node_of_ask p k h ≡ Some n)
-  pub root_rejected : (k n : ℕ) (h : List Event) → Lawful cluster (RootRejected k n ∷ h) → live_on n h ≡ cluster.slots
+  pub root_rejected : (k n : ℕ) (h : List Event) → Lawful cluster (RootRejected k n ∷ h) → (live_on n h ≡ cluster.slots) × (1 ≤ n) × (n ≤ cluster.nodes)
   pub put : (t p : TaskId) (k : ℕ) (h : List Event) → Lawful cluster (Put t p k ∷ h) → (live_on t.node h < cluster.slots) × (node_of_ask p k h ≡ Some t.node)
   pub root : (k : ℕ) (t : TaskId) (h : List Event) → Lawful cluster (Root k t ∷ h) → live_on t.node h < cluster.slots
 
@@ -195,11 +201,31 @@ pub record IsDrained (h : List Event) : Type 0 where
 abbrev pub DrainsAll : List Event → Type 0
 DrainsAll h = IsDrained h → ((n : ℕ) (p : TaskId) → standing_ban n p h ≡ None) × ((t : TaskId) → mark_of t h ≢ None → (bans_are_placed t h ≡ true) × (has_ended t h ≡ true))
 
--- A cancellation is answered once, in the way that its command asks for, and names live tasks before that.
+-- the cancellation has no answer, and has not found that there is no task
+abbrev pub IsOpenCancel : ℕ → List Event → Type 0
+IsOpenCancel c h = (is_answered_placed c h ≡ false) × (is_answered_done c h ≡ false) × (found_none c h ≡ false)
+
+-- A cancellation is answered once, in the way that its command asks for; before that it names live tasks, each once.
 pub record AnswersCancelsOnce (cluster : Cluster) : Type 0 where
-  pub placed : (c : ℕ) (h : List Event) → Lawful cluster (AnswerPlaced c ∷ h) → (waits c h ≢ Some true) × (is_answered_placed c h ≡ false) × (is_answered_done c h ≡ false)
-  pub done : (c : ℕ) (h : List Event) → Lawful cluster (AnswerDone c ∷ h) → (waits c h ≢ Some false) × (is_answered_placed c h ≡ false) × (is_answered_done c h ≡ false)
-  pub named : (c : ℕ) (t : TaskId) (wait : Bool) (h : List Event) → Lawful cluster (Cancel c t wait ∷ h) → (is_live t h ≡ true) × (is_answered_placed c h ≡ false) × (is_answered_done c h ≡ false)
+  pub placed : (c : ℕ) (h : List Event) → Lawful cluster (AnswerPlaced c ∷ h) → IsOpenCancel c h × (waits c h ≢ Some true)
+  pub done : (c : ℕ) (h : List Event) → Lawful cluster (AnswerDone c ∷ h) → IsOpenCancel c h × (waits c h ≢ Some false)
+  pub named : (c : ℕ) (t : TaskId) (wait : Bool) (h : List Event) → Lawful cluster (Cancel c t wait ∷ h) → IsOpenCancel c h × (is_live t h ≡ true) × (is_named c t h ≡ false)
+  pub one_kind : (c : ℕ) (t : TaskId) (wait other : Bool) (h : List Event) → Lawful cluster (Cancel c t wait ∷ h) → waits c h ≡ Some other → wait ≡ other
+
+-- Commands are numbered in order, and what a command begins with is the first that it does.
+pub record CommandsActInOrder (cluster : Cluster) : Type 0 where
+  pub begun : (k : ℕ) (h : List Event) → Lawful cluster (Begin k ∷ h) → (k ≡ last_command h + 1) × (has_acted k h ≡ false)
+  pub started : (k : ℕ) (t : TaskId) (h : List Event) → Lawful cluster (Root k t ∷ h) → (last_command h ≡ k) × (has_acted k h ≡ false)
+  pub rejected : (k n : ℕ) (h : List Event) → Lawful cluster (RootRejected k n ∷ h) → (last_command h ≡ k) × (has_acted k h ≡ false)
+  pub missing : (c : ℕ) (h : List Event) → Lawful cluster (NotFound c ∷ h) → (last_command h ≡ c) × (has_acted c h ≡ false)
+  pub naming : (c : ℕ) (t : TaskId) (wait : Bool) (h : List Event) → Lawful cluster (Cancel c t wait ∷ h) → last_command h ≡ c
+  -- a cancellation that named no task is answered at once
+  pub at_once : (c : ℕ) (h : List Event) → Lawful cluster (AnswerPlaced c ∷ h) → waits c h ≡ None → (last_command h ≡ c) × (has_acted c h ≡ false)
+  pub at_once_done : (c : ℕ) (h : List Event) → Lawful cluster (AnswerDone c ∷ h) → waits c h ≡ None → (last_command h ≡ c) × (has_acted c h ≡ false)
+
+-- A document is written only in a turn of work of a live task that is not marked.
+abbrev pub WritesInTurns : Cluster → Type 0
+WritesInTurns cluster = (index id : Text) (shard : ℕ) (outcome : Outcome) (h : List Event) → Lawful cluster (Write index shard outcome id ∷ h) → (t : TaskId) × (turn_of h ≡ Some t) × (is_live t h ≡ true) × (mark_of t h ≡ None)
 
 -- A message of this kind is in flight, and to deliver it is to take away what stands at this place.
 abbrev pub IsDeliveredAt : ℕ → (Message → Bool) → List Event → Type 0

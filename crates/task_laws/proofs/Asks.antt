@@ -1,17 +1,16 @@
 -- The first layer: asks, their children and their answers.
-use Rattle.std.proofs.Common.{◌≡◌, ◌≢◌, ◌+◌, ◌≤◌, ◌<◌, ℕ, Bool, true, false, cond, List, [], ◌∷◌, Option, Some, None, refl, arith}
+use Rattle.std.proofs.Common.{◌≡◌, ◌+◌, ◌≤◌, ◌<◌, ℕ, true, false, cond, List, [], ◌∷◌, Some, None, refl, arith}
 use Rattle.task_ids.specs.declared.task_id.TaskId.{TaskId}
 use Rattle.task_ids.specs.declared.cluster.Cluster.{Cluster}
 use Rattle.task_events.specs.declared.event.Event.{Event}
-use Rattle.task_events.specs.declared.event.Event.TheVariants.{Begin, Root, RootRejected, Ask, Put, Reject, Pass, Refuse, Cancel, NotFound, Mark, BanPut, Listed, Acked, BanGone, Work, Write, Answered, End, AnswerPlaced, AnswerDone, Tick}
-use Rattle.task_events.specs.Same.{same_task, same_pair}
+use Rattle.task_events.specs.declared.event.Event.TheVariants.{Root, Ask, Put, Reject, Pass, Refuse, Answered, End}
 use Rattle.task_events.specs.Tasks.{is_live, has_ended, last_number, is_new, child_of, parent_of, ask_of, live_child}
 use Rattle.task_events.specs.Asks.{last_ask, is_unanswered}
-use Rattle.task_events.specs.Messages.{is_request, is_answer, number_in_flight}
+use Rattle.task_events.specs.Messages.{is_request, number_in_flight}
 use Rattle.task_events.specs.Allowed.{Allowed}
 use Rattle.task_events.specs.Lawful.{Lawful}
 use Rattle.task_laws.proofs.Same.{same_tests}
-use Rattle.task_laws.proofs.Counts.{is_for, is_child_of, requests, answers}
+use Rattle.task_laws.proofs.Counts.{is_child_of, requests, answers}
 use Rattle.task_laws.proofs.InFlight.{requests_in_flight, answers_in_flight}
 use Rattle.task_laws.proofs.Pending.{is_pending}
 

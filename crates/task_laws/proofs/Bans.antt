@@ -1,16 +1,15 @@
 -- The second layer: marks, bans, listings, acknowledgements and unbans.
-use Rattle.std.proofs.Common.{◌≡◌, ◌≢◌, ◌+◌, ◌≤◌, ◌<◌, ℕ, Bool, true, false, cond, ◌&&◌, List, [], ◌∷◌, Option, Some, None, refl, arith}
+use Rattle.std.proofs.Common.{◌≡◌, ◌≢◌, ◌+◌, ◌≤◌, ◌<◌, ℕ, Bool, true, false, cond, List, [], ◌∷◌, Some, None, refl, arith}
 use Rattle.std.specs.Prelude.{◌==◌, is_some}
 use Rattle.std.specs.List.{list_all, list_any}
 use Rattle.task_ids.specs.declared.task_id.TaskId.{TaskId}
 use Rattle.task_ids.specs.declared.cluster.Cluster.{Cluster}
 use Rattle.task_events.specs.declared.event.Event.{Event}
-use Rattle.task_events.specs.declared.event.Event.TheVariants.{Begin, Root, RootRejected, Ask, Put, Reject, Pass, Refuse, Cancel, NotFound, Mark, BanPut, Listed, Acked, BanGone, Work, Write, Answered, End, AnswerPlaced, AnswerDone, Tick}
-use Rattle.task_events.specs.Same.{same_task, same_pair}
-use Rattle.task_events.specs.Tasks.{is_live, has_ended}
-use Rattle.task_events.specs.Asks.{unanswered_nodes, unanswered}
-use Rattle.task_events.specs.Bans.{mark_of, banned_nodes, standing_ban, listing_is_open, is_listed, is_acked, is_gone, bans_are_placed, unbans_are_sent}
-use Rattle.task_events.specs.Messages.{is_ban, is_ack, is_unban, number_in_flight}
+use Rattle.task_events.specs.declared.event.Event.TheVariants.{Refuse, Mark, BanPut, Listed, Acked, BanGone, End}
+use Rattle.task_events.specs.Same.{same_task}
+use Rattle.task_events.specs.Asks.{unanswered}
+use Rattle.task_events.specs.Bans.{mark_of, banned_nodes, standing_ban, listing_is_open, is_listed, is_acked, is_gone, bans_are_placed}
+use Rattle.task_events.specs.Messages.{is_unban, number_in_flight}
 use Rattle.task_events.specs.Allowed.{Allowed}
 use Rattle.task_events.specs.Lawful.{Lawful}
 use Rattle.task_laws.proofs.Same.{same_tests}

@@ -1,16 +1,16 @@
 -- What the messages in flight say.
-use Rattle.std.proofs.Common.{◌≡◌, ◌≢◌, ◌+◌, ◌≤◌, ◌<◌, ℕ, Bool, true, false, cond, ◌&&◌, ◌||◌, List, [], ◌∷◌, ◌++◌, map, Option, Some, None, refl, sym, ap, ◌∙◌, arith}
-use Rattle.std.specs.Prelude.{option_and_then, is_some, ◌==◌}
+use Rattle.std.proofs.Common.{◌≡◌, ◌≤◌, ◌<◌, ℕ, Bool, true, false, cond, List, [], ◌∷◌, ◌++◌, map, Option, Some, None, refl, sym, ◌∙◌, arith}
+use Rattle.std.specs.Prelude.{is_some, ◌==◌}
 use Rattle.std.specs.List.{AllByRecursion, list_any, list_all}
 use Rattle.task_ids.specs.declared.task_id.TaskId.{TaskId}
 use Rattle.task_ids.specs.declared.cluster.Cluster.{Cluster}
 use Rattle.task_events.specs.declared.reply.Reply.{Reply}
 use Rattle.task_events.specs.declared.reply.Reply.TheVariants.{Cancelled, Rejected}
 use Rattle.task_events.specs.declared.event.Event.{Event}
-use Rattle.task_events.specs.declared.event.Event.TheVariants.{Begin, Root, RootRejected, Ask, Put, Reject, Pass, Refuse, Cancel, NotFound, Mark, BanPut, Listed, Acked, BanGone, Work, Write, Answered, End, AnswerPlaced, AnswerDone, Tick}
-use Rattle.task_events.specs.Same.{same_task, same_pair}
+use Rattle.task_events.specs.declared.event.Event.TheVariants.{Ask, Put, Reject, Refuse, Mark, BanPut, Listed, Acked, BanGone, Answered, End}
+use Rattle.task_events.specs.Same.{same_task}
 use Rattle.task_events.specs.Tasks.{is_live, has_ended, reply_of, child_of, parent_of, ask_of}
-use Rattle.task_events.specs.Asks.{last_ask, node_of_ask, rejection_of, answer_of, answer_or, unanswered_nodes}
+use Rattle.task_events.specs.Asks.{last_ask, node_of_ask, rejection_of, answer_of, unanswered_nodes}
 use Rattle.task_events.specs.Bans.{mark_of, banned_nodes, is_listed, is_acked, bans_are_placed, unbans_are_sent}
 use Rattle.task_events.specs.Messages.{Message, is_request, is_answer, is_ban, is_ack, is_unban, without, answer_from, unbans_from, in_flight, number_in_flight}
 use Rattle.task_events.specs.Messages.Message.{Request, Answer, Ban, Ack, Unban}
@@ -19,8 +19,8 @@ use Rattle.task_events.specs.Lawful.{Lawful}
 use Rattle.task_events.specs.Laws.{IsTold, is_banned}
 use Rattle.task_laws.proofs.Same.{same_tests}
 use Rattle.task_laws.proofs.Numbers.{both}
-use Rattle.task_laws.proofs.Counts.{requests, answers, is_child_of, is_for}
-use Rattle.task_laws.proofs.InFlight.{requests_in_flight, answers_in_flight}
+use Rattle.task_laws.proofs.Counts.{requests, is_child_of}
+use Rattle.task_laws.proofs.InFlight.{requests_in_flight}
 use Rattle.task_laws.proofs.Asks.{AskFacts, ask_facts}
 
 pub record AnswerFacts (h : List Event) : Type 0 where

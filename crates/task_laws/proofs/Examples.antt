@@ -1,16 +1,15 @@
 -- The example is lawful, event by event. Its ids are numbers, so that each question about it computes.
-use Rattle.std.proofs.Common.{◌≡◌, ◌≢◌, ◌+◌, ◌≤◌, ◌<◌, ℕ, Bool, true, false, cond, List, [], ◌∷◌, Option, Some, None, refl, sym, ◌∙◌, arith, subst}
+use Rattle.std.proofs.Common.{◌≡◌, ◌≢◌, true, List, ◌∷◌, Some, None, refl, sym, arith, subst}
 use Rattle.task_ids.specs.declared.task_id.TaskId.{TaskId}
 use Rattle.task_ids.specs.declared.cluster.Cluster.{Cluster}
-use Rattle.task_events.specs.declared.reply.Reply.TheVariants.{Cancelled, Rejected}
+use Rattle.task_events.specs.declared.reply.Reply.TheVariants.{Cancelled}
 use Rattle.task_events.specs.declared.event.Event.{Event}
-use Rattle.task_events.specs.declared.event.Event.TheVariants.{Begin, Root, RootRejected, Ask, Put, Reject, Pass, Refuse, Cancel, NotFound, Mark, BanPut, Listed, Acked, BanGone, Work, Write, Answered, End, AnswerPlaced, AnswerDone, Tick}
+use Rattle.task_events.specs.declared.event.Event.TheVariants.{Begin, Put, Reject, Refuse, Cancel, Mark, BanPut, Acked, Answered, End}
 use Rattle.task_events.specs.Same.{same_task, same_pair}
 use Rattle.task_events.specs.Tasks.{is_live, has_ended, parent_of}
 use Rattle.task_events.specs.Asks.{all_nodes}
 use Rattle.task_events.specs.Bans.{mark_of, bans_are_placed, late_ban}
 use Rattle.task_events.specs.Cancels.{is_named}
-use Rattle.task_events.specs.Allowed.{Allowed}
 use Rattle.task_events.specs.Lawful.{Lawful}
 use Rattle.task_laws.proofs.Same.{same_tests, same_fields}
 use Rattle.task_laws.specs.Example.{IsId, until_cancel, until_listed, example}
@@ -71,13 +70,21 @@ module _ (cluster : Cluster) (nodes : cluster.nodes ≡ 2) (slots : cluster.slot
                 (
                   refl,
                   tt,
+                  tt,
                 ),
+                tt,
               ),
+              tt,
             ),
+            tt,
           ),
+          tt,
         ),
+        tt,
       ),
+      tt,
     ),
+    tt,
   )
 
   pub listed : Lawful cluster (until_listed root early late)
@@ -97,18 +104,27 @@ module _ (cluster : Cluster) (nodes : cluster.nodes ≡ 2) (slots : cluster.slot
               (
                 record { live = refl; unmarked = refl; cause = refl; lowest = λ n. absurd (cc) },
                 (
-                  record { current = refl; live = refl; once = refl; marked = λ u e. absurd (cc); one_kind = λ o e. absurd (cc); not_placed = refl; not_done = refl; not_missing = refl },
+                  record { current = refl; live = refl; once = refl; one_kind = λ o e. absurd (cc); not_placed = refl; not_done = refl; not_missing = refl },
                   (
                     refl,
                     begun,
+                    tt,
                   ),
+                  tt,
                 ),
+                λ m. refl,
               ),
+              tt,
             ),
+            tt,
           ),
+          tt,
         ),
+        tt,
       ),
+      tt,
     ),
+    tt,
   )
 
   pub lawful : Lawful cluster (example root early late)
@@ -130,13 +146,21 @@ module _ (cluster : Cluster) (nodes : cluster.nodes ≡ 2) (slots : cluster.slot
                 (
                   omega arith,
                   listed,
+                  tt,
                 ),
+                tt,
               ),
+              tt,
             ),
+            tt,
           ),
+          tt,
         ),
+        tt,
       ),
+      tt,
     ),
+    tt,
   )
 
   late_is_late : late_ban late (example root early late) ≡ Some 2

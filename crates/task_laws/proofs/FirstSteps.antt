@@ -1,11 +1,10 @@
 -- A child's first step is its pass or its refusal.
-use Rattle.std.proofs.Common.{◌≡◌, ◌≢◌, ◌+◌, ◌≤◌, ◌<◌, ℕ, Bool, true, false, cond, not, List, [], ◌∷◌, Option, Some, None, refl, arith}
+use Rattle.std.proofs.Common.{◌≡◌, true, false, not, List, [], ◌∷◌, Some, None, refl, arith}
 use Rattle.task_ids.specs.declared.task_id.TaskId.{TaskId}
 use Rattle.task_ids.specs.declared.cluster.Cluster.{Cluster}
 use Rattle.task_events.specs.declared.event.Event.{Event}
-use Rattle.task_events.specs.declared.event.Event.TheVariants.{Begin, Root, RootRejected, Ask, Put, Reject, Pass, Refuse, Cancel, NotFound, Mark, BanPut, Listed, Acked, BanGone, Work, Write, Answered, End, AnswerPlaced, AnswerDone, Tick}
-use Rattle.task_events.specs.Same.{same_task}
-use Rattle.task_events.specs.Tasks.{is_live, is_new, has_passed, parent_of, last_number}
+use Rattle.task_events.specs.declared.event.Event.TheVariants.{Root, Put, Pass, Refuse, End}
+use Rattle.task_events.specs.Tasks.{is_live, is_new, has_passed, parent_of}
 use Rattle.task_events.specs.Allowed.{Allowed}
 use Rattle.task_events.specs.Lawful.{Lawful}
 use Rattle.task_events.specs.Laws.{StepsFirst}
@@ -14,7 +13,6 @@ use Rattle.task_laws.proofs.Asks.{AskFacts, ask_facts}
 use Rattle.task_laws.proofs.Late.{LateFacts, late_facts}
 
 module _ (cluster : Cluster) where
-
   keep_child : (e : Event) (h : List Event) → Allowed cluster e h → AskFacts h → LateFacts h → StepsFirst h → (t p : TaskId) → parent_of t (e ∷ h) ≡ Some p → is_live t (e ∷ h) ≡ true → is_new t (e ∷ h) ≡ not (has_passed t (e ∷ h))
   keep_child (Root c u) h a f g s t p e l = grind (arith, same_tests, s.child t p, f.child_is_born t p)
   keep_child (Put u q k) h a f g s t p e l = grind (arith, same_tests, s.child t p, g.unborn_passed t)
@@ -32,6 +30,6 @@ module _ (cluster : Cluster) where
   pub steps_first : (h : List Event) → Lawful cluster h → StepsFirst h
   steps_first [] l = record { child = λ t p e i. absurd (cc); root = λ t e. (refl, refl) }
   steps_first (e ∷ h) l = record {
-      child = keep_child e h l.0 (ask_facts cluster h l.1) (late_facts cluster h l.1) (steps_first h l.1);
-      root = keep_root e h l.0 (steps_first h l.1);
-    }
+    child = keep_child e h l.0 (ask_facts cluster h l.1) (late_facts cluster h l.1) (steps_first h l.1);
+    root = keep_root e h l.0 (steps_first h l.1);
+  }

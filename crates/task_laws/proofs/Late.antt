@@ -1,18 +1,16 @@
 -- The third layer: a child that is put after the ban of its parent never passes.
-use Rattle.std.proofs.Common.{◌≡◌, ◌≢◌, ◌+◌, ◌≤◌, ◌<◌, ℕ, Bool, true, false, cond, List, [], ◌∷◌, Option, Some, None, refl, sym, ◌∙◌, arith}
-use Rattle.std.specs.Prelude.{option_and_then, is_some}
+use Rattle.std.proofs.Common.{◌≡◌, ◌≤◌, ◌<◌, ℕ, true, false, List, [], ◌∷◌, Option, Some, None, refl, arith}
+use Rattle.std.specs.Prelude.{option_and_then}
 use Rattle.task_ids.specs.declared.task_id.TaskId.{TaskId}
 use Rattle.task_ids.specs.declared.cluster.Cluster.{Cluster}
 use Rattle.task_events.specs.declared.event.Event.{Event}
-use Rattle.task_events.specs.declared.event.Event.TheVariants.{Begin, Root, RootRejected, Ask, Put, Reject, Pass, Refuse, Cancel, NotFound, Mark, BanPut, Listed, Acked, BanGone, Work, Write, Answered, End, AnswerPlaced, AnswerDone, Tick}
-use Rattle.task_events.specs.Same.{same_task, same_pair}
+use Rattle.task_events.specs.declared.event.Event.TheVariants.{Root, Put, Pass, Refuse, Mark, BanPut, BanGone, End}
 use Rattle.task_events.specs.Tasks.{is_live, has_ended, is_new, has_passed, refusal_of, parent_of, last_number}
-use Rattle.task_events.specs.Bans.{mark_of, standing_ban, ban_put, late_ban, ban_over, unbans_are_sent, bans_are_placed}
+use Rattle.task_events.specs.Bans.{mark_of, standing_ban, ban_put, late_ban, ban_over}
 use Rattle.task_events.specs.Messages.{is_unban, number_in_flight}
 use Rattle.task_events.specs.Allowed.{Allowed}
 use Rattle.task_events.specs.Lawful.{Lawful}
 use Rattle.task_laws.proofs.Same.{same_tests}
-use Rattle.task_laws.proofs.Counts.{unbans, freed, banned}
 use Rattle.task_laws.proofs.InFlight.{unbans_in_flight}
 use Rattle.task_laws.proofs.Asks.{AskFacts, ask_facts, parent_live}
 use Rattle.task_laws.proofs.Bans.{BanFacts, ban_facts}

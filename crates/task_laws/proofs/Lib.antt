@@ -1,5 +1,6 @@
 pub mod Asks
 pub mod Bans
+pub mod Commands
 pub mod Content
 pub mod Counts
 pub mod Examples
@@ -8,6 +9,7 @@ pub mod InFlight
 pub mod Late
 pub mod Living
 pub mod Marks
+pub mod Named
 pub mod Nodes
 pub mod Numbers
 pub mod Once

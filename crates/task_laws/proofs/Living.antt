@@ -1,12 +1,12 @@
 -- The list of live tasks.
-use Rattle.std.proofs.Common.{◌≡◌, ◌≢◌, ◌+◌, ◌-◌, ◌≤◌, ◌<◌, ℕ, Bool, true, false, cond, not, ◌&&◌, List, [], ◌∷◌, refl, ◌∙◌, arith}
+use Rattle.std.proofs.Common.{◌≡◌, ◌+◌, ◌-◌, ℕ, Bool, true, false, cond, not, List, [], ◌∷◌, refl, arith}
 use Rattle.std.specs.Prelude.{filter, ◌==◌}
 use Rattle.task_ids.specs.declared.task_id.TaskId.{TaskId}
 use Rattle.task_ids.specs.declared.cluster.Cluster.{Cluster}
 use Rattle.task_events.specs.declared.event.Event.{Event}
-use Rattle.task_events.specs.declared.event.Event.TheVariants.{Begin, Root, RootRejected, Ask, Put, Reject, Pass, Refuse, Cancel, NotFound, Mark, BanPut, Listed, Acked, BanGone, Work, Write, Answered, End, AnswerPlaced, AnswerDone, Tick}
+use Rattle.task_events.specs.declared.event.Event.TheVariants.{Root, Put, Refuse, End}
 use Rattle.task_events.specs.Same.{same_task}
-use Rattle.task_events.specs.Tasks.{is_live, live_tasks, live_on, last_number}
+use Rattle.task_events.specs.Tasks.{is_live, live_tasks, live_on}
 use Rattle.task_events.specs.Allowed.{Allowed}
 use Rattle.task_events.specs.Lawful.{Lawful}
 use Rattle.task_laws.proofs.Same.{same_tests}
@@ -25,7 +25,6 @@ pub record LivingFacts (h : List Event) : Type 0 where
   pub on_node : (n : ℕ) → number (λ t. n == t.node) (live_tasks h) ≡ live_on n h
 
 module _ (cluster : Cluster) where
-
   -- what a task that ends leaves
   without_once : (u t : TaskId) (h : List Event) → LivingFacts h → is_live u h ≡ true → number (same_task t) (filter (λ x. not (same_task u x)) (live_tasks h)) ≡ cond (same_task t u) 0 (cond (is_live t h) 1 0)
   without_once u t h f l =
@@ -58,6 +57,6 @@ module _ (cluster : Cluster) where
   pub living_facts : (h : List Event) → Lawful cluster h → LivingFacts h
   living_facts [] l = record { once = λ t. refl; on_node = λ n. refl }
   living_facts (e ∷ h) l = record {
-      once = keep_once e h l.0 (ask_facts cluster h l.1) (living_facts h l.1);
-      on_node = keep_on_node e h l.0 (living_facts h l.1);
-    }
+    once = keep_once e h l.0 (ask_facts cluster h l.1) (living_facts h l.1);
+    on_node = keep_on_node e h l.0 (living_facts h l.1);
+  }

@@ -1,11 +1,9 @@
 -- The nodes of unanswered asks stand in their list once each.
-use Rattle.std.proofs.Common.{◌≡◌, ◌+◌, ◌≤◌, ◌<◌, ℕ, Bool, true, false, cond, List, [], ◌∷◌, ◌++◌, refl, ◌∙◌, ap, arith}
+use Rattle.std.proofs.Common.{◌≡◌, ◌≤◌, ◌<◌, ℕ, Bool, cond, [], ◌∷◌, refl, ◌∙◌, ap, arith}
 use Rattle.std.specs.Prelude.{filter, ◌==◌, zero, suc}
 use Rattle.std.proofs.lemmas.Bool.Decides.{nat_tests}
 use Rattle.std.proofs.lemmas.List.Elements.{filter-append}
-use Rattle.task_ids.specs.declared.task_id.TaskId.{TaskId}
-use Rattle.task_events.specs.declared.event.Event.{Event}
-use Rattle.task_events.specs.Asks.{up_to, all_nodes, unanswered_nodes}
+use Rattle.task_events.specs.Asks.{up_to, all_nodes}
 use Rattle.task_laws.proofs.Numbers.{number, number-append}
 
 single : (test : ℕ → Bool) (n x : ℕ) → number (λ m. n == m) (filter test (x ∷ [])) ≡ cond (n == x) (cond (test x) 1 0) 0

@@ -1,8 +1,6 @@
 -- No message is in flight twice.
-use Rattle.std.proofs.Common.{◌≡◌, ◌≤◌, ◌+◌, ℕ, Bool, true, false, cond, List, arith}
-use Rattle.task_ids.specs.declared.task_id.TaskId.{TaskId}
+use Rattle.std.proofs.Common.{List, arith}
 use Rattle.task_events.specs.declared.event.Event.{Event}
-use Rattle.task_events.specs.Messages.{is_request, is_answer, is_ban, is_ack, is_unban, number_in_flight}
 use Rattle.task_events.specs.Laws.{OnceInFlight}
 use Rattle.task_laws.proofs.InFlight.{requests_in_flight, answers_in_flight, bans_in_flight, acks_in_flight, unbans_in_flight}
 use Rattle.task_laws.proofs.Asks.{AskFacts}
@@ -10,9 +8,9 @@ use Rattle.task_laws.proofs.Bans.{BanFacts}
 
 pub once_each : (h : List Event) → AskFacts h → BanFacts h → OnceInFlight h
 once_each h f b = record {
-    request = λ p k. grind (arith, requests_in_flight p k h, f.place p k);
-    answer = λ p k. grind (arith, answers_in_flight p k h, f.place p k);
-    ban = λ n p. grind (arith, bans_in_flight n p h, b.course n p, b.once n p);
-    ack = λ n p. grind (arith, acks_in_flight n p h, b.course n p, b.once n p);
-    unban = λ n p. grind (arith, unbans_in_flight n p h, b.going n p, b.once n p);
-  }
+  request = λ p k. grind (arith, requests_in_flight p k h, f.place p k);
+  answer = λ p k. grind (arith, answers_in_flight p k h, f.place p k);
+  ban = λ n p. grind (arith, bans_in_flight n p h, b.course n p, b.once n p);
+  ack = λ n p. grind (arith, acks_in_flight n p h, b.course n p, b.once n p);
+  unban = λ n p. grind (arith, unbans_in_flight n p h, b.going n p, b.once n p);
+}

@@ -1,11 +1,10 @@
 -- An ask is unanswered exactly where it is in the list of unanswered asks.
-use Rattle.std.proofs.Common.{◌≡◌, ◌≢◌, ℕ, Bool, true, false, cond, not, ◌||◌, List, [], ◌∷◌, refl, arith}
+use Rattle.std.proofs.Common.{◌≡◌, ℕ, false, cond, not, List, [], ◌∷◌, refl, arith}
 use Rattle.std.specs.Prelude.{filter, ◌==◌}
 use Rattle.std.specs.List.{list_any}
 use Rattle.task_ids.specs.declared.task_id.TaskId.{TaskId}
 use Rattle.task_events.specs.declared.event.Event.{Event}
-use Rattle.task_events.specs.declared.event.Event.TheVariants.{Begin, Root, RootRejected, Ask, Put, Reject, Pass, Refuse, Cancel, NotFound, Mark, BanPut, Listed, Acked, BanGone, Work, Write, Answered, End, AnswerPlaced, AnswerDone, Tick}
-use Rattle.task_events.specs.Same.{same_task, same_pair}
+use Rattle.task_events.specs.declared.event.Event.TheVariants.{Ask, Answered}
 use Rattle.task_events.specs.Asks.{is_unanswered, unanswered, Pending}
 use Rattle.task_laws.proofs.Same.{same_tests}
 

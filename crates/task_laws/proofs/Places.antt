@@ -1,7 +1,6 @@
 -- A message in flight is the only one of its kind, so that to deliver it is to take it from its place.
-use Rattle.std.proofs.Common.{◌≡◌, ◌+◌, ◌≤◌, ◌<◌, ℕ, zero, suc, Bool, true, false, cond, List, [], ◌∷◌, Option, Some, None, refl, ap, ◌∙◌, arith}
+use Rattle.std.proofs.Common.{◌≡◌, ◌+◌, ◌≤◌, ◌<◌, ℕ, zero, suc, Bool, true, false, cond, List, [], ◌∷◌, Some, refl, ap, arith}
 use Rattle.std.specs.Prelude.{remove, slice_get}
-use Rattle.task_ids.specs.declared.task_id.TaskId.{TaskId}
 use Rattle.task_events.specs.declared.event.Event.{Event}
 use Rattle.task_events.specs.Messages.{Message, without, in_flight, number_in_flight}
 use Rattle.task_events.specs.Laws.{IsDeliveredAt}

@@ -1,6 +1,6 @@
 -- The bans of a marked task go to each node on which it may have a live child; and every task's node is one of the
 -- cluster's.
-use Rattle.std.proofs.Common.{◌≡◌, ◌≢◌, ◌+◌, ◌≤◌, ◌<◌, ℕ, zero, suc, Bool, true, false, cond, not, ◌&&◌, ◌||◌, List, [], ◌∷◌, ◌++◌, Option, Some, None, refl, sym, ap, ◌∙◌, arith}
+use Rattle.std.proofs.Common.{◌≡◌, ◌≢◌, ◌≤◌, ℕ, zero, suc, Bool, true, false, cond, not, ◌&&◌, List, [], ◌∷◌, Some, None, refl, ap, ◌∙◌, arith}
 use Rattle.std.specs.Prelude.{filter, ◌==◌}
 use Rattle.std.specs.List.{list_any}
 use Rattle.std.proofs.lemmas.List.Elements.{filter-append}
@@ -8,19 +8,17 @@ use Rattle.std.proofs.lemmas.List.Folds.{list_any-append}
 use Rattle.task_ids.specs.declared.task_id.TaskId.{TaskId}
 use Rattle.task_ids.specs.declared.cluster.Cluster.{Cluster}
 use Rattle.task_events.specs.declared.event.Event.{Event}
-use Rattle.task_events.specs.declared.event.Event.TheVariants.{Begin, Root, RootRejected, Ask, Put, Reject, Pass, Refuse, Cancel, NotFound, Mark, BanPut, Listed, Acked, BanGone, Work, Write, Answered, End, AnswerPlaced, AnswerDone, Tick}
-use Rattle.task_events.specs.Same.{same_task, same_pair}
+use Rattle.task_events.specs.declared.event.Event.TheVariants.{Root, Ask, Put, Refuse, Mark, Answered, End}
+use Rattle.task_events.specs.Same.{same_task}
 use Rattle.task_events.specs.Tasks.{is_live, child_of, parent_of, ask_of}
-use Rattle.task_events.specs.Asks.{Pending, is_unanswered, unanswered, node_of_ask, last_ask, up_to, all_nodes, unanswered_nodes}
+use Rattle.task_events.specs.Asks.{Pending, is_unanswered, unanswered, node_of_ask, up_to, all_nodes, unanswered_nodes}
 use Rattle.task_events.specs.Bans.{mark_of, banned_nodes}
 use Rattle.task_events.specs.Allowed.{Allowed}
 use Rattle.task_events.specs.Lawful.{Lawful}
 use Rattle.task_events.specs.Laws.{is_banned}
 use Rattle.task_laws.proofs.Same.{same_tests}
-use Rattle.task_laws.proofs.Counts.{requests, is_child_of}
-use Rattle.task_laws.proofs.InFlight.{requests_in_flight}
+use Rattle.task_laws.proofs.Counts.{is_child_of}
 use Rattle.task_laws.proofs.Asks.{AskFacts, ask_facts, child_unanswered}
-use Rattle.task_laws.proofs.Content.{AnswerFacts, answer_facts}
 
 abbrev is_to : ℕ → ℕ → Pending → Bool
 is_to k n a = (a.ask == k) && (a.node == n)
@@ -61,7 +59,6 @@ pub record ReachFacts (cluster : Cluster) (h : List Event) : Type 0 where
   pub live_in : (t : TaskId) → is_live t h ≡ true → t.node ≤ cluster.nodes
 
 module _ (cluster : Cluster) where
-
   keep_child_node : (e : Event) (h : List Event) → Allowed cluster e h → AskFacts h → ReachFacts cluster h → (p : TaskId) (k : ℕ) (t : TaskId) → child_of p k (e ∷ h) ≡ Some t → node_of_ask p k (e ∷ h) ≡ Some t.node
   keep_child_node (Ask q j n) h a f r p k t e = grind (arith, same_tests, r.child_node p k t, f.no_child p k)
   keep_child_node (Put u q j) h a f r p k t e = grind (arith, same_tests, r.child_node p k t)
@@ -102,12 +99,12 @@ module _ (cluster : Cluster) where
 
   pub reach_facts : (h : List Event) → Lawful cluster h → ReachFacts cluster h
   reach_facts [] l = record {
-      child_node = λ p k t e. absurd (cc);
-      low = λ p k n e. absurd (cc);
-      high = λ p k n e. absurd (cc);
-      reach = λ p k n i u e. cc;
-      live_in = λ t e. absurd (cc);
-    }
+    child_node = λ p k t e. absurd (cc);
+    low = λ p k n e. absurd (cc);
+    high = λ p k n e. absurd (cc);
+    reach = λ p k n i u e. cc;
+    live_in = λ t e. absurd (cc);
+  }
   reach_facts (e ∷ h) l =
       let f = ask_facts cluster h l.1 in
       let r = reach_facts h l.1 in

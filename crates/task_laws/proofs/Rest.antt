@@ -1,25 +1,23 @@
 -- What is live where nothing moves.
-use Rattle.std.proofs.Common.{◌≡◌, ◌≢◌, ◌⊎◌, inl, inr, ◌+◌, ◌≤◌, ◌<◌, ℕ, zero, suc, Bool, true, false, cond, List, [], ◌∷◌, length, Option, Some, None, refl, sym, ap, ◌∙◌, arith}
-use Rattle.std.specs.Prelude.{◌==◌}
+use Rattle.std.proofs.Common.{◌≡◌, ◌⊎◌, inl, inr, ◌+◌, ◌≤◌, ◌<◌, ℕ, zero, suc, Bool, true, false, cond, List, [], ◌∷◌, length, Option, Some, None, refl, arith}
 use Rattle.std.specs.List.{list_any}
 use Rattle.task_ids.specs.declared.task_id.TaskId.{TaskId}
 use Rattle.task_ids.specs.declared.cluster.Cluster.{Cluster}
 use Rattle.task_events.specs.declared.event.Event.{Event}
-use Rattle.task_events.specs.declared.event.Event.TheVariants.{Begin, Root, RootRejected, Ask, Put, Reject, Pass, Refuse, Cancel, NotFound, Mark, BanPut, Listed, Acked, BanGone, Work, Write, Answered, End, AnswerPlaced, AnswerDone, Tick}
-use Rattle.task_events.specs.Same.{same_task, same_pair}
-use Rattle.task_events.specs.Tasks.{is_live, parent_of, ask_of, ancestors, descends, child_of, live_child, last_number, number_that}
+use Rattle.task_events.specs.declared.event.Event.TheVariants.{Root, Put}
+use Rattle.task_events.specs.Same.{same_task}
+use Rattle.task_events.specs.Tasks.{is_live, parent_of, ask_of, ancestors, descends, child_of}
 use Rattle.task_events.specs.Asks.{is_unanswered, unanswered, Pending}
 use Rattle.task_events.specs.Bans.{mark_of}
-use Rattle.task_events.specs.Messages.{in_flight, is_request, is_answer, number_in_flight}
-use Rattle.task_events.specs.Allowed.{Allowed}
+use Rattle.task_events.specs.Messages.{in_flight}
 use Rattle.task_events.specs.Lawful.{Lawful}
 use Rattle.task_events.specs.Laws.{IsAtRest, IsLeaf}
 use Rattle.task_laws.proofs.Same.{same_tests}
-use Rattle.task_laws.proofs.Counts.{requests, answers, is_child_of, is_for}
+use Rattle.task_laws.proofs.Counts.{is_for}
 use Rattle.task_laws.proofs.InFlight.{requests_in_flight, answers_in_flight}
 use Rattle.task_laws.proofs.Pending.{is_pending}
 use Rattle.task_laws.proofs.Asks.{AskFacts, ask_facts, requested_live}
-use Rattle.task_laws.proofs.Tree.{TreeFacts, tree_facts, from_parent, parent_first}
+use Rattle.task_laws.proofs.Tree.{TreeFacts, tree_facts, parent_first}
 
 -- the place of a task's first event in the history, from 1; 0 where it has none
 abbrev pub birth : TaskId → List Event → ℕ

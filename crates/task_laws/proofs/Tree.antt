@@ -1,12 +1,12 @@
 -- Waiting cancellations: what has ended has no live descendant.
-use Rattle.std.proofs.Common.{◌≡◌, ◌≢◌, ◌+◌, ◌≤◌, ◌<◌, ℕ, Bool, true, false, cond, List, [], ◌∷◌, Option, Some, None, refl, sym, ◌∙◌, arith}
+use Rattle.std.proofs.Common.{◌≡◌, ℕ, Bool, true, false, List, [], ◌∷◌, Option, Some, None, refl, arith}
 use Rattle.std.specs.List.{list_any}
 use Rattle.task_ids.specs.declared.task_id.TaskId.{TaskId}
 use Rattle.task_ids.specs.declared.cluster.Cluster.{Cluster}
 use Rattle.task_events.specs.declared.event.Event.{Event}
-use Rattle.task_events.specs.declared.event.Event.TheVariants.{Begin, Root, RootRejected, Ask, Put, Reject, Pass, Refuse, Cancel, NotFound, Mark, BanPut, Listed, Acked, BanGone, Work, Write, Answered, End, AnswerPlaced, AnswerDone, Tick}
-use Rattle.task_events.specs.Same.{same_task, same_pair}
-use Rattle.task_events.specs.Tasks.{is_live, has_ended, parent_of, ancestors, descends, last_number}
+use Rattle.task_events.specs.declared.event.Event.TheVariants.{Put, Refuse, Cancel, End, AnswerDone}
+use Rattle.task_events.specs.Same.{same_task}
+use Rattle.task_events.specs.Tasks.{is_live, has_ended, parent_of, ancestors, descends}
 use Rattle.task_events.specs.Cancels.{is_named, is_answered_done}
 use Rattle.task_events.specs.Allowed.{Allowed}
 use Rattle.task_events.specs.Lawful.{Lawful}

@@ -5,7 +5,7 @@ ghost use Rattle.std.specs.Prelude.{◌≡◌, ◌≢◌, ◌<◌, ◌≤◌, �
 ghost use Rattle.task_events.specs.declared.event.Event.{Event};
 ghost use Rattle.task_laws.specs.Example.{IsId, example};
 ghost use Rattle.task_events.specs.Lawful.{Lawful};
-ghost use Rattle.task_events.specs.Laws.{AnswersCancelsOnce, CancelsEarlyChildren, CancelsWithCause, DeliversAnyMessage, DrainsAll, EventsHaveCauses, LeavesNoBan, ListsLiveTasks, MessagesTellThePast, OnceInFlight, OnePlace, OneStage, ReachesEveryChild, RefusesLateChildren, RestsOnLeaves, StandsInCluster, StepsFirst, WaitsForDescendants};
+ghost use Rattle.task_events.specs.Laws.{AnswersCancelsOnce, CancelsEarlyChildren, CancelsWithCause, CommandsActInOrder, DeliversAnyMessage, DrainsAll, EventsHaveCauses, LeavesNoBan, ListsLiveTasks, MarksNamedTasks, MessagesTellThePast, OnceInFlight, OnePlace, OneStage, ReachesEveryChild, RefusesLateChildren, RestsOnLeaves, StandsInCluster, StepsFirst, WaitsForDescendants, WritesInTurns};
 ghost use Rattle.task_events.specs.Tasks.{parent_of, descends};
 ghost use Rattle.task_events.specs.Cancels.{is_answered_done, is_named};
 ghost use Rattle.task_events.specs.Bans.{ban_put, late_ban};
@@ -15,8 +15,7 @@ use task_ids::{Cluster, TaskId};
 /// What a lawful history was at each earlier moment is lawful; so each law below holds at every moment.
 pub fn earlier_is_lawful()
     ensures { (cluster : Cluster) (later h : List Event) → Lawful cluster (later ++ h) → Lawful cluster h }
-{
-}
+{}
 
 /// At each moment of a lawful history each unanswered ask has a live asker and is in exactly one of three
 /// places: its request is in flight, its child is live, or its answer is in flight. An ended task has no
@@ -60,11 +59,12 @@ pub fn waiting()
         → is_answered_done c h ≡ true → is_named c a h ≡ true → descends a t (Event.Put t p k ∷ h) ≡ false }
 {}
 
-/// A task is cancelled, and a reply says so, only where the task or an ancestor was named; and a task is rejected
-/// exactly where its node is full.
+/// A task is cancelled, and a reply says so, only where the task or an ancestor was named, and each task that was
+/// named is marked; and a task is rejected exactly where its node is full.
 pub fn causes()
     ensures named { (cluster : Cluster) (h : List Event) → Lawful cluster h → CancelsWithCause h }
     ensures events { (cluster : Cluster) → EventsHaveCauses cluster }
+    ensures marked { (cluster : Cluster) (h : List Event) → Lawful cluster h → MarksNamedTasks h }
 {}
 
 /// Each message is in flight at most once. So whichever is delivered next, it is taken from its own place, and the
@@ -91,26 +91,30 @@ pub fn at_rest()
 pub fn reached_children()
     ensures reached { (cluster : Cluster) (h : List Event) → Lawful cluster h → ReachesEveryChild h }
     ensures nodes { (cluster : Cluster) (h : List Event) → Lawful cluster h → StandsInCluster cluster h }
-{
-}
+{}
 
 /// The list of live tasks has each live task once and no other, and as many of a node as are counted there.
 pub fn live_tasks_listed()
     ensures { (cluster : Cluster) (h : List Event) → Lawful cluster h → ListsLiveTasks h }
-{
-}
+{}
 
 /// A child passes or is refused as its first step, and a root needs neither.
 pub fn first_steps()
     ensures { (cluster : Cluster) (h : List Event) → Lawful cluster h → StepsFirst h }
-{
-}
+{}
 
-/// A cancellation is answered once, in the way that its command asks for, and names live tasks before that.
+/// Commands are numbered in order, and what a command begins with is the first that it does; documents are
+/// written only in a turn of work of a live task without a mark.
+pub fn commands_in_order()
+    ensures commands { (cluster : Cluster) → CommandsActInOrder cluster }
+    ensures writes { (cluster : Cluster) → WritesInTurns cluster }
+{}
+
+/// A cancellation is answered once, in the way that its command asks for; before that it names live tasks, each
+/// once.
 pub fn cancels_answered()
     ensures { (cluster : Cluster) → AnswersCancelsOnce cluster }
-{
-}
+{}
 
 /// The laws are not empty: a history with a waiting cancellation, an early child, a late child and a rejected
 /// request is lawful.

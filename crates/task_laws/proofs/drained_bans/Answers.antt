@@ -1,12 +1,12 @@
-use Rattle.std.proofs.Common.{◌≡◌, ◌+◌, ◌<◌, ℕ, Bool, true, false, cond, ◌&&◌, List, ◌∷◌, Option, Some, None, refl, sym, ap, ◌∙◌, arith, ◌≢◌}
+use Rattle.std.proofs.Common.{◌≡◌, ◌<◌, ℕ, true, cond, List, Option, Some, None, refl, arith, ◌≢◌}
 use Rattle.std.specs.Prelude.{is_some}
 use Rattle.std.specs.List.{list_all}
 use Rattle.task_ids.specs.declared.task_id.TaskId.{TaskId}
 use Rattle.task_events.specs.declared.event.Event.{Event}
 use Rattle.task_events.specs.Tasks.{has_ended}
 use Rattle.task_events.specs.Bans.{mark_of, banned_nodes, standing_ban, is_acked, is_gone, bans_are_placed, unbans_are_sent}
-use Rattle.task_events.specs.Laws.{LeavesNoBan, IsQuiet, IsDrained}
-use Rattle.task_laws.proofs.Numbers.{number, all_pass}
+use Rattle.task_events.specs.Laws.{IsQuiet, IsDrained}
+use Rattle.task_laws.proofs.Numbers.{all_pass}
 use Rattle.task_laws.proofs.Counts.{banned, freed}
 use Rattle.task_laws.proofs.InFlight.{bans_in_flight, acks_in_flight, unbans_in_flight}
 use Rattle.task_laws.proofs.Bans.{BanFacts, ban_facts}
@@ -52,11 +52,11 @@ drained n p h b e q (Some c) m = marked_none n p h b e q (rw m)
 -- where nothing moves at all, all is quiet
 quiet : (p : TaskId) (h : List Event) → IsDrained h → IsQuiet p h
 quiet p h d = record {
-    no_ban = λ n. rw d.nothing_in_flight;
-    no_listing = λ n. d.no_listing n p;
-    no_ack = λ n. rw d.nothing_in_flight;
-    no_unban = λ n. rw d.nothing_in_flight;
-  }
+  no_ban = λ n. rw d.nothing_in_flight;
+  no_listing = λ n. d.no_listing n p;
+  no_ack = λ n. rw d.nothing_in_flight;
+  no_unban = λ n. rw d.nothing_in_flight;
+}
 
 marked_ended : (slots : ℕ) (h : List Event) → CauseFacts slots h → IsDrained h → (p : TaskId) (c : ℕ) → mark_of p h ≡ Some c → has_ended p h ≡ true
 marked_ended slots h k d p c m = k.marked_lives p c m (d.nothing_live p)

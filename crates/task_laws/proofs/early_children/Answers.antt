@@ -1,12 +1,10 @@
-use Rattle.std.proofs.Common.{◌≡◌, ◌≢◌, ◌<◌, ℕ, Bool, true, false, cond, List, ◌∷◌, Option, Some, None, refl, arith}
+use Rattle.std.proofs.Common.{◌≡◌, ℕ, true, List, arith}
 use Rattle.task_ids.specs.declared.task_id.TaskId.{TaskId}
-use Rattle.task_ids.specs.declared.cluster.Cluster.{Cluster}
 use Rattle.task_events.specs.declared.event.Event.{Event}
-use Rattle.task_events.specs.Tasks.{is_live, has_ended, parent_of}
-use Rattle.task_events.specs.Bans.{mark_of, banned_nodes, bans_are_placed, is_listed}
+use Rattle.task_events.specs.Bans.{banned_nodes, bans_are_placed}
 use Rattle.task_events.specs.Cancels.{is_named}
 use Rattle.task_events.specs.Allowed.{HasAllMarked}
-use Rattle.task_events.specs.Laws.{CancelsEarlyChildren, ListsAllChildren, HasListedAll, is_banned}
+use Rattle.task_events.specs.Laws.{ListsAllChildren, HasListedAll}
 use Rattle.task_laws.proofs.Numbers.{in_list}
 use Rattle.task_laws.proofs.Asks.{AskFacts, ask_facts}
 use Rattle.task_laws.proofs.Bans.{BanFacts, ban_facts, placed_acked}

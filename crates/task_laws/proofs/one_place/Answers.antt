@@ -1,7 +1,7 @@
-use Rattle.std.proofs.Common.{◌≡◌, ◌+◌, ℕ, Bool, true, false, cond, List, arith}
+use Rattle.std.proofs.Common.{◌≡◌, ◌+◌, ℕ, true, false, cond, List, arith}
 use Rattle.task_ids.specs.declared.task_id.TaskId.{TaskId}
 use Rattle.task_events.specs.declared.event.Event.{Event}
-use Rattle.task_events.specs.Tasks.{is_live, has_ended, live_child}
+use Rattle.task_events.specs.Tasks.{has_ended, live_child}
 use Rattle.task_events.specs.Asks.{is_unanswered}
 use Rattle.task_events.specs.Messages.{is_request, is_answer, number_in_flight}
 use Rattle.task_events.specs.Laws.{OnePlace}

@@ -1,9 +1,8 @@
-use Rattle.std.proofs.Common.{◌≡◌, ◌≢◌, ◌+◌, ◌<◌, ◌≤◌, ℕ, Bool, true, false, cond, ◌&&◌, not, List, Some, None, Option, arith, refl}
-use Rattle.std.specs.Prelude.{is_some}
+use Rattle.std.proofs.Common.{◌≡◌, ◌≢◌, ◌+◌, ℕ, Bool, true, cond, ◌&&◌, not, List, None, arith}
 use Rattle.task_ids.specs.declared.task_id.TaskId.{TaskId}
 use Rattle.task_events.specs.declared.event.Event.{Event}
 use Rattle.task_events.specs.Tasks.{has_ended}
-use Rattle.task_events.specs.Bans.{mark_of, banned_nodes, standing_ban, listing_is_open, is_acked, is_gone, bans_are_placed, unbans_are_sent}
+use Rattle.task_events.specs.Bans.{mark_of, banned_nodes, listing_is_open, is_acked, is_gone, bans_are_placed, unbans_are_sent}
 use Rattle.task_events.specs.Messages.{is_ban, is_ack, is_unban, number_in_flight}
 use Rattle.task_events.specs.Laws.{OneStage, one_if, stands, is_banned}
 use Rattle.task_laws.proofs.Numbers.{in_list, both}
@@ -18,7 +17,6 @@ six : (b k u : ℕ) (st l a s g : Bool) → b + one_if l + k + one_if a ≡ 1 �
 six b k u st l a s g c y d p = grind (arith, p)
 
 module _ (h : List Event) (b : BanFacts h) where
-
   one_banned : (n : ℕ) (p : TaskId) → banned n p h ≡ one_if (is_banned n p h)
   one_banned n p = in_list n (banned_nodes p h) (b.once n p)
 
@@ -59,7 +57,7 @@ module _ (h : List Event) (b : BanFacts h) where
       + one_if (stands n p h && (is_acked n p h && not (unbans_are_sent p h))) + cond (stands n p h) (number_in_flight (is_unban n p) h) 0 + one_if (is_gone n p h) ≡ 1
   stage n p e =
       six (number_in_flight (is_ban n p) h) (number_in_flight (is_ack n p) h) (number_in_flight (is_unban n p) h) (stands n p h) (listing_is_open n p h) (is_acked n p h) (unbans_are_sent p h) (is_gone n p h)
-        (rw e at (placing n p)) (rw e at (standing n p)) (rw e at (going n p)) (sent_acked n p e)
+      (rw e at (placing n p)) (rw e at (standing n p)) (rw e at (going n p)) (sent_acked n p e)
 
   marked : (n : ℕ) (p : TaskId) → is_banned n p h ≡ true → mark_of p h ≢ None
   marked n p e m = let none = b.unmarked p m in let no = rw none at e in absurd (cc)

@@ -1,10 +1,8 @@
-use Rattle.std.proofs.Common.{◌≡◌, ◌≢◌, ℕ, Bool, true, false, List, ◌∷◌, Option, Some, None, refl, arith}
+use Rattle.std.proofs.Common.{◌≡◌, ℕ, Bool, true, false, List, ◌∷◌, refl, arith}
 use Rattle.task_ids.specs.declared.task_id.TaskId.{TaskId}
 use Rattle.task_events.specs.declared.event.Event.{Event}
 use Rattle.task_events.specs.declared.event.Event.TheVariants.{Put}
-use Rattle.task_events.specs.Same.{same_task}
 use Rattle.task_events.specs.Tasks.{is_live, has_ended, descends}
-use Rattle.task_events.specs.Cancels.{is_named, is_answered_done}
 use Rattle.task_events.specs.Laws.{WaitsForDescendants}
 use Rattle.task_laws.proofs.Same.{same_tests}
 use Rattle.task_laws.proofs.Asks.{AskFacts, ask_facts}
