@@ -16,15 +16,15 @@ use Rattle.task_top.specs.Kept.{RanAsRead}
 
 lawful_run : (cluster : Cluster) (corpus : Corpus) (search : Option SearchAsk) → Lawful cluster (run_of corpus search)
 unfolding same_task same_pair
-lawful_run cluster corpus None = (refl, tt)
+lawful_run cluster corpus None = (refl, tt, tt)
 lawful_run cluster corpus (Some ask) =
     let on_node : 1 ≤ cluster.nodes = cluster.nodes_in_range.0 in
     let has_slot : 0 < cluster.slots = omega (arith, cluster.slots_in_range.0) in
-    let begun : Lawful cluster (Begin 1 ∷ []) = (refl, tt) in
-    let started : Lawful cluster (Root 1 first_task ∷ Begin 1 ∷ []) = (record { begins = refl; in_cluster = on_node; takes = record { next = refl; free = has_slot } }, begun) in
-    let drained : Lawful cluster (Begin 2 ∷ Root 1 first_task ∷ Begin 1 ∷ []) = (refl, started) in
-    let working : Lawful cluster (Work first_task ∷ Begin 2 ∷ Root 1 first_task ∷ Begin 1 ∷ []) = (record { goes_on = record { live = refl; passed = refl }; unmarked = refl }, drained) in
-    (record { goes_on = record { live = refl; passed = refl }; answered = refl; cancelled = refl; no_rejection = refl }, working)
+    let begun : Lawful cluster (Begin 1 ∷ []) = (refl, tt, tt) in
+    let started : Lawful cluster (Root 1 first_task ∷ Begin 1 ∷ []) = (record { begins = refl; in_cluster = on_node; takes = record { next = refl; free = has_slot } }, begun, tt) in
+    let drained : Lawful cluster (Begin 2 ∷ Root 1 first_task ∷ Begin 1 ∷ []) = (refl, started, tt) in
+    let working : Lawful cluster (Work first_task ∷ Begin 2 ∷ Root 1 first_task ∷ Begin 1 ∷ []) = (record { goes_on = record { live = refl; passed = refl }; unmarked = refl }, drained, tt) in
+    (record { goes_on = record { live = refl; passed = refl }; answered = refl; cancelled = refl; no_rejection = refl }, working, tt)
 
 -- a first part of a lawful history is lawful
 lawful_part : (cluster : Cluster) (newer : ℕ) (whole : List Event) → Lawful cluster whole → Lawful cluster (drop newer whole)
