@@ -18,5 +18,4 @@ pub fn one_reading()
     ensures too_long { (input : List ℕ) → Refuses input 0 TooLong ↔ (max_input < length input) }
     ensures not_built { (input : List ℕ) → Refuses input 0 NotBuilt ↔ ((length input ≤ max_input) × (first_form input ≡ None)) }
     ensures no_other { (input : List ℕ) (line : ℕ) (cause : Cause) → Refuses input line cause → (line ≡ 0) × ((cause ≡ TooLong) ⊎ (cause ≡ NotBuilt)) }
-{
-}
+{}

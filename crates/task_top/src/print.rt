@@ -62,12 +62,7 @@ fn push_hits(alloc: Global, out: &mut Vec<u8>, hits: &[Hit]) -> Result<(), Alloc
 }
 
 /// Appends how many of so many shards failed and how many did not.
-fn push_shards(
-    alloc: Global,
-    out: &mut Vec<u8>,
-    shards: u64,
-    failed: u64,
-) -> Result<(), AllocError>
+fn push_shards(alloc: Global, out: &mut Vec<u8>, shards: u64, failed: u64) -> Result<(), AllocError>
     requires { failed ≤ shards }
     ensures { OnOk result (out.new.items ≡ out.old.items ++ compact_text (shards_json shards failed)) }
 {

@@ -9,10 +9,12 @@ use std::test::Fail;
 use task_ids::{Cause, Cluster};
 
 /// Two documents and a search for both.
-const FIRST_SEARCH: &str = "{\"index\":{\"_index\":\"a\",\"_id\":\"1\"}}\n{\"v\":7}\n{\"index\":{\"_index\":\"a\",\"_id\":\"2\"}}\n{\"v\":8,\"t\":\"x\"}\n--\n{\"search\":{\"index\":\"a\",\"body\":{\"query\":{\"match_all\":{}}}}}\n";
+const FIRST_SEARCH: &str =
+    "{\"index\":{\"_index\":\"a\",\"_id\":\"1\"}}\n{\"v\":7}\n{\"index\":{\"_index\":\"a\",\"_id\":\"2\"}}\n{\"v\":8,\"t\":\"x\"}\n--\n{\"search\":{\"index\":\"a\",\"body\":{\"query\":{\"match_all\":{}}}}}\n";
 
 /// Its one line.
-const FIRST_LINE: &str = "{\"command\":1,\"reply\":{\"_shards\":{\"failed\":0,\"successful\":1,\"total\":1},\"hits\":{\"hits\":[{\"_id\":\"1\",\"_index\":\"a\",\"_source\":{\"v\":7}},{\"_id\":\"2\",\"_index\":\"a\",\"_source\":{\"t\":\"x\",\"v\":8}}],\"total\":{\"relation\":\"eq\",\"value\":2}}}}\n";
+const FIRST_LINE: &str =
+    "{\"command\":1,\"reply\":{\"_shards\":{\"failed\":0,\"successful\":1,\"total\":1},\"hits\":{\"hits\":[{\"_id\":\"1\",\"_index\":\"a\",\"_source\":{\"v\":7}},{\"_id\":\"2\",\"_index\":\"a\",\"_source\":{\"t\":\"x\",\"v\":8}}],\"total\":{\"relation\":\"eq\",\"value\":2}}}}\n";
 
 /// How a call of `sim_top` over memory ended, what it kept, and the sink.
 #[derive(Drop)]
@@ -73,7 +75,11 @@ fn answers_the_first_search_in_pieces(rt: HostRuntime) -> Result<(), Fail> {
         let input = Vec::from_slice(rt.alloc(), FIRST_SEARCH.as_bytes())?;
         let ended = sim(rt.alloc(), input, piece, 0, 0)?;
         assert_eq!(rt; ended.status, Status::Done, "in pieces of {piece}");
-        assert_eq!(rt; ended.out.bytes(), FIRST_LINE.as_bytes(), "in pieces of {piece}");
+        assert_eq!(rt;
+            ended.out.bytes(),
+            FIRST_LINE.as_bytes(),
+            "in pieces of {piece}"
+        );
         assert_eq!(rt; ended.kept.corpus.lines.as_slice().len(), 2);
         assert_eq!(rt; ended.kept.script.commands.as_slice().len(), 1);
         assert_eq!(rt; ended.kept.history.len(), 5);
@@ -116,7 +122,11 @@ fn a_failing_write_leaves_the_pieces_before_it(rt: HostRuntime) -> Result<(), Fa
         assert_eq!(rt; ended.status, Status::WriteFault, "at call {call}");
         let sent = 5 * (call as usize - 1);
         assert!(rt; sent <= FIRST_LINE.len());
-        assert_eq!(rt; ended.out.bytes(), &FIRST_LINE.as_bytes()[..sent], "at call {call}");
+        assert_eq!(rt;
+            ended.out.bytes(),
+            &FIRST_LINE.as_bytes()[..sent],
+            "at call {call}"
+        );
         assert_eq!(rt; ended.kept.history.len(), 5, "at call {call}");
     }
     Ok(())
@@ -127,8 +137,14 @@ fn refuses_sources_that_are_no_whole_objects(rt: HostRuntime) -> Result<(), Fail
     for (source, status) in [
         ("{\"v\":-9223372036854775808}", Status::Done),
         ("{\"v\":18446744073709551615}", Status::Done),
-        ("{\"v\":-9223372036854775809}", Status::Refused(0, Cause::NotBuilt)),
-        ("{\"v\":18446744073709551616}", Status::Refused(0, Cause::NotBuilt)),
+        (
+            "{\"v\":-9223372036854775809}",
+            Status::Refused(0, Cause::NotBuilt),
+        ),
+        (
+            "{\"v\":18446744073709551616}",
+            Status::Refused(0, Cause::NotBuilt),
+        ),
         ("{\"v\":1.0}", Status::Refused(0, Cause::NotBuilt)),
         ("{\"v\":[{\"w\":1e2}]}", Status::Refused(0, Cause::NotBuilt)),
         ("{\"v\":-0}", Status::Refused(0, Cause::NotBuilt)),
@@ -139,7 +155,11 @@ fn refuses_sources_that_are_no_whole_objects(rt: HostRuntime) -> Result<(), Fail
         let input = with_source(rt.alloc(), source)?;
         let ended = sim_text(rt.alloc(), input.as_str())?;
         assert_eq!(rt; ended.status, status, "at {source}");
-        assert_eq!(rt; ended.has_read_nothing(), status != Status::Done, "at {source}");
+        assert_eq!(rt;
+            ended.has_read_nothing(),
+            status != Status::Done,
+            "at {source}"
+        );
         assert!(rt; ended.out.bytes().is_empty(), "at {source}");
     }
     Ok(())

@@ -117,10 +117,12 @@ fn newest_answer(history: &History) -> Option<&SearchReply>
     ensures { option_map (λ reply. reply.now) result ≡ newest_answer history.now }
 {
     match history.newest() {
-        Some(Event::End {
-            reply: Reply::Search(reply),
-            ..
-        }) => Some(reply.get()),
+        Some(
+            Event::End {
+                reply: Reply::Search(reply),
+                ..
+            },
+        ) => Some(reply.get()),
         _ => None,
     }
 }

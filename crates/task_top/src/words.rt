@@ -16,8 +16,7 @@ pub fn plan(words: &[String]) -> Result<Plan, PlanError>
                 && nodes.as_str() == "--nodes"
                 && one_node.as_str() == "1"
                 && shards.as_str() == "--shards"
-                && one_shard.as_str() == "1" =>
-        {
+                && one_shard.as_str() == "1" => {
             Ok(Plan::Sim(Cluster {
                 nodes: 1,
                 shards: 1,

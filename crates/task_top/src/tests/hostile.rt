@@ -54,13 +54,14 @@ fn reads_lines_up_to_the_longest(rt: HostRuntime) -> Result<(), Fail> {
 
 #[test]
 fn refuses_more_bytes_than_the_limit(rt: HostRuntime) -> Result<(), Fail> {
-    for (count, cause) in [
-        (67_108_864, Cause::NotBuilt),
-        (67_108_865, Cause::TooLong),
-    ] {
+    for (count, cause) in [(67_108_864, Cause::NotBuilt), (67_108_865, Cause::TooLong)] {
         let input = bytes_of(rt.alloc(), b'\n', count)?;
         let ended = sim(rt.alloc(), input, 65536, 0, 0)?;
-        assert_eq!(rt; ended.status, Status::Refused(0, cause), "with {count} newlines");
+        assert_eq!(rt;
+            ended.status,
+            Status::Refused(0, cause),
+            "with {count} newlines"
+        );
         assert!(rt; ended.has_read_nothing());
         assert!(rt; ended.out.bytes().is_empty());
     }
@@ -76,8 +77,16 @@ fn shows_each_status(rt: HostRuntime) -> Result<(), Fail> {
             1,
             "usage: tasktree sim|run [--nodes N] [--shards S] [--slots L] | gen N",
         ),
-        (Status::Refused(0, Cause::NotBuilt), 2, "tasktree: not built yet"),
-        (Status::Refused(12, Cause::NotWhole), 2, "tasktree: line 12: number is not whole"),
+        (
+            Status::Refused(0, Cause::NotBuilt),
+            2,
+            "tasktree: not built yet",
+        ),
+        (
+            Status::Refused(12, Cause::NotWhole),
+            2,
+            "tasktree: line 12: number is not whole",
+        ),
         (Status::ReadFault, 3, "tasktree: read failed"),
         (Status::WriteFault, 4, "tasktree: write failed"),
         (Status::Memory, 5, "tasktree: out of memory"),
@@ -106,7 +115,11 @@ fn plans_the_five_words_alone(rt: HostRuntime) -> Result<(), Fail> {
             words.push(String::from_str(rt.alloc(), word)?)?;
         }
         let planned = plan(words.as_slice());
-        assert_eq!(rt; matches!(planned, Ok(Plan::Sim(_))), is_planned, "at {line}");
+        assert_eq!(rt;
+            matches!(planned, Ok(Plan::Sim(_))),
+            is_planned,
+            "at {line}"
+        );
     }
     Ok(())
 }

@@ -28,9 +28,11 @@ returns-in_err-reply-clause-err c =
 
 pub returns-in_err-append-5-clause-err : goal.returns-in_err-append-5-clause-err
 returns-in_err-append-5-clause-err c =
-    on_err c.from_residual-in_err-append-5.result
-    (1, c.in_err-append-5.ensures.err
-    ∙ working c.requires.empty c.in_ok-append.ensures.ok c.first_task-task.ensures c.in_ok-append-2.ensures.ok c.in_ok-append-3.ensures.ok c.in_ok-append-4.ensures.ok)
+    on_err c.from_residual-in_err-append-5.result (
+      1,
+      c.in_err-append-5.ensures.err
+          ∙ working c.requires.empty c.in_ok-append.ensures.ok c.first_task-task.ensures c.in_ok-append-2.ensures.ok c.in_ok-append-3.ensures.ok c.in_ok-append-4.ensures.ok,
+    )
 
 pub returns-clause-ok : goal.returns-clause-ok
 returns-clause-ok c =

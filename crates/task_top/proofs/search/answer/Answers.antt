@@ -14,21 +14,21 @@ loop-line-preserved c =
     let line = c.line-item.result in
     let before = c.loop-line.invariant in
     elim c.if-eq.branch [
-      then-eq+in_ok-keep_first w ↦
-        let same : bytes_eq index line.index ≡ true = sym (w.if-eq.ensures ∙ ap (λ a. bytes_eq a c.as_str-in-loop-line.result.now) c.as_str.ensures ∙ ap (bytes_eq index) c.as_str-in-loop-line.ensures) in
-        record {
-          within = omega arith;
-          counted = w.total-is ∙ counted_more index lines i line c.loop-line-test.true c.line-item.is c.loop-line.total same before.counted;
-          first = w.hits-is ∙ w.in_ok-keep_first.ensures ∙ first_more index lines i line c.loop-line-test.true c.line-item.is c.loop-line.total c.loop-line.hits same before.counted before.first;
-        }
-    | else-eq w ↦
-        let other : bytes_eq index line.index ≡ false = sym (w.if-eq.ensures ∙ ap (λ a. bytes_eq a c.as_str-in-loop-line.result.now) c.as_str.ensures ∙ ap (bytes_eq index) c.as_str-in-loop-line.ensures) in
-        let kept = docs_same index lines i line c.loop-line-test.true c.line-item.is other in
-        record {
-          within = omega arith;
-          counted = w.total-is ∙ before.counted ∙ ap length (sym kept);
-          first = w.hits-is ∙ before.first ∙ ap (λ docs. take 10 (hits_from index 0 docs)) (sym kept);
-        }
+      | then-eq+in_ok-keep_first w ↦
+          let same : bytes_eq index line.index ≡ true = sym (w.if-eq.ensures ∙ ap (λ a. bytes_eq a c.as_str-in-loop-line.result.now) c.as_str.ensures ∙ ap (bytes_eq index) c.as_str-in-loop-line.ensures) in
+          record {
+            within = omega arith;
+            counted = w.total-is ∙ counted_more index lines i line c.loop-line-test.true c.line-item.is c.loop-line.total same before.counted;
+            first = w.hits-is ∙ w.in_ok-keep_first.ensures ∙ first_more index lines i line c.loop-line-test.true c.line-item.is c.loop-line.total c.loop-line.hits same before.counted before.first;
+          }
+      | else-eq w ↦
+          let other : bytes_eq index line.index ≡ false = sym (w.if-eq.ensures ∙ ap (λ a. bytes_eq a c.as_str-in-loop-line.result.now) c.as_str.ensures ∙ ap (bytes_eq index) c.as_str-in-loop-line.ensures) in
+          let kept = docs_same index lines i line c.loop-line-test.true c.line-item.is other in
+          record {
+            within = omega arith;
+            counted = w.total-is ∙ before.counted ∙ ap length (sym kept);
+            first = w.hits-is ∙ before.first ∙ ap (λ docs. take 10 (hits_from index 0 docs)) (sym kept);
+          }
     ]
 
 pub returns : goal.returns
