@@ -92,6 +92,11 @@ pub record CancelsEarlyChildren (cluster : Cluster) : Type 0 where
   pub placed : (c : ℕ) (h : List Event) → Lawful cluster (AnswerPlaced c ∷ h) → HasListedAll c h
   pub done : (c : ℕ) (h : List Event) → Lawful cluster (AnswerDone c ∷ h) → HasListedAll c h
 
+-- So from the end of a listing on, a live child of the banned task there is marked, or it was put late, after the
+-- ban with the mark's number.
+abbrev pub LetsNoChildEscape : List Event → Type 0
+LetsNoChildEscape h = (t p : TaskId) → parent_of t h ≡ Some p → is_listed t.node p h ≡ true → is_live t h ≡ true → mark_of t h ≡ None → late_ban t h ≡ mark_of p h
+
 -- After the answer of a cancellation that waits no task that it named is live, and no descendant of one.
 pub record WaitsForDescendants (h : List Event) : Type 0 where
   pub named : (c : ℕ) (t : TaskId) → is_answered_done c h ≡ true → is_named c t h ≡ true → has_ended t h ≡ true
