@@ -16,7 +16,7 @@ use Rattle.task_events.specs.Bans.{mark_of, late_ban, banned_nodes, standing_ban
 use Rattle.task_events.specs.Messages.{Message, in_flight, is_request, is_answer, is_ban, is_ack, is_unban, without, number_in_flight}
 use Rattle.task_events.specs.Messages.Message.{Request, Answer, Ban, Ack, Unban}
 use Rattle.task_events.specs.Cancels.{last_command, has_acted, turn_of, is_named, waits, found_none, is_answered_placed, is_answered_done, names_one_of}
-use Rattle.task_events.specs.Allowed.{cancellation_in}
+use Rattle.task_events.specs.Allowed.{cancellation_in, is_rejection}
 use Rattle.task_events.specs.Lawful.{AwaitsNoMark, Lawful}
 
 -- An ask is in one place: its request is in flight, or its child is live, or its answer is in flight; but in
@@ -92,6 +92,11 @@ pub record CancelsEarlyChildren (cluster : Cluster) : Type 0 where
   pub placed : (c : ℕ) (h : List Event) → Lawful cluster (AnswerPlaced c ∷ h) → HasListedAll c h
   pub done : (c : ℕ) (h : List Event) → Lawful cluster (AnswerDone c ∷ h) → HasListedAll c h
 
+-- So from the end of a listing on, a live child of the banned task there is marked, or it was put late, after the
+-- ban with the mark's number.
+abbrev pub LetsNoChildEscape : List Event → Type 0
+LetsNoChildEscape h = (t p : TaskId) → parent_of t h ≡ Some p → is_listed t.node p h ≡ true → is_live t h ≡ true → mark_of t h ≡ None → late_ban t h ≡ mark_of p h
+
 -- After the answer of a cancellation that waits no task that it named is live, and no descendant of one.
 pub record WaitsForDescendants (h : List Event) : Type 0 where
   pub named : (c : ℕ) (t : TaskId) → is_answered_done c h ≡ true → is_named c t h ≡ true → has_ended t h ≡ true
@@ -106,6 +111,8 @@ pub record CancelsWithCause (h : List Event) : Type 0 where
   pub refused_reply : (t : TaskId) (c : ℕ) → refusal_of t h ≡ Some c → reply_of t h ≡ Some (Cancelled t c)
   -- a task that was not refused has a cancelled reply exactly where it is marked, with the mark's number
   pub ended_reply : (t : TaskId) (reply : Reply) → reply_of t h ≡ Some reply → refusal_of t h ≡ None → cancellation_in reply ≡ option_map (λ c. (t, c)) (mark_of t h)
+  -- no task's reply is a rejection: that is said of an ask for which none was put
+  pub no_rejection : (t : TaskId) (reply : Reply) → reply_of t h ≡ Some reply → is_rejection reply ≡ false
   pub reply : (t u : TaskId) (c : ℕ) (reply : Reply) → reply_of t h ≡ Some reply → cancellation_in reply ≡ Some (u, c) → (u ≡ t) × (names_one_of c (t ∷ ancestors t h) h ≡ true)
 
 -- Each task that a cancellation named is marked, but for one that the newest event names.
@@ -129,8 +136,9 @@ pub record EventsHaveCauses (cluster : Cluster) : Type 0 where
   pub refused_by : (t : TaskId) (c : ℕ) (h : List Event) → Lawful cluster (Refuse t c ∷ h) → IsUnderBan t c h
   -- a task ends with a cancelled reply exactly where it is marked, with the mark's number
   pub ended_by : (t : TaskId) (reply : Reply) (h : List Event) → Lawful cluster (End t reply ∷ h) → cancellation_in reply ≡ option_map (λ c. (t, c)) (mark_of t h)
-  pub no_ask : (p : TaskId) (k n : ℕ) (h : List Event) → Lawful cluster (Ask p k n ∷ h) → mark_of p h ≡ None
-  pub no_work : (t : TaskId) (h : List Event) → Lawful cluster (Work t ∷ h) → mark_of t h ≡ None
+  -- a live task asks and works only after its first step, and only until it is marked
+  pub asks : (p : TaskId) (k n : ℕ) (h : List Event) → Lawful cluster (Ask p k n ∷ h) → (mark_of p h ≡ None) × (is_new p h ≡ false) × (is_live p h ≡ true)
+  pub works : (t : TaskId) (h : List Event) → Lawful cluster (Work t ∷ h) → (mark_of t h ≡ None) × (is_new t h ≡ false) × (is_live t h ≡ true)
   -- on the ask's node, a rejection comes exactly where as many tasks are live as it has slots
   pub rejected : (n : ℕ) (p : TaskId) (k : ℕ) (h : List Event) → Lawful cluster (Reject n p k ∷ h) → (live_on n h ≡ cluster.slots) × (node_of_ask p k h ≡ Some n)
   pub root_rejected : (k n : ℕ) (h : List Event) → Lawful cluster (RootRejected k n ∷ h) → (live_on n h ≡ cluster.slots) × (1 ≤ n) × (n ≤ cluster.nodes)

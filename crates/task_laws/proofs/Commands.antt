@@ -1,13 +1,12 @@
 -- What a command begins with is the first that it does.
-use Rattle.std.proofs.Common.{◌≡◌, ◌≢◌, ◌+◌, ◌≤◌, ◌<◌, ℕ, Bool, true, false, cond, List, [], ◌∷◌, Option, Some, None, refl, arith}
+use Rattle.std.proofs.Common.{◌≡◌, ◌≢◌, ◌+◌, ◌≤◌, ℕ, Bool, true, false, List, [], ◌∷◌, Option, Some, None, refl, arith}
 use Rattle.task_ids.specs.declared.task_id.TaskId.{TaskId}
 use Rattle.task_ids.specs.declared.cluster.Cluster.{Cluster}
 use Rattle.task_events.specs.declared.event.Event.{Event}
-use Rattle.task_events.specs.declared.event.Event.TheVariants.{Begin, Root, RootRejected, Ask, Put, Reject, Pass, Refuse, Cancel, NotFound, Mark, BanPut, Listed, Acked, BanGone, Work, Write, Answered, End, AnswerPlaced, AnswerDone, Tick}
+use Rattle.task_events.specs.declared.event.Event.TheVariants.{Begin, Root, RootRejected, Cancel, NotFound, Work, Write, AnswerPlaced, AnswerDone}
 use Rattle.task_events.specs.Tasks.{is_live}
 use Rattle.task_events.specs.Bans.{mark_of}
 use Rattle.task_events.specs.Cancels.{last_command, beginning, has_acted, waits, turn_of}
-use Rattle.task_events.specs.Allowed.{Allowed}
 use Rattle.task_events.specs.Lawful.{Lawful}
 use Rattle.task_laws.proofs.Same.{same_tests}
 

@@ -13,7 +13,7 @@ use Rattle.task_events.specs.Tasks.{is_live, has_ended, refusal_of, reply_of, pa
 use Rattle.task_events.specs.Bans.{mark_of, standing_ban, listing_is_open, ban_over, open_ban_over}
 use Rattle.task_events.specs.Cancels.{is_named, names_one_of}
 use Rattle.task_events.specs.Laws.{IsUnderBan, IsUnderListing}
-use Rattle.task_events.specs.Allowed.{Allowed, EndAllowed, cancellation_in, is_number}
+use Rattle.task_events.specs.Allowed.{Allowed, EndAllowed, cancellation_in, is_number, is_rejection}
 use Rattle.task_events.specs.Lawful.{Lawful}
 use Rattle.task_laws.proofs.Same.{same_tests}
 use Rattle.task_laws.proofs.Asks.{AskFacts, ask_facts}
@@ -57,6 +57,7 @@ pub record CauseFacts (slots : ℕ) (h : List Event) : Type 0 where
   pub refused_reply : (t : TaskId) (c : ℕ) → refusal_of t h ≡ Some c → reply_of t h ≡ Some (Cancelled t c)
   pub reply_ended : (t : TaskId) (r : Reply) → reply_of t h ≡ Some r → has_ended t h ≡ true
   pub ended_reply : (t : TaskId) (r : Reply) → reply_of t h ≡ Some r → refusal_of t h ≡ None → cancellation_in r ≡ option_map (λ c. (t, c)) (mark_of t h)
+  pub no_rejection : (t : TaskId) (r : Reply) → reply_of t h ≡ Some r → is_rejection r ≡ false
   -- a marked task is live or has ended
   pub marked_lives : (t : TaskId) (c : ℕ) → mark_of t h ≡ Some c → is_live t h ≡ false → has_ended t h ≡ true
   pub room : (n : ℕ) → live_on n h ≤ slots
@@ -106,6 +107,11 @@ module _ (cluster : Cluster) where
   keep_ended_reply (Mark u d) h a k f t r e i = let other : same_task t u ≡ false = grind (arith, same_tests, k.reply_ended t r, f.live_or_ended u) in rw other (k.ended_reply t r e i)
   keep_ended_reply _ h a k f t r e i = k.ended_reply t r e i
 
+  keep_no_rejection : (e : Event) (h : List Event) → Allowed cluster e h → CauseFacts cluster.slots h → (t : TaskId) (r : Reply) → reply_of t (e ∷ h) ≡ Some r → is_rejection r ≡ false
+  keep_no_rejection (Refuse u d) h a k t r e = grind (arith, same_tests, k.no_rejection t r)
+  keep_no_rejection (End u s) h a k t r e = grind (arith, same_tests, k.no_rejection t r)
+  keep_no_rejection _ h a k t r e = k.no_rejection t r e
+
   keep_marked_lives : (e : Event) (h : List Event) → Allowed cluster e h → CauseFacts cluster.slots h → (t : TaskId) (c : ℕ) → mark_of t (e ∷ h) ≡ Some c → is_live t (e ∷ h) ≡ false → has_ended t (e ∷ h) ≡ true
   keep_marked_lives (Root d u) h a k t c e i = grind (arith, same_tests, k.marked_lives t c)
   keep_marked_lives (Put u q j) h a k t c e i = grind (arith, same_tests, k.marked_lives t c)
@@ -152,6 +158,7 @@ module _ (cluster : Cluster) where
     refused_reply = λ t c e. absurd (cc);
     reply_ended = λ t r e. cc;
     ended_reply = λ t r e i. absurd (cc);
+    no_rejection = λ t r e. absurd (cc);
     marked_lives = λ t c e i. cc;
     room = λ n. omega arith;
   }
@@ -168,6 +175,7 @@ module _ (cluster : Cluster) where
         refused_reply = keep_refused_reply e h l.0 k f;
         reply_ended = keep_reply_ended e h l.0 k;
         ended_reply = keep_ended_reply e h l.0 k f;
+        no_rejection = keep_no_rejection e h l.0 k;
         marked_lives = keep_marked_lives e h l.0 k;
         room = keep_room e h l.0 k;
       }

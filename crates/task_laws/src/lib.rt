@@ -5,7 +5,7 @@ ghost use Rattle.std.specs.Prelude.{◌≡◌, ◌≢◌, ◌<◌, ◌≤◌, �
 ghost use Rattle.task_events.specs.declared.event.Event.{Event};
 ghost use Rattle.task_laws.specs.Example.{IsId, example};
 ghost use Rattle.task_events.specs.Lawful.{Lawful};
-ghost use Rattle.task_events.specs.Laws.{AnswersCancelsOnce, CancelsEarlyChildren, CancelsWithCause, CommandsActInOrder, DeliversAnyMessage, DrainsAll, EventsHaveCauses, LeavesNoBan, ListsLiveTasks, MarksNamedTasks, MessagesTellThePast, OnceInFlight, OnePlace, OneStage, ReachesEveryChild, RefusesLateChildren, RestsOnLeaves, StandsInCluster, StepsFirst, WaitsForDescendants, WritesInTurns};
+ghost use Rattle.task_events.specs.Laws.{AnswersCancelsOnce, CancelsEarlyChildren, CancelsWithCause, CommandsActInOrder, DeliversAnyMessage, DrainsAll, EventsHaveCauses, LeavesNoBan, LetsNoChildEscape, ListsLiveTasks, MarksNamedTasks, MessagesTellThePast, OnceInFlight, OnePlace, OneStage, ReachesEveryChild, RefusesLateChildren, RestsOnLeaves, StandsInCluster, StepsFirst, WaitsForDescendants, WritesInTurns};
 ghost use Rattle.task_events.specs.Tasks.{parent_of, descends};
 ghost use Rattle.task_events.specs.Cancels.{is_answered_done, is_named};
 ghost use Rattle.task_events.specs.Bans.{ban_put, late_ban};
@@ -46,9 +46,11 @@ pub fn drained_bans()
 {}
 
 /// A running earlier child is cancelled: a listing ends, and its acknowledgement is sent, only when every child
-/// of the banned task on the node is ended or marked, and a cancellation is answered only after that.
+/// of the banned task on the node is ended or marked, and a cancellation is answered only after that. From then on
+/// each live child of that task there is marked, or was put late and is to be refused.
 pub fn early_children()
-    ensures { (cluster : Cluster) → CancelsEarlyChildren cluster }
+    ensures listed { (cluster : Cluster) → CancelsEarlyChildren cluster }
+    ensures later { (cluster : Cluster) (h : List Event) → Lawful cluster h → LetsNoChildEscape h }
 {}
 
 /// A cancellation that waits is answered only when none of its tasks and none of their descendants is live, and

@@ -46,6 +46,7 @@ law slots h k = record {
   refusal = k.refusal;
   refused_reply = k.refused_reply;
   ended_reply = k.ended_reply;
+  no_rejection = k.no_rejection;
   reply = λ t u c r e i. named_by slots h k t u c r e i (refusal_of t h) refl (mark_of t h) refl;
 }
 
@@ -62,8 +63,8 @@ returns-clause-events c = λ cluster. record {
   marked_by = λ t d h l. marked_by t d h l.0.cause;
   refused_by = λ t d h l. refused_under t d h l.0.ban;
   ended_by = λ t r h l. l.0.cancelled;
-  no_ask = λ p k n h l. l.0.unmarked;
-  no_work = λ t h l. l.0.unmarked;
+  asks = λ p k n h l. (l.0.unmarked, l.0.goes_on.passed, l.0.goes_on.live);
+  works = λ t h l. (l.0.unmarked, l.0.goes_on.passed, l.0.goes_on.live);
   rejected = λ n p k h l. (full cluster.slots n h (cause_facts cluster h l.1) l.0.full, l.0.node);
   root_rejected = λ k n h l. (full cluster.slots n h (cause_facts cluster h l.1) l.0.full, l.0.low, l.0.high);
   put = λ t p k h l. (l.0.takes.free, l.0.node);

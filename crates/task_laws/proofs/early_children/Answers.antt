@@ -8,6 +8,7 @@ use Rattle.task_events.specs.Laws.{ListsAllChildren, HasListedAll}
 use Rattle.task_laws.proofs.Numbers.{in_list}
 use Rattle.task_laws.proofs.Asks.{AskFacts, ask_facts}
 use Rattle.task_laws.proofs.Bans.{BanFacts, ban_facts, placed_acked}
+use Rattle.task_laws.proofs.Escapes.{escape_facts}
 use Rattle.task_laws.proofs.early_children.Goals as goal
 
 listed : (n : ℕ) (p : TaskId) (h : List Event) → AskFacts h → HasAllMarked n p h → ListsAllChildren n p h
@@ -19,9 +20,12 @@ all_listed c h b placed t n i e =
     let acked = placed_acked n t h (placed t i) (omega arith) in
     grind (arith, b.listed n t)
 
-pub returns : goal.returns
-returns c = λ cluster. record {
+pub returns-clause-listed : goal.returns-clause-listed
+returns-clause-listed c = λ cluster. record {
   listed = λ n p h l. listed n p h (ask_facts cluster h l.1) l.0.all_marked;
   placed = λ d h l. all_listed d h (ban_facts cluster h l.1) l.0.placed;
   done = λ d h l. all_listed d h (ban_facts cluster h l.1) l.0.placed;
 }
+
+pub returns-clause-later : goal.returns-clause-later
+returns-clause-later c = λ cluster h l. (escape_facts cluster h l).no_escape
