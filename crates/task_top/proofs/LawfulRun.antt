@@ -3,10 +3,10 @@ use Rattle.std.proofs.Common.{◌≡◌, ℕ, zero, suc, ◌<◌, ◌≤◌, Lis
 use Rattle.task_ids.specs.declared.cluster.Cluster.{Cluster}
 use Rattle.task_ids.specs.declared.corpus.Corpus.{Corpus}
 use Rattle.task_events.specs.declared.event.Event.{Event}
-use Rattle.task_events.specs.declared.event.Event.TheVariants.{Begin, Root, Work, End}
+use Rattle.task_events.specs.declared.event.Event.TheVariants.{Begin, Root, Work}
 use Rattle.task_events.specs.declared.reply.SearchAsk.{SearchAsk}
 use Rattle.task_events.specs.Lawful.{Lawful}
-use Rattle.task_events.specs.Run.{first_task, answer_to, run_of}
+use Rattle.task_events.specs.Run.{first_task, run_of}
 use Rattle.task_events.specs.Same.{same_task, same_pair}
 use Rattle.task_top.specs.declared.kept.Kept.{Kept}
 use Rattle.task_top.specs.declared.status.Status.{Status}

@@ -1,5 +1,5 @@
 -- Five words, each known by its place.
-use Rattle.std.proofs.Common.{◌≡◌, ℕ, ◌≤◌, ◌<◌, List, [], ◌∷◌, length, get_or, arith, ap, sym, ◌∙◌, map, codes, Global, String, string_bytes}
+use Rattle.std.proofs.Common.{◌≡◌, ◌≤◌, ◌<◌, List, [], ◌∷◌, length, get_or, arith, sym}
 
 pub five : {X : Type 0} (ws : List X) (a b c d e : X) → 5 ≤ length ws → length ws < 6
     → a ≡ get_or ws 0 a → b ≡ get_or ws 1 b → c ≡ get_or ws 2 c → d ≡ get_or ws 3 d → e ≡ get_or ws 4 e → ws ≡ a ∷ b ∷ c ∷ d ∷ e ∷ []

@@ -1,5 +1,5 @@
 -- The JSON of a line, and objects that have certain keys and no other.
-use Rattle.std.specs.Prelude.{ℕ, List, length, codes, Bool, false, not, ◌&&◌, ◌==◌, if◌then◌else◌, nat_le, is_some, Option, Some, None, option_and_then}
+use Rattle.std.specs.Prelude.{ℕ, List, length, Bool, false, not, ◌&&◌, ◌==◌, if◌then◌else◌, nat_le, is_some, Option, Some, None, option_and_then}
 use Rattle.std.specs.Option.{option_map_or}
 use Rattle.std.specs.Str.{is_utf8}
 use Rattle.serde_json.specs.Data.{Data}

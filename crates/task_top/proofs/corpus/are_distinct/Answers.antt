@@ -1,4 +1,4 @@
-use Rattle.std.proofs.Common.{◌≡◌, ℕ, List, Bor, [], ◌∷◌, ◌++◌, Bool, true, false, not, map, take, cond, ap, sym, ◌∙◌, arith, rules, take_all, le_refl}
+use Rattle.std.proofs.Common.{◌≡◌, ℕ, List, Bor, [], ◌∷◌, ◌++◌, not, map, take, cond, ap, sym, ◌∙◌, arith, rules, take_all}
 use Rattle.std.specs.List.{list_any}
 use Rattle.task_top.specs.FirstForm.{is_same_document, are_distinct}
 use Rattle.task_top.proofs.DistinctLemmas.{name_of_line, name_of_key, found_among, was_found, was_not_found, not_distinct, distinct_more, named_more}

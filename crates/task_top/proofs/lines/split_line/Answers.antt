@@ -1,4 +1,4 @@
-use Rattle.std.proofs.Common.{◌≡◌, ◌<◌, length, take, drop, ◌-◌, ap, ◌∙◌, sym, arith}
+use Rattle.std.proofs.Common.{◌<◌, length, arith}
 use Rattle.task_top.proofs.LinesLemmas.{lines-unended, lines-ended, rest_after}
 use Rattle.task_top.proofs.lines.split_line.Goals as goal
 

@@ -1,4 +1,3 @@
-use Rattle.std.proofs.Common.{◌++◌, codes, ap, ◌∙◌, sym, rules}
 use Rattle.task_top.proofs.PrintLemmas.{hit_text}
 use Rattle.task_top.proofs.print.push_hit.Goals as goal
 

@@ -1,6 +1,4 @@
-use Rattle.std.proofs.Common.{◌≡◌, [], ◌∷◌, ap, ◌∙◌}
-use Rattle.task_events.specs.declared.event.Event.TheVariants.{Begin, Root, Work, End}
-use Rattle.task_events.specs.Run.{first_task}
+use Rattle.std.proofs.Common.{◌∙◌}
 use Rattle.task_top.proofs.RunLemmas.{on_err, begun, started, drained, working, ended}
 use Rattle.task_top.proofs.run.run_search.Goals as goal
 

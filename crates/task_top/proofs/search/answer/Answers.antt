@@ -1,7 +1,6 @@
-use Rattle.std.proofs.Common.{◌≡◌, ◌≤◌, [], ◌+◌, ◌++◌, true, false, take, length, ap, sym, ◌∙◌, arith, take_all}
+use Rattle.std.proofs.Common.{◌≡◌, true, false, take, length, ap, sym, ◌∙◌, arith, take_all}
 use Rattle.std.specs.Str.{bytes_eq}
 use Rattle.task_events.specs.declared.reply.Reply.TheVariants.{Search}
-use Rattle.task_top.specs.Search.{hit_below}
 use Rattle.task_top.proofs.AnswerLemmas.{docs_of, hits_from, is_answer, docs_same, counted_more, first_more}
 use Rattle.task_top.proofs.search.answer.Goals as goal
 use Rattle.task_top.proofs.search.answer.Goals.{then-eq+in_ok-keep_first, else-eq}

@@ -1,4 +1,4 @@
-use Rattle.std.proofs.Common.{◌≡◌, sym, ◌∙◌, ap}
+use Rattle.std.proofs.Common.{sym, ◌∙◌, ap}
 use Rattle.task_top.specs.FirstForm.{first_form}
 use Rattle.task_top.proofs.LawfulRun.{lawful_as_read}
 use Rattle.task_top.proofs.TopLemmas.{too_long, not_built, read_as}
