@@ -17,7 +17,7 @@ use task_ids::TaskId;
 /// cancellations that banned them.
 ///
 /// A step finds its ban without a scan of the others.
-#[derive(Drop)]
+#[derive(Debug, Drop)]
 pub struct BanTable {
     alloc: Global,
     bans: BTreeMap<TaskId, u32>,
@@ -72,7 +72,8 @@ impl BanTable {
     /// Puts a ban of the parent, unless one stands. Where one stands, or memory runs out, nothing has changed.
     pub fn put(&mut self, parent: TaskId, cancel: u32) -> Result<BanPut, AllocError>
         requires { IsCancel cancel }
-        ensures there { (standing : ℕ) → (result ≡ Ok (BanPut.There standing)) ↔ (finite.get self.old parent ≡ Some standing) }
+        ensures there { (standing : ℕ) → (result ≡ Ok (BanPut.There standing))
+            ↔ (finite.get self.old parent ≡ Some standing) }
         ensures put { result ≡ Ok BanPut.Put → self.new ≡ finite.insert self.old parent cancel }
         ensures kept { result ≢ Ok BanPut.Put → self.new ≡ self.old }
     {

@@ -1,0 +1,4 @@
+pub mod Acts
+pub mod Cancellation
+pub mod Cancellations
+pub mod Stage

@@ -1,0 +1,5 @@
+pub mod Shapes
+pub mod Sizes
+pub mod Each
+pub mod Nodes
+pub mod Entries

@@ -1,0 +1,56 @@
+use Rattle.std.proofs.Common.{◌≡◌, ◌<◌, true, Ok, sym, ap, ◌∙◌, rules, arith}
+use Rattle.std.specs.List.{list_all}
+use Rattle.std.proofs.lemmas.Result.{err_from_is_err_and}
+use Rattle.serde_json.specs.View.{view, items_view, members_view}
+use Rattle.query_parse.specs.Paths.{path_text}
+use Rattle.query_parse.specs.Reading.{member_keys, is_clause_name, least_of, bool_of}
+use Rattle.query_parse.specs.View.{queries_view}
+use Rattle.query_parse.proofs.Nodes.{view-Bool, clause_in-none, clause_in-some, query_in-some, goes_on, ends, is_done}
+use Rattle.query_parse.proofs.Sizes.{data_size, items_size, members_size, size-get_member, size-item}
+use Rattle.query_parse.proofs.reading.+read.Goals as goal
+
+pub read_bool-returns : goal.read_bool-returns
+unfolding bool_of
+read_bool-returns t c =
+    let ms = members_view c.args.members.now.entries in
+    let known : list_all is_clause_name (member_keys ms) ≡ true = search rules in
+    let least : c.least_of-least.result ≡ least_of c.in_ok-minimum.minimum (queries_view c.in_ok-must.must.items) (queries_view c.in_ok-filter.filter.items) (queries_view c.in_ok-should.should.items) =
+    rw (← c.deref.ensures.value, ← c.deref-2.ensures.value, ← c.deref-3.ensures.value) c.least_of-least.ensures in
+    rw (known, c.in_ok-filter.ensures, c.in_ok-minimum.ensures, c.in_ok-must.ensures, c.in_ok-must_not.ensures, c.in_ok-should.ensures, least)
+    (ap Ok (sym (view-Bool c.in_ok-must.must c.in_ok-filter.filter c.in_ok-should.should c.in_ok-must_not.must_not _)))
+
+pub read_clause-read_queries-requires : goal.read_clause-read_queries-requires
+read_clause-read_queries-requires t c =
+    let lt : data_size (view c.in-Some.value.now) < members_size (members_view c.args.members.now.entries) = size-get_member c.args.name.now (view c.in-Some.value.now) (members_view c.args.members.now.entries) c.in-Some.ensures in
+    (omega arith, tt)
+
+pub read_clause-returns-in-None : goal.read_clause-returns-in-None
+read_clause-returns-in-None t c = clause_in-none (path_text c.args.path.now) c.args.name.now (members_view c.args.members.now.entries) c.in-None.ensures ∙ ap (λ ns. Ok (queries_view ns)) (sym c.new.ensures.items)
+
+pub read_clause-returns-in-Some : goal.read_clause-returns-in-Some
+read_clause-returns-in-Some t c =
+    rw (clause_in-some (path_text c.args.path.now) c.args.name.now (members_view c.args.members.now.entries) (view c.in-Some.value.now) c.in-Some.ensures, ← c.key.ensures) c.read_queries.ensures
+
+pub read_entry-returns-in-Some : goal.read_entry-returns-in-Some
+read_entry-returns-in-Some t c =
+    rw (query_in-some (path_text c.args.path.now) (members_view c.args.members.now.entries) c.in-Some.name.now (view c.in-Some.value.now) c.in-Some.ensures, ← c.key.ensures, ← c.named.ensures) c.read_named.ensures
+
+pub read_list-read_node-requires : goal.read_list-read_node-requires
+read_list-read_node-requires t c =
+    let lt : data_size (view c.index-values-i.result) < items_size (items_view c.args.values.now) = rw c.index-values-i.is (size-item c.args.values.now c.loop-i.i c.index-values-i.result c.loop-i-test.true) in
+    (omega arith, tt)
+
+pub read_list-loop-i-preserved : goal.read_list-loop-i-preserved
+read_list-loop-i-preserved t c =
+    rw c.in_ok-push.ensures.items
+    (goes_on (path_text c.args.path.now) c.loop-i.i c.args.values.now c.index-values-i.result c.loop-i.nodes.items _ (path_text c.place.result) _ c.loop-i-test.true c.index-values-i.is c.loop-i.invariant c.place.ensures c.in_ok-node.ensures)
+
+pub read_list-returns-in_err-node : goal.read_list-returns-in_err-node
+read_list-returns-in_err-node t c =
+    let p = err_from_is_err_and c.from_residual-in_err-node.result c.from_residual-in_err-node.ensures.1 in
+    rw (p.1, p.2)
+    (ends c.in_err-node.field-0.0 (path_text c.args.path.now) c.loop-i.i c.args.values.now c.index-values-i.result c.loop-i.nodes.items (path_text c.place.result) _ c.loop-i-test.true c.index-values-i.is
+    c.loop-i.invariant c.place.ensures c.in_err-node.ensures)
+
+pub read_list-returns : goal.read_list-returns
+read_list-returns t c = is_done (path_text c.args.path.now) c.loop-i.i c.args.values.now c.loop-i.nodes.items _ c.loop-i-test.false c.loop-i.invariant

@@ -1,0 +1,143 @@
+//! Reading the body of a search from a JSON value.
+
+ghost use Rattle.std.specs.Prelude.{◌≡◌, MatchOption, Some, None, option_map, codes};
+ghost use Rattle.serde_json.specs.Find.{get_member};
+ghost use Rattle.serde_json.specs.View.{view, members_view};
+ghost use Rattle.query_parse.specs.Bodies.{Gives, count_of, count_or, from_of, size_of, is_body_field, unknown_field, query_of, known_body_at, body_at};
+
+use crate::body::{BodyError, SearchBody};
+use crate::fault::QueryFault;
+use crate::query::Query;
+use crate::reading::read_query;
+use crate::shape::member;
+use crate::sort_reading::read_sort;
+use crate::text::Text;
+use serde_json::{Map, Value};
+use std::alloc::Global;
+
+const DEFAULT_SIZE: u32 = 10;
+
+const GREATEST_WINDOW: u64 = 10000;
+
+/// A whole number from 0 to 2^32-1.
+fn count_of(value: &Value) -> Option<u32>
+    ensures { result ≡ count_of (view value.now) }
+{
+    match value.as_u64() {
+        Some(number) if number < 1 << 32 => Some(number as u32),
+        _ => None,
+    }
+}
+
+fn count_or(default: u32, value: Option<&Value>) -> Option<u32>
+    ensures { result ≡ count_or default (option_map (λ v. view v.now) value.entry) }
+{
+    match value {
+        None => Some(default),
+        Some(value) => count_of(value),
+    }
+}
+
+#[tactic(auto, unfolding(crate::specs::Bodies::from_of))]
+fn read_from(alloc: Global, zero: bool, value: Option<&Value>) -> Result<u32, BodyError>
+    ensures { Gives (λ n. n) result (from_of zero (option_map (λ v. view v.now) value.entry)) }
+{
+    match count_or(0, value) {
+        Some(from) if !zero || from == 0 => Ok(from),
+        _ => Err(BodyError::BadSize(Text::from_str(alloc, "from")?)),
+    }
+}
+
+#[tactic(auto, unfolding(crate::specs::Bodies::size_of))]
+fn read_size(alloc: Global, least: u32, value: Option<&Value>) -> Result<u32, BodyError>
+    ensures { Gives (λ n. n) result (size_of least (option_map (λ v. view v.now) value.entry)) }
+{
+    match count_or(DEFAULT_SIZE, value) {
+        Some(size) if least <= size => Ok(size),
+        _ => Err(BodyError::BadSize(Text::from_str(alloc, "size")?)),
+    }
+}
+
+fn is_body_field(name: &str) -> bool
+    ensures { result ≡ is_body_field name.now }
+{
+    name == "query"
+        || name == "sort"
+        || name == "from"
+        || name == "size"
+        || name == "track_total_hits"
+}
+
+/// The first key that no body has.
+fn unknown_field(members: &Map<String, Value>) -> Option<&str>
+    ensures { option_map (λ f. f.now) result ≡ unknown_field (members_view members.now.entries) }
+{
+    for (key, _) in members.iter() {
+        if !is_body_field(key.as_str()) {
+            return Some(key.as_str());
+        }
+    }
+    None
+}
+
+#[tactic(auto, unfolding(crate::specs::Bodies::query_of))]
+fn query_or_all(alloc: Global, value: Option<&Value>) -> Result<Query, BodyError>
+    ensures { Gives (λ q. q) result (query_of (option_map (λ v. view v.now) value.entry)) }
+{
+    match value {
+        None => Ok(Query::all()),
+        Some(value) => Ok(read_query(alloc, value)?),
+    }
+}
+
+/// A body without unknown fields.
+#[tactic(auto, unfolding(crate::specs::Bodies::known_body_at))]
+fn read_known(
+    alloc: Global,
+    members: &Map<String, Value>,
+    zero: bool,
+    least: u32,
+) -> Result<SearchBody, BodyError>
+    ensures { Gives (λ b. b) result (known_body_at zero least (members_view members.now.entries)) }
+{
+    let query = query_or_all(alloc, member(members, "query"))?;
+    let sort = read_sort(alloc, member(members, "sort"))?;
+    let from = read_from(alloc, zero, member(members, "from"))?;
+    let size = read_size(alloc, least, member(members, "size"))?;
+    let window = from as u64 + size as u64;
+    if window <= GREATEST_WINDOW {
+        Ok(SearchBody {
+            query,
+            sort,
+            from,
+            size,
+        })
+    } else {
+        Err(BodyError::WindowTooLarge(window))
+    }
+}
+
+/// The body of a search that a JSON value is, after Elasticsearch's search body: `query`, `sort`, `from`, `size`, and `track_total_hits`, which is passed over.
+///
+/// `zero` says that `from` must be 0, and `least` is the least `size`: true and 1 for a scroll, else false and 0.
+///
+/// An error tells the first fault, looked for in the order of unknown fields, the query, the sort, `from`, `size` and the window. `Memory` comes only for want of memory.
+pub fn read_body(
+    alloc: Global,
+    value: &Value,
+    zero: bool,
+    least: u32,
+) -> Result<SearchBody, BodyError>
+    ensures { Gives (λ b. b) result (body_at zero least (view value.now)) }
+{
+    let Value::Object(members) = value else {
+        return Err(BodyError::BadQuery {
+            path: Text::from_str(alloc, "")?,
+            kind: QueryFault::BadValue,
+        });
+    };
+    match unknown_field(members) {
+        Some(field) => Err(BodyError::UnknownField(Text::from_str(alloc, field)?)),
+        None => read_known(alloc, members, zero, least),
+    }
+}

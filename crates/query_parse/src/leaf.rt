@@ -1,0 +1,251 @@
+//! Queries that hold no query.
+
+ghost use Rattle.std.specs.Prelude.{◌≡◌, option_map};
+ghost use Rattle.serde_json.specs.Find.{as_str};
+ghost use Rattle.serde_json.specs.View.{view, items_view, members_view};
+ghost use Rattle.query_parse.specs.Answers.{Gives};
+ghost use Rattle.query_parse.specs.Found.{found_view};
+ghost use Rattle.query_parse.specs.Paths.{path_text};
+ghost use Rattle.query_parse.specs.Reading.{each_at, empty_at, term_at, terms_at, bound_of, bound_at, bounds_at, range_at, prefix_at, exists_at, ids_at, leaf_at};
+ghost use Rattle.query_parse.specs.Values.{value_of};
+ghost use Rattle.query_parse.specs.View.{query_view};
+
+use crate::fault::{QueryError, QueryFault};
+use crate::form::Form;
+use crate::found::{Found, value_in};
+use crate::items::Items;
+use crate::path::Path;
+use crate::query::{Node, Range, Test};
+use crate::scalar::Scalar;
+use crate::shape::{has_bounds_alone, member, only_member, only_named, unwrapped};
+use crate::text::Text;
+use serde_json::{Map, Value};
+use std::alloc::Global;
+
+/// `{f: v}` or `{f: {"value": v}}`.
+#[tactic(auto, unfolding(crate::specs::Reading::term_at))]
+fn read_term(alloc: Global, path: &Path<'_>, value: &Value) -> Result<Node, QueryError>
+    ensures { Gives query_view result (term_at (path_text path.now) (view value.now)) }
+{
+    let Some((field, inner)) = only_member(value) else {
+        return Err(path.fault(alloc, QueryFault::BadValue));
+    };
+    let at_field = path.key(field);
+    let (at_value, inner) = unwrapped(&at_field, inner);
+    match value_in(inner) {
+        Some(found) => Ok(Node::Field(
+            Text::from_str(alloc, field)?,
+            Test::Equals(found.kept(alloc)?),
+        )),
+        None => Err(at_value.fault(alloc, QueryFault::BadValue)),
+    }
+}
+
+fn read_scalars(
+    alloc: Global,
+    path: &Path<'_>,
+    values: &[Value],
+) -> Result<Items<Scalar>, QueryError>
+    ensures { Gives (λ xs. xs) result (each_at value_of (path_text path.now) 0 (items_view values.now)) }
+{
+    let mut read = Vec::with_capacity(alloc, values.len())?;
+    for (i, value) in values.iter().enumerate() {
+        match value_in(value) {
+            Some(found) => read.push(found.kept(alloc)?)?,
+            None => return Err(path.place(i).fault(alloc, QueryFault::BadValue)),
+        }
+    }
+    Ok(Items::from_vec(read))
+}
+
+fn read_texts(alloc: Global, path: &Path<'_>, values: &[Value]) -> Result<Items<Text>, QueryError>
+    ensures { Gives (λ xs. xs) result (each_at as_str (path_text path.now) 0 (items_view values.now)) }
+{
+    let mut read = Vec::with_capacity(alloc, values.len())?;
+    for (i, value) in values.iter().enumerate() {
+        match value.as_str() {
+            Some(text) => read.push(Text::from_str(alloc, text)?)?,
+            None => return Err(path.place(i).fault(alloc, QueryFault::BadValue)),
+        }
+    }
+    Ok(Items::from_vec(read))
+}
+
+/// `{f: [v, v]}`.
+#[tactic(auto, unfolding(crate::specs::Reading::terms_at))]
+fn read_terms(alloc: Global, path: &Path<'_>, value: &Value) -> Result<Node, QueryError>
+    ensures { Gives query_view result (terms_at (path_text path.now) (view value.now)) }
+{
+    let Some((field, inner)) = only_member(value) else {
+        return Err(path.fault(alloc, QueryFault::BadValue));
+    };
+    let at_field = path.key(field);
+    let Some(values) = inner.as_array() else {
+        return Err(at_field.fault(alloc, QueryFault::BadValue));
+    };
+    let values = read_scalars(alloc, &at_field, values.as_slice())?;
+    Ok(Node::Field(Text::from_str(alloc, field)?, Test::OneOf(values)))
+}
+
+/// A whole number or a text.
+fn bound_in(value: &Value) -> Option<Found<'_>>
+    ensures { option_map found_view result ≡ bound_of (view value.now) }
+{
+    match value {
+        Value::Bool(_) => None,
+        _ => value_in(value),
+    }
+}
+
+#[tactic(auto, unfolding(crate::specs::Reading::bound_at))]
+fn read_bound(
+    alloc: Global,
+    path: &Path<'_>,
+    name: &str,
+    members: &Map<String, Value>,
+) -> Result<Option<Scalar>, QueryError>
+    ensures { Gives (λ x. x) result
+        (bound_at (path_text path.now) name.now (members_view members.now.entries)) }
+{
+    match member(members, name) {
+        None => Ok(None),
+        Some(value) => match bound_in(value) {
+            Some(found) => Ok(Some(found.kept(alloc)?)),
+            None => Err(path.key(name).fault(alloc, QueryFault::BadValue)),
+        },
+    }
+}
+
+#[tactic(auto, unfolding(crate::specs::Reading::bounds_at))]
+fn read_bounds(
+    alloc: Global,
+    path: &Path<'_>,
+    members: &Map<String, Value>,
+) -> Result<Range, QueryError>
+    ensures { Gives (λ x. x) result (bounds_at (path_text path.now) (members_view members.now.entries)) }
+{
+    if !has_bounds_alone(members) {
+        return Err(path.fault(alloc, QueryFault::BadValue));
+    }
+    let above = read_bound(alloc, path, "gt", members)?;
+    let from = read_bound(alloc, path, "gte", members)?;
+    let below = read_bound(alloc, path, "lt", members)?;
+    let to = read_bound(alloc, path, "lte", members)?;
+    Ok(Range {
+        above,
+        from,
+        below,
+        to,
+    })
+}
+
+/// `{f: {"gte", "gt", "lte", "lt"}}`.
+#[tactic(auto, unfolding(crate::specs::Reading::range_at))]
+fn read_range(alloc: Global, path: &Path<'_>, value: &Value) -> Result<Node, QueryError>
+    ensures { Gives query_view result (range_at (path_text path.now) (view value.now)) }
+{
+    let Some((field, inner)) = only_member(value) else {
+        return Err(path.fault(alloc, QueryFault::BadValue));
+    };
+    let at_field = path.key(field);
+    let Some(members) = inner.as_object() else {
+        return Err(at_field.fault(alloc, QueryFault::BadValue));
+    };
+    let range = read_bounds(alloc, &at_field, members)?;
+    Ok(Node::Field(Text::from_str(alloc, field)?, Test::Within(range)))
+}
+
+/// `{f: t}` or `{f: {"value": t}}`.
+#[tactic(auto, unfolding(crate::specs::Reading::prefix_at))]
+fn read_prefix(alloc: Global, path: &Path<'_>, value: &Value) -> Result<Node, QueryError>
+    ensures { Gives query_view result (prefix_at (path_text path.now) (view value.now)) }
+{
+    let Some((field, inner)) = only_member(value) else {
+        return Err(path.fault(alloc, QueryFault::BadValue));
+    };
+    let at_field = path.key(field);
+    let (at_value, inner) = unwrapped(&at_field, inner);
+    match inner.as_str() {
+        Some(front) => Ok(Node::Field(
+            Text::from_str(alloc, field)?,
+            Test::Starts(Text::from_str(alloc, front)?),
+        )),
+        None => Err(at_value.fault(alloc, QueryFault::BadValue)),
+    }
+}
+
+/// `{"field": f}`.
+#[tactic(auto, unfolding(crate::specs::Reading::exists_at))]
+fn read_exists(alloc: Global, path: &Path<'_>, value: &Value) -> Result<Node, QueryError>
+    ensures { Gives query_view result (exists_at (path_text path.now) (view value.now)) }
+{
+    let Some(inner) = only_named("field", value) else {
+        return Err(path.fault(alloc, QueryFault::BadValue));
+    };
+    match inner.as_str() {
+        Some(field) => Ok(Node::Field(Text::from_str(alloc, field)?, Test::Exists)),
+        None => Err(path.key("field").fault(alloc, QueryFault::BadValue)),
+    }
+}
+
+/// `{"values": [t, t]}`.
+#[tactic(auto, unfolding(crate::specs::Reading::ids_at))]
+fn read_ids(alloc: Global, path: &Path<'_>, value: &Value) -> Result<Node, QueryError>
+    ensures { Gives query_view result (ids_at (path_text path.now) (view value.now)) }
+{
+    let Some(inner) = only_named("values", value) else {
+        return Err(path.fault(alloc, QueryFault::BadValue));
+    };
+    let at_values = path.key("values");
+    let Some(values) = inner.as_array() else {
+        return Err(at_values.fault(alloc, QueryFault::BadValue));
+    };
+    Ok(Node::Ids(read_texts(alloc, &at_values, values.as_slice())?))
+}
+
+#[tactic(auto, unfolding(crate::specs::Reading::empty_at))]
+fn read_empty(alloc: Global, path: &Path<'_>, value: &Value) -> Result<(), QueryError>
+    ensures { Gives (λ x. x) result (empty_at (path_text path.now) (view value.now)) }
+{
+    match value {
+        Value::Object(members) => {
+            if members.is_empty() {
+                Ok(())
+            } else {
+                Err(path.fault(alloc, QueryFault::BadValue))
+            }
+        }
+        _ => Err(path.fault(alloc, QueryFault::BadValue)),
+    }
+}
+
+/// A query of a kind that holds no query, from what stands at its key.
+pub(crate) fn read_leaf(
+    alloc: Global,
+    form: Option<Form>,
+    path: &Path<'_>,
+    value: &Value,
+) -> Result<Node, QueryError>
+    ensures { Gives query_view result (leaf_at form (path_text path.now) (view value.now)) }
+{
+    let Some(form) = form else {
+        return Err(path.fault(alloc, QueryFault::UnknownQuery));
+    };
+    match form {
+        Form::All => {
+            read_empty(alloc, path, value)?;
+            Ok(Node::All)
+        }
+        Form::Nothing => {
+            read_empty(alloc, path, value)?;
+            Ok(Node::Nothing)
+        }
+        Form::Term => read_term(alloc, path, value),
+        Form::Terms => read_terms(alloc, path, value),
+        Form::Range => read_range(alloc, path, value),
+        Form::Prefix => read_prefix(alloc, path, value),
+        Form::Exists => read_exists(alloc, path, value),
+        Form::Ids => read_ids(alloc, path, value),
+        Form::Bool => Err(path.fault(alloc, QueryFault::BadValue)),
+    }
+}

@@ -1,0 +1,100 @@
+//! The shapes of JSON values that bodies are made of.
+
+ghost use Rattle.std.specs.Prelude.{◌≡◌, option_map};
+ghost use Rattle.std.specs.List.{list_all};
+ghost use Rattle.serde_json.specs.Find.{get_member};
+ghost use Rattle.serde_json.specs.View.{view, members_view};
+ghost use Rattle.query_parse.specs.Paths.{path_text};
+ghost use Rattle.query_parse.specs.Reading.{only_entry, only_member, only_named, unwrapped, member_keys, is_bound_name, is_clause_name};
+
+use crate::path::Path;
+use serde_json::{Map, Value};
+
+/// The key and the value, where there is one key.
+pub(crate) fn only_entry(members: &Map<String, Value>) -> Option<(&str, &Value)>
+    ensures { option_map (λ m. (m.0.now, view m.1.now)) result ≡ only_entry (members_view members.now.entries) }
+{
+    if members.len() != 1 {
+        return None;
+    }
+    match members.first_key_value() {
+        Some((key, value)) => Some((key.as_str(), value)),
+        None => None,
+    }
+}
+
+/// The key and the value of an object with one key.
+pub(crate) fn only_member(value: &Value) -> Option<(&str, &Value)>
+    ensures { option_map (λ m. (m.0.now, view m.1.now)) result ≡ only_member (view value.now) }
+{
+    match value {
+        Value::Object(members) => only_entry(members),
+        _ => None,
+    }
+}
+
+/// The value of an object with this key alone.
+pub(crate) fn only_named<'v>(name: &str, value: &'v Value) -> Option<&'v Value>
+    ensures { option_map (λ v. view v.now) result ≡ only_named name.now (view value.now) }
+{
+    match only_member(value) {
+        Some((key, inner)) if key == name => Some(inner),
+        _ => None,
+    }
+}
+
+/// The value of a member, if it is there.
+pub(crate) fn member<'v>(members: &'v Map<String, Value>, name: &str) -> Option<&'v Value>
+    ensures { option_map (λ v. view v.now) result ≡ get_member name.now (members_view members.now.entries) }
+{
+    members.get(name)
+}
+
+/// `v` and its path, for `v` or `{"value": v}` at a path.
+pub(crate) fn unwrapped<'a>(path: &'a Path<'a>, value: &'a Value) -> (Path<'a>, &'a Value)
+    ensures path { path_text result.0 ≡ (unwrapped (path_text path.now) (view value.now)).0 }
+    ensures value { view result.1.now ≡ (unwrapped (path_text path.now) (view value.now)).1 }
+{
+    match only_named("value", value) {
+        Some(inner) => (path.key("value"), inner),
+        None => (*path, value),
+    }
+}
+
+fn is_bound_name(name: &str) -> bool
+    ensures { result ≡ is_bound_name name.now }
+{
+    name == "gt" || name == "gte" || name == "lt" || name == "lte"
+}
+
+fn is_clause_name(name: &str) -> bool
+    ensures { result ≡ is_clause_name name.now }
+{
+    name == "filter"
+        || name == "minimum_should_match"
+        || name == "must"
+        || name == "must_not"
+        || name == "should"
+}
+
+pub(crate) fn has_bounds_alone(members: &Map<String, Value>) -> bool
+    ensures { result ≡ list_all is_bound_name (member_keys (members_view members.now.entries)) }
+{
+    for (key, _) in members.iter() {
+        if !is_bound_name(key.as_str()) {
+            return false;
+        }
+    }
+    true
+}
+
+pub(crate) fn has_clauses_alone(members: &Map<String, Value>) -> bool
+    ensures { result ≡ list_all is_clause_name (member_keys (members_view members.now.entries)) }
+{
+    for (key, _) in members.iter() {
+        if !is_clause_name(key.as_str()) {
+            return false;
+        }
+    }
+    true
+}

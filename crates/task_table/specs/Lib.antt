@@ -1,0 +1,4 @@
+pub mod Answer
+pub mod Rows
+pub mod Table
+pub mod TicketParts

@@ -1,0 +1,13 @@
+//! The table of a node's live tasks: who runs, under which number, for whom, and which cancellation marked it.
+#![tactic(auto)]
+
+mod ended;
+mod rows;
+mod table;
+#[cfg(test)]
+mod tests;
+mod ticket;
+
+pub use ended::{Ended, MarkAnswer, PutError};
+pub use table::TaskTable;
+pub use ticket::Ticket;
