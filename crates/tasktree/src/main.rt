@@ -4,7 +4,7 @@
 //! status says which kind it was.
 #![tactic(auto)]
 
-ghost use Rattle.std.specs.Prelude.{IfOk};
+ghost use Rattle.std.specs.Prelude.{◌≡◌, ◌⊎◌, IfOk, IfErr};
 ghost use Rattle.task_top.specs.Plan.{IsSmallSim};
 
 use es_io::{StdSink, StdSource};
@@ -15,7 +15,9 @@ use std::rt::Env;
 use task_top::{Plan, PlanError, Status, plan, sim_top};
 
 /// The words after the program's name. A word that is not UTF-8 makes the command line a faulty one.
-fn words<R: Env + AllocGlobal>(rt: &R) -> Result<Vec<String>, Status> {
+fn words<R: Env + AllocGlobal>(rt: &R) -> Result<Vec<String>, Status>
+    ensures { IfErr result (λ status. (status ≡ Status.Usage) ⊎ (status ≡ Status.Memory)) }
+{
     let mut args = match env::args(rt) {
         Ok(args) => args,
         Err(error) if error.kind() == ErrorKind::OutOfMemory => return Err(Status::Memory),
@@ -30,7 +32,8 @@ fn words<R: Env + AllocGlobal>(rt: &R) -> Result<Vec<String>, Status> {
 
 /// What the command line asks for.
 fn planned<R: Env + AllocGlobal>(rt: &R) -> Result<Plan, Status>
-    ensures { IfOk result IsSmallSim }
+    ensures sim { IfOk result IsSmallSim }
+    ensures fault { IfErr result (λ status. (status ≡ Status.Usage) ⊎ (status ≡ Status.Memory)) }
 {
     let words = words(rt)?;
     match plan(words.as_slice()) {
