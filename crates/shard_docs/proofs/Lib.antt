@@ -1,0 +1,9 @@
+pub mod ActionLemmas
+pub mod CorpusLemmas
+pub mod FloatLemmas
+pub mod Ids
+pub mod LinesLemmas
+pub mod NamesLemmas
+pub mod RowLemmas
+pub mod SeenLemmas
+pub mod TableLemmas

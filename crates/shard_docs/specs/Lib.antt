@@ -1,0 +1,10 @@
+pub mod BulkAction
+pub mod Corpus
+pub mod CorpusRead
+pub mod Deaths
+pub mod Ends
+pub mod Fault
+pub mod Json
+pub mod Seen
+pub mod Tables
+pub mod Written

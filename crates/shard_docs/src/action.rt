@@ -1,0 +1,106 @@
+ghost use Rattle.std.specs.Prelude.{◌≡◌, false, option_map};
+ghost use Rattle.std.specs.Option.{ok_or};
+ghost use Rattle.serde_json.specs.Find.{get};
+ghost use Rattle.serde_json.specs.View.{view};
+ghost use Rattle.serde_json.specs.Written.{has_float};
+ghost use Rattle.std.specs.Prelude.{codes, string_bytes};
+ghost use Rattle.shard_docs.specs.BulkAction as spec;
+ghost use Rattle.shard_docs.specs.Fault.{Gives, on_line};
+
+use crate::fault::CorpusError;
+use crate::json_line::whole_value_of_line;
+use serde_json::Value;
+use std::alloc::Global;
+use task_ids::{Cause, Text};
+
+/// How a document is written.
+#[derive(Clone, Copy, Debug, PartialEq, Eq)]
+pub(crate) enum BulkKind {
+    /// In the place of a document of its id, if there is one.
+    Index,
+    /// Only where no document of its id is there.
+    Create,
+}
+
+/// What an action line asks for: how its document is written, where, and under which id.
+#[derive(Debug, Drop)]
+pub(crate) struct BulkAction {
+    pub(crate) kind: BulkKind,
+    pub(crate) index: Text,
+    pub(crate) id: Text,
+}
+
+fn has_one_key(value: &Value) -> bool
+    ensures { result ≡ spec.has_one_key (view value.now) }
+{
+    match value.as_object() {
+        Some(members) => members.len() == 1,
+        None => false,
+    }
+}
+
+/// The kind of an action and what it is about, on a line of this number.
+fn kind_of(number: u32, value: &Value) -> Result<(BulkKind, &Value), CorpusError>
+    ensures { Gives (λ choice. (choice.0, view choice.1.now)) result (on_line number (spec.kind_of (view value.now))) }
+{
+    if !has_one_key(value) {
+        return Err(CorpusError::at(number, Cause::BadAction));
+    }
+    if let Some(target) = value.get("index") {
+        return Ok((BulkKind::Index, target));
+    }
+    match value.get("create") {
+        Some(target) => Ok((BulkKind::Create, target)),
+        None => Err(CorpusError::at(number, Cause::UnknownAction)),
+    }
+}
+
+/// The index that an action is about.
+fn index_of(target: &Value) -> Option<&str>
+    ensures { option_map (λ name. name.now) result ≡ spec.index_of (view target.now) }
+{
+    let name = target.get("_index")?.as_str()?;
+    if name.is_empty() { None } else { Some(name) }
+}
+
+/// An id that is written on a line of this number.
+fn written_id(alloc: Global, number: u32, id: &Value) -> Result<String, CorpusError>
+    requires { has_float (view id.now) ≡ false }
+    ensures { Gives (λ text. string_bytes text) result (on_line number (ok_or (spec.written_id (view id.now)) Cause.BadAction)) }
+{
+    match id {
+        Value::String(text) if !text.is_empty() => Ok(text.clone()?),
+        Value::Number(_) => Ok(id.to_string(alloc)?),
+        _ => Err(CorpusError::at(number, Cause::BadAction)),
+    }
+}
+
+/// The id that an action on a line of this number is about.
+fn id_of(alloc: Global, number: u32, target: &Value) -> Result<String, CorpusError>
+    requires { has_float (view target.now) ≡ false }
+    ensures { Gives (λ text. string_bytes text) result (on_line number (ok_or (spec.id_or_auto number (get (codes "_id") (view target.now))) Cause.BadAction)) }
+{
+    match target.get("_id") {
+        Some(id) => written_id(alloc, number, id),
+        None => Ok(format!(in alloc; "auto-{number}")?),
+    }
+}
+
+/// The action of a line, which has this number.
+#[tactic(auto, unfolding(crate::specs::BulkAction::action_of))]
+pub(crate) fn action_of_line(
+    alloc: Global,
+    number: u32,
+    line: &[u8],
+) -> Result<BulkAction, CorpusError>
+    ensures { Gives (λ action. action) result (on_line number (spec.action_of number line.now)) }
+{
+    let value = whole_value_of_line(alloc, number, line)?;
+    let (kind, target) = kind_of(number, &value)?;
+    let Some(index) = index_of(target) else {
+        return Err(CorpusError::at(number, Cause::BadAction));
+    };
+    let index = Text::new(String::from_str(alloc, index)?);
+    let id = Text::new(id_of(alloc, number, target)?);
+    Ok(BulkAction { kind, index, id })
+}

@@ -1,0 +1,111 @@
+ghost use Rattle.std.specs.Prelude.{◌≡◌, ◌+◌, ◌-◌, ◌<◌, ◌≤◌, ◌^◌, length, IfOk};
+ghost use Rattle.std.specs.Str.Lines.{lines};
+ghost use Rattle.shard_docs.specs.Corpus.{source_line, document, corpus_of};
+ghost use Rattle.shard_docs.specs.CorpusRead.{read_of};
+ghost use Rattle.shard_docs.specs.Ends.{IsEndOf};
+ghost use Rattle.shard_docs.specs.Fault.{Gives};
+ghost use Rattle.shard_docs.specs.Seen.{has_name, with_name};
+
+use crate::action::{BulkAction, BulkKind, action_of_line};
+use crate::fault::CorpusError;
+use crate::json_line::source_of_line;
+use crate::lines::split_line;
+use crate::seen::Seen;
+use std::alloc::Global;
+use task_ids::{Cause, Corpus, CorpusLine, Doc, Items};
+
+/// The line between the documents and the script.
+const DASHES: &str = "--";
+
+/// What was read of an input up to its script.
+#[derive(Debug, Drop)]
+pub struct CorpusRead {
+    /// The documents, in the order of the input.
+    pub corpus: Corpus,
+    /// Where the script begins in the bytes: after the line `--`, or at the end.
+    pub script_at: usize,
+    /// The number of the script's first line, counted from 1 over the whole input.
+    pub script_line: u32,
+}
+
+/// The line of the source of an action at a line, and what follows it.
+fn source_after(number: u32, bytes: &[u8]) -> Result<(&[u8], &[u8]), CorpusError>
+    ensures gives { Gives (λ source. (source.0.now, lines source.1.now)) result (source_line number (lines bytes.now)) }
+    ensures shorter { IfOk result (λ source. length source.1.now < length bytes.now) }
+    ensures ends { IfOk result (λ source. IsEndOf source.1.now bytes.now) }
+{
+    let missing = CorpusError::at(number, Cause::NoSource);
+    match split_line(bytes) {
+        Some((line, _)) if line == DASHES.as_bytes() => Err(missing),
+        Some(source) => Ok(source),
+        None => Err(missing),
+    }
+}
+
+/// The document of an action at a line and of its source on the next line. It is noted.
+#[tactic(auto, unfolding(crate::specs::Corpus::document))]
+fn document_of(
+    alloc: Global,
+    seen: &mut Seen,
+    number: u32,
+    action: BulkAction,
+    source: &[u8],
+) -> Result<CorpusLine, CorpusError>
+    requires { number + 1 < 2 ^ 32 }
+    ensures gives { Gives (λ line. line) result (document number (has_name action.index action.id seen.old) action source.now) }
+    ensures noted { IfOk result (λ line. seen.new ≡ with_name line.index line.doc.id seen.old) }
+{
+    let is_new = seen.insert(action.index.as_str(), action.id.as_str())?;
+    if action.kind == BulkKind::Create && !is_new {
+        return Err(CorpusError::at(number, Cause::Conflict));
+    }
+    let source = source_of_line(alloc, number + 1, source)?;
+    let BulkAction { index, id, .. } = action;
+    let doc = Doc { id, source };
+    Ok(CorpusLine { index, doc })
+}
+
+/// Reads the documents of an input, up to the line `--` or the end. The input has at most 67,108,864 bytes.
+///
+/// A document is an action line and a line with its source, after Elasticsearch's bulk API: `{"index":{"_index":I}}` or
+/// `{"create":{"_index":I}}`, maybe with an `_id`, a text or a whole number; without one its id is `auto-` and the number
+/// of the action's line. The error is the first bad line and the first of its causes in the order of `Cause`; or want of
+/// memory.
+pub fn read_corpus(alloc: Global, bytes: &[u8]) -> Result<CorpusRead, CorpusError>
+    requires { length bytes.now ≤ 67108864 }
+    ensures gives { Gives (read_of bytes.now) result (corpus_of (lines bytes.now)) }
+    ensures within { IfOk result (λ read. read.script_at ≤ length bytes.now) }
+{
+    let mut found = Items::new(alloc);
+    let mut seen = Seen::new(alloc);
+    let mut number = 1;
+    let mut rest = bytes;
+    while let Some((line, after)) = split_line(rest) {
+        if line.is_empty() {
+            number += 1;
+            rest = after;
+            continue;
+        }
+        if line == DASHES.as_bytes() {
+            return Ok(read_up_to(found, bytes.len() - after.len(), number + 1));
+        }
+        let action = action_of_line(alloc, number, line)?;
+        let (source, after) = source_after(number, after)?;
+        found.push(document_of(alloc, &mut seen, number, action, source)?)?;
+        number += 2;
+        rest = after;
+    }
+    Ok(read_up_to(found, bytes.len() - rest.len(), number))
+}
+
+fn read_up_to(lines: Items<CorpusLine>, script_at: usize, script_line: u32) -> CorpusRead
+    ensures lines { result.corpus.lines ≡ lines }
+    ensures place { result.script_at ≡ script_at }
+    ensures number { result.script_line ≡ script_line }
+{
+    CorpusRead {
+        corpus: Corpus { lines },
+        script_at,
+        script_line,
+    }
+}

@@ -1,0 +1,69 @@
+ghost use Rattle.std.specs.Prelude.{◌≡◌, ◌≤◌, ◌<◌, ◌+◌, ◌^◌, false, IfOk};
+ghost use Rattle.serde_json.specs.Data.{depth};
+ghost use Rattle.serde_json.specs.Read.{max_depth};
+ghost use Rattle.serde_json.specs.View.{view};
+ghost use Rattle.serde_json.specs.Written.{has_float};
+ghost use Rattle.shard_docs.specs.Fault.{Gives, on_line};
+ghost use Rattle.shard_docs.specs.Json.{json_of, whole_json_of, source_of};
+
+use crate::fault::CorpusError;
+use serde_json::Value;
+use std::alloc::Global;
+use task_ids::{Cause, DocSource, NotSource, is_whole};
+
+/// How many bytes a line has at most, without its end.
+const MAX_LINE: usize = 1_048_576;
+
+/// The JSON of a line, which has this number. It is refused, in this order, where it has more than 1,048,576 bytes,
+/// where it is not UTF-8, and where it is not JSON that nests at most 127 deep.
+#[tactic(auto, unfolding(crate::specs::Json::json_of, crate::specs::Json::max_line))]
+fn value_of_line(alloc: Global, number: u32, line: &[u8]) -> Result<Value, CorpusError>
+    ensures value { Gives view result (on_line number (json_of line.now)) }
+    ensures nests { IfOk result (λ value. depth (view value) ≤ max_depth) }
+{
+    if line.len() > MAX_LINE {
+        return Err(CorpusError::at(number, Cause::LineTooLong));
+    }
+    let Ok(text) = str::from_utf8(line) else {
+        return Err(CorpusError::at(number, Cause::BadUtf8));
+    };
+    match Value::from_str(alloc, text) {
+        Ok(value) => Ok(value),
+        Err(error) if error.is_memory() => Err(CorpusError::Memory),
+        Err(_) => Err(CorpusError::at(number, Cause::BadJson)),
+    }
+}
+
+/// The JSON of a line, which has this number and whose numbers are all whole. It is refused, in this order, where it has
+/// more than 1,048,576 bytes, where it is not UTF-8, where it is not JSON that nests at most 127 deep, and where a number
+/// is not whole.
+#[tactic(auto, unfolding(crate::specs::Json::whole_json_of))]
+pub fn whole_value_of_line(alloc: Global, number: u32, line: &[u8]) -> Result<Value, CorpusError>
+    ensures value { Gives view result (on_line number (whole_json_of line.now)) }
+    ensures nests { IfOk result (λ value. depth (view value) ≤ max_depth) }
+    ensures whole { IfOk result (λ value. has_float (view value) ≡ false) }
+{
+    let value = value_of_line(alloc, number, line)?;
+    if is_whole(&value) {
+        Ok(value)
+    } else {
+        Err(CorpusError::at(number, Cause::NotWhole))
+    }
+}
+
+/// The source of a document, on a line of this number.
+#[tactic(auto, unfolding(crate::specs::Json::whole_json_of, crate::specs::Json::source_of))]
+pub(crate) fn source_of_line(
+    alloc: Global,
+    number: u32,
+    line: &[u8],
+) -> Result<DocSource, CorpusError>
+    ensures { Gives (λ source. source) result (on_line number (source_of line.now)) }
+{
+    let value = value_of_line(alloc, number, line)?;
+    match DocSource::new(value) {
+        Ok(source) => Ok(source),
+        Err(NotSource::NotWhole) => Err(CorpusError::at(number, Cause::NotWhole)),
+        Err(NotSource::NotObject) => Err(CorpusError::at(number, Cause::NotObject)),
+    }
+}

@@ -1,0 +1,21 @@
+//! Documents: where they lie, the rows of a shard at every version, and reading a corpus.
+#![tactic(auto)]
+
+mod action;
+mod corpus;
+mod fault;
+mod json_line;
+mod lines;
+mod placing;
+mod seen;
+mod shard;
+#[cfg(test)]
+mod tests;
+
+pub use corpus::{CorpusRead, read_corpus};
+pub use fault::CorpusError;
+pub use json_line::whole_value_of_line;
+pub use lines::split_line;
+pub use placing::{hash_id, node_of, shard_of, slice_of};
+pub use shard::{Shard, Written};
+pub use task_ids::{Corpus, CorpusLine, Doc};
