@@ -1,11 +1,12 @@
--- The orders of values and of keys are total.
-use Rattle.std.specs.Prelude.{◌≡◌, ℕ, ℤ, List, Bool, ◌⊎◌, refl}
+-- The orders of values and of keys are total, and what they tie is equal.
+use Rattle.std.specs.Prelude.{◌≡◌, ℕ, ℤ, List, Bool, true, false, ◌⊎◌, refl}
 use Rattle.std.proofs.Common.{inl, inr, ap, sym, ◌∙◌}
 use Rattle.std.specs.declared.cmp.Ordering.{Ordering}
 use Rattle.std.specs.declared.cmp.Ordering.TheVariants.{Less, Equal, Greater}
 use Rattle.std.specs.Ordering.{ordering_reverse, nat_cmp, int_cmp, bool_cmp, on, flip_args}
 use Rattle.std.specs.Cmp.{IsTotalOrder, on_total, back_total, int_cmp_total, bool_cmp_total}
 use Rattle.std.specs.Cmp.Lexicographic.{slice_cmp, nat_list_cmp_total, lists_total}
+use Rattle.std.specs.FinMap.{IsAntisymmetric, nat_cmp-IsAntisymmetric, int_cmp-IsAntisymmetric, slice_cmp-IsAntisymmetric}
 use Rattle.query_parse.specs.declared.scalar.Scalar.{Scalar}
 use Rattle.query_parse.specs.declared.scalar.Scalar.TheVariants.{Whole, Text, Bool as Truth}
 use Rattle.query_parse.specs.declared.sort.KeyPart.{KeyPart}
@@ -105,3 +106,33 @@ part_cmp_total = same_total part_cmp-kinds (on_total part_kind (kinds_total valu
 
 pub key_cmp_total : IsTotalOrder key_cmp
 key_cmp_total = lists_total part_cmp_total
+
+-- ---- what ties is equal
+
+pub value_cmp_equal : IsAntisymmetric value_cmp
+value_cmp_equal (Whole a) (Whole b) h = ap Whole (int_cmp-IsAntisymmetric a b h)
+value_cmp_equal (Whole a) (Text t) h = absurd cc
+value_cmp_equal (Whole a) (Truth c) h = absurd cc
+value_cmp_equal (Text s) (Whole b) h = absurd cc
+value_cmp_equal (Text s) (Text t) h = ap Text (slice_cmp-IsAntisymmetric nat_cmp-IsAntisymmetric s t h)
+value_cmp_equal (Text s) (Truth c) h = absurd cc
+value_cmp_equal (Truth a) (Whole b) h = absurd cc
+value_cmp_equal (Truth a) (Text t) h = absurd cc
+value_cmp_equal (Truth true) (Truth true) h = refl
+value_cmp_equal (Truth true) (Truth false) h = absurd cc
+value_cmp_equal (Truth false) (Truth true) h = absurd cc
+value_cmp_equal (Truth false) (Truth false) h = refl
+
+pub part_cmp_equal : IsAntisymmetric part_cmp
+part_cmp_equal (Ascending v) (Ascending w) h = ap Ascending (value_cmp_equal v w h)
+part_cmp_equal (Ascending v) (Descending w) h = absurd cc
+part_cmp_equal (Ascending v) Missing h = absurd cc
+part_cmp_equal (Descending v) (Ascending w) h = absurd cc
+part_cmp_equal (Descending v) (Descending w) h = ap Descending (sym (value_cmp_equal w v h))
+part_cmp_equal (Descending v) Missing h = absurd cc
+part_cmp_equal Missing (Ascending w) h = absurd cc
+part_cmp_equal Missing (Descending w) h = absurd cc
+part_cmp_equal Missing Missing h = refl
+
+pub key_cmp_equal : (a b : List KeyPart) → key_cmp a b ≡ Equal → a ≡ b
+key_cmp_equal = slice_cmp-IsAntisymmetric part_cmp_equal

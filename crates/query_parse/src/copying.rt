@@ -1,47 +1,71 @@
-//! Copies of queries and bodies.
+//! Copies of lists, queries, bodies and their errors.
 
 ghost use Rattle.std.specs.Prelude.{◌≡◌, IfOk};
 ghost use Rattle.query_parse.specs.View.{query_view, queries_view};
 
 use crate::body::{BodyError, SearchBody};
+use crate::fault::QueryError;
 use crate::items::Items;
 use crate::query::{Node, Query, Range, Test};
 use crate::scalar::Scalar;
-use crate::sort::SortBy;
+use crate::sort::{KeyPart, SortBy};
 use crate::text::Text;
 use std::alloc::AllocError;
 
-fn copy_texts(texts: &Items<Text>) -> Result<Items<Text>, AllocError>
-    ensures { IfOk result (λ copies. copies ≡ texts.now) }
-{
-    let items = texts.as_slice();
-    let mut copies = Vec::with_capacity(texts.allocator(), items.len())?;
-    for item in items {
-        copies.push(item.copy()?)?;
+impl Items<Text> {
+    /// Equal texts. It fails only for want of memory.
+    pub fn copy(&self) -> Result<Items<Text>, AllocError>
+        ensures { IfOk result (λ copies. copies ≡ self.now) }
+    {
+        let items = self.as_slice();
+        let mut copies = Vec::with_capacity(self.allocator(), items.len())?;
+        for item in items {
+            copies.push(item.copy()?)?;
+        }
+        Ok(Items::from_vec(copies))
     }
-    Ok(Items::from_vec(copies))
 }
 
-fn copy_scalars(values: &Items<Scalar>) -> Result<Items<Scalar>, AllocError>
-    ensures { IfOk result (λ copies. copies ≡ values.now) }
-{
-    let items = values.as_slice();
-    let mut copies = Vec::with_capacity(values.allocator(), items.len())?;
-    for item in items {
-        copies.push(item.copy()?)?;
+impl Items<Scalar> {
+    /// Equal values. It fails only for want of memory.
+    pub fn copy(&self) -> Result<Items<Scalar>, AllocError>
+        ensures { IfOk result (λ copies. copies ≡ self.now) }
+    {
+        let items = self.as_slice();
+        let mut copies = Vec::with_capacity(self.allocator(), items.len())?;
+        for item in items {
+            copies.push(item.copy()?)?;
+        }
+        Ok(Items::from_vec(copies))
     }
-    Ok(Items::from_vec(copies))
 }
 
-fn copy_sort(sort: &Items<SortBy>) -> Result<Items<SortBy>, AllocError>
-    ensures { IfOk result (λ copies. copies ≡ sort.now) }
-{
-    let items = sort.as_slice();
-    let mut copies = Vec::with_capacity(sort.allocator(), items.len())?;
-    for item in items {
-        copies.push(item.copy()?)?;
+impl Items<SortBy> {
+    /// Equal entries. It fails only for want of memory.
+    pub fn copy(&self) -> Result<Items<SortBy>, AllocError>
+        ensures { IfOk result (λ copies. copies ≡ self.now) }
+    {
+        let items = self.as_slice();
+        let mut copies = Vec::with_capacity(self.allocator(), items.len())?;
+        for item in items {
+            copies.push(item.copy()?)?;
+        }
+        Ok(Items::from_vec(copies))
     }
-    Ok(Items::from_vec(copies))
+}
+
+impl Items<KeyPart> {
+    /// Equal parts. It fails only for want of memory.
+    pub fn copy(&self) -> Result<Items<KeyPart>, AllocError>
+        ensures { IfOk result (λ copies. copies ≡ self.now) }
+    {
+        let items = self.as_slice();
+        let mut copies = Vec::with_capacity(self.allocator(), items.len())?;
+        for item in items {
+            copies.push(item.copy()?)?;
+        }
+        Ok(Items::from_vec(copies))
+    }
 }
 
 fn copy_bound(bound: &Option<Scalar>) -> Result<Option<Scalar>, AllocError>
@@ -72,7 +96,7 @@ impl Test {
     {
         match self {
             Test::Equals(value) => Ok(Test::Equals(value.copy()?)),
-            Test::OneOf(values) => Ok(Test::OneOf(copy_scalars(values)?)),
+            Test::OneOf(values) => Ok(Test::OneOf(values.copy()?)),
             Test::Within(range) => Ok(Test::Within(range.copy()?)),
             Test::Starts(front) => Ok(Test::Starts(front.copy()?)),
             Test::Exists => Ok(Test::Exists),
@@ -88,7 +112,7 @@ fn copy_node(node: &Node) -> Result<Node, AllocError>
         Node::All => Ok(Node::All),
         Node::Nothing => Ok(Node::Nothing),
         Node::Field(field, test) => Ok(Node::Field(field.copy()?, test.copy()?)),
-        Node::Ids(ids) => Ok(Node::Ids(copy_texts(ids)?)),
+        Node::Ids(ids) => Ok(Node::Ids(ids.copy()?)),
         Node::Bool {
             must,
             filter,
@@ -134,10 +158,25 @@ impl SearchBody {
     {
         Ok(SearchBody {
             query: self.query.copy()?,
-            sort: copy_sort(&self.sort)?,
+            sort: self.sort.copy()?,
             from: self.from,
             size: self.size,
         })
+    }
+}
+
+impl QueryError {
+    /// An equal error. It fails only for want of memory.
+    pub fn copy(&self) -> Result<QueryError, AllocError>
+        ensures { IfOk result (λ error. error ≡ self.now) }
+    {
+        match self {
+            QueryError::Bad { path, kind } => Ok(QueryError::Bad {
+                path: path.copy()?,
+                kind: *kind,
+            }),
+            QueryError::Memory => Ok(QueryError::Memory),
+        }
     }
 }
 

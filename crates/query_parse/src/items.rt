@@ -44,11 +44,12 @@ impl<X> Items<X> {
         self.items
     }
 
-    /// Where its memory comes from.
+    /// The allocator that its memory comes from, for a further list beside it, as a copy.
     pub fn allocator(&self) -> Global {
         *self.items.allocator()
     }
 
+    /// The elements in order, borrowed.
     pub fn as_slice(&self) -> &[X]
         ensures { result.now ≡ self.now }
     {

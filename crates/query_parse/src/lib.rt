@@ -6,6 +6,7 @@ mod body;
 mod body_reading;
 mod copying;
 mod fault;
+mod field_test;
 mod form;
 mod found;
 mod items;
@@ -18,7 +19,6 @@ mod scalar;
 mod shape;
 mod sort;
 mod sort_reading;
-mod testing;
 mod text;
 
 pub use body::{BodyError, SearchBody};

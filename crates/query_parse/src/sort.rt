@@ -142,13 +142,8 @@ impl SortKey {
     pub fn copy(&self) -> Result<SortKey, AllocError>
         ensures { IfOk result (λ key. key ≡ self.now) }
     {
-        let parts = self.parts.as_slice();
-        let mut copies = Vec::with_capacity(self.parts.allocator(), parts.len())?;
-        for part in parts {
-            copies.push(part.copy()?)?;
-        }
         Ok(SortKey {
-            parts: Items::from_vec(copies),
+            parts: self.parts.copy()?,
         })
     }
 }

@@ -14,7 +14,7 @@ use Rattle.task_events.specs.Cancels.{last_command, beginning, turn_of, is_named
 
 -- the task and the number of the cancellation in a cancelled reply
 abbrev pub cancellation_in : Reply → Option (TaskId × ℕ)
-cancellation_in (Cancelled t c) = Some (t, c)
+cancellation_in (Cancelled t c counts) = Some (t, c)
 cancellation_in _ = None
 
 abbrev pub is_rejection : Reply → Bool
@@ -146,7 +146,7 @@ abbrev pub Allowed : Cluster → Event → List Event → Type 0
 Allowed cluster (Begin k) h = k ≡ last_command h + 1
 Allowed cluster (Root k t) h = RootAllowed cluster k t h
 Allowed cluster (RootRejected k n) h = RootRejectedAllowed cluster k n h
-Allowed cluster (Ask p k n) h = AskAllowed cluster p k n h
+Allowed cluster (Ask p k n r) h = AskAllowed cluster p k n h
 Allowed cluster (Put t p k) h = PutAllowed cluster t p k h
 Allowed cluster (Reject n p k) h = RejectAllowed cluster n p k h
 Allowed cluster (Pass t) h = PassAllowed t h

@@ -1,43 +1,116 @@
--- What a search finds, if one list is filtered and cut.
-use Rattle.std.specs.Prelude.{ℕ, ◌+◌, List, [], ◌∷◌, Bool, not, ◌==◌, if◌then◌else◌, map, filter, take, length}
-use Rattle.std.specs.List.{list_any, flat_map}
-use Rattle.task_ids.specs.declared.corpus.Corpus.{Corpus}
-use Rattle.task_ids.specs.Placing.{shard_of}
+-- What a search finds, if one list is filtered, put in hit order and cut.
+use Rattle.std.specs.Prelude.{ℕ, ◌+◌, List, Bool, true, not, ◌&&◌, ◌||◌, ◌==◌, if◌then◌else◌, Option, Some, None, is_some, option_map, option_and_then, map, filter, filter_map, take, drop, length}
+use Rattle.std.specs.List.{list_any, flat_map, last_or}
+use Rattle.std.specs.Map.{lookup}
+use Rattle.query_parse.specs.declared.body.SearchBody.{SearchBody}
+use Rattle.query_parse.specs.Matching.{matches}
+use Rattle.query_parse.specs.Sorting.{key_of}
+use Rattle.task_ids.specs.declared.task_id.TaskId.{TaskId}
+use Rattle.task_ids.specs.declared.doc.Doc.{Doc}
+use Rattle.task_ids.specs.Placing.{slice_of}
+use Rattle.task_ids.specs.Rows.{Row, rows_at, row_at}
+use Rattle.task_events.specs.declared.request.HitKey.{HitKey}
+use Rattle.task_events.specs.declared.request.SlicePick.{SlicePick}
+use Rattle.task_events.specs.declared.request.SearchAsk.{SearchAsk}
+use Rattle.task_events.specs.declared.request.ShardAsk.{ShardAsk}
+use Rattle.task_events.specs.declared.request.FetchAsk.{FetchAsk}
 use Rattle.task_events.specs.declared.reply.Hit.{Hit}
+use Rattle.task_events.specs.declared.reply.ShardTop.{ShardTop}
+use Rattle.task_events.specs.declared.reply.ShardCount.{ShardCount}
 use Rattle.task_events.specs.declared.reply.FailedShard.{FailedShard}
 use Rattle.task_events.specs.declared.reply.Reply.{Reply}
 use Rattle.task_events.specs.declared.reply.Reply.TheVariants.{Search, AllFailed}
-use Rattle.task_events.specs.Documents.{writes_of, rows_at}
+use Rattle.task_events.specs.HitOrder.{in_hit_order, is_after}
+
+-- ---- one shard
+
+-- the document is of the slice, where one is read
+abbrev pub is_in_slice : Option SlicePick → List ℕ → Bool
+is_in_slice None id = true
+is_in_slice (Some pick) id = slice_of id pick.shards pick.slices == pick.slice
+
+abbrev pub is_found : SearchBody → Option SlicePick → Doc → Bool
+is_found body slice doc = matches body.query doc.id doc.source && is_in_slice slice doc.id
+
+abbrev pub hit_key : SearchBody → ℕ → Row → HitKey
+hit_key body shard row = record { sort = key_of body.sort row.1.source; shard = shard; place = row.0 }
+
+-- the keys of some rows of a shard: of those that match
+abbrev pub keys_among : SearchBody → Option SlicePick → ℕ → List Row → List HitKey
+keys_among body slice shard rows = map (hit_key body shard) (filter (λ row. is_found body slice row.1) rows)
+
+-- the keys of the rows that match in a shard at a version, by place
+abbrev pub matching_keys : SearchBody → Option SlicePick → ℕ → ℕ → List Doc → List HitKey
+matching_keys body slice shard version writes = keys_among body slice shard (rows_at version writes)
+
+-- how many keys a search passes over and shows
+abbrev pub window : SearchBody → ℕ
+window body = body.from + body.size
+
+-- What the query phase finds in a shard at a version: how many rows match, and the first of them after the cursor.
+abbrev pub shard_top : ShardAsk → ℕ → List Doc → ShardTop
+shard_top ask version writes =
+    let found = matching_keys ask.body ask.slice ask.shard version writes in
+    record {
+      shard = ask.shard;
+      version = version;
+      count = length found;
+      keys = take (window ask.body) (in_hit_order (filter (is_after ask.after) found));
+    }
+
+-- the row of a place as a hit, if it is alive at a version
+abbrev pub hit_at : List ℕ → ℕ → List Doc → ℕ → Option Hit
+hit_at index version writes place = option_map (λ doc. record { index = index; doc = doc; place = place }) (row_at version place writes)
+
+-- what the fetch phase finds in a shard
+abbrev pub fetched : FetchAsk → List Doc → List Hit
+fetched ask writes = filter_map (hit_at ask.index ask.version writes) ask.places
+
+-- ---- all shards
 
 -- a shard and a version of it
 abbrev pub ShardVersion : Type 0
 ShardVersion = ℕ × ℕ
 
--- The matching rows of a shard that are alive at a version, by place. So far every document matches.
-abbrev pub shard_hits : Corpus → ℕ → List ℕ → ShardVersion → List Hit
-shard_hits corpus shards index at =
-    map (λ row. record { index = index; doc = row.1; place = row.0 }) (rows_at at.1 (writes_of corpus shards index at.0))
+-- the keys of all rows that match in the shards that answered the query, in hit order
+abbrev pub found_keys : SearchAsk → (ℕ → List Doc) → List ShardVersion → List HitKey
+found_keys ask writes answered = in_hit_order (flat_map (λ at. matching_keys ask.body ask.slice at.0 at.1 (writes at.0)) answered)
 
--- Hit order: the matching rows of the shards that answered, which ascend, by shard and then by place.
-abbrev pub hit_order : Corpus → ℕ → List ℕ → List ShardVersion → List Hit
-hit_order corpus shards index answered = flat_map (shard_hits corpus shards index) answered
+-- of some keys in hit order those that a search shows
+abbrev pub winners : SearchBody → List HitKey → List HitKey
+winners body found = take body.size (drop body.from found)
 
 -- the shard of this number failed
 abbrev pub has_failed : List FailedShard → ℕ → Bool
 has_failed failed shard = list_any (λ f. f.shard == shard) failed
 
--- how many winners a search has at most, where it does not say
-abbrev pub default_size : ℕ
-default_size = 10
+-- the row of a key, in its shard at the version of that shard
+abbrev pub hit_of : List ℕ → (ℕ → List Doc) → List ShardVersion → HitKey → Option Hit
+hit_of index writes answered key = option_and_then (λ version. hit_at index version (writes key.shard) key.place) (lookup (λ shard. key.shard == shard) answered)
 
--- The plain answer to a search of an index, given the shards that answered the query, each at its version, and the shards that failed in the query or after it.
--- The total counts all matching rows, the winners are the first ten, and the hits are the winners of shards that did not fail.
-abbrev pub plain_answer : Corpus → ℕ → List ℕ → List ShardVersion → List FailedShard → Reply
-plain_answer corpus shards index answered failed =
-    let found = hit_order corpus shards index answered in
+abbrev pub count_at : SearchAsk → (ℕ → List Doc) → ShardVersion → ShardCount
+count_at ask writes at = record { shard = at.0; version = at.1; count = length (matching_keys ask.body ask.slice at.0 at.1 (writes at.0)) }
+
+-- a search opens a context where it has a keep-alive or an owner
+abbrev pub opens_context : SearchAsk → Bool
+opens_context ask = is_some ask.scroll || is_some ask.owner
+
+-- the context that a search opens has the search's own id
+abbrev pub context_of : TaskId → SearchAsk → Option TaskId
+context_of task ask = if opens_context ask then Some task else None
+
+-- The plain answer of a search, given the writes of each shard of its index, the shards that answered the query, each at its version, and the shards that failed in the query or in the fetch.
+-- The total counts all rows that match, the winners are cut from them, and the hits are the winners whose shard did not fail.
+abbrev pub plain_answer : TaskId → SearchAsk → ℕ → (ℕ → List Doc) → List ShardVersion → List FailedShard → Reply
+plain_answer task ask shards writes answered failed =
+    let found = found_keys ask writes answered in
+    let won = winners ask.body found in
     if length failed == shards then AllFailed failed
     else Search (record {
+      context = context_of task ask;
+      shards = map (count_at ask writes) answered;
       failed = failed;
       total = length found;
-      hits = filter (λ hit. not (has_failed failed (shard_of hit.doc.id shards))) (take default_size found);
+      hits = filter_map (hit_of ask.index writes answered) (filter (λ key. not (has_failed failed key.shard)) won);
+      last = last_or None won;
     })

@@ -2,6 +2,7 @@
 use Rattle.std.specs.Prelude.{ℕ, zero, suc, Bool, true, false, not, List, [], ◌∷◌, ◌++◌, Option, Some, None, option_and_then, filter, if◌then◌else◌, ◌==◌}
 use Rattle.std.specs.List.{list_any}
 use Rattle.task_ids.specs.declared.task_id.TaskId.{TaskId}
+use Rattle.task_events.specs.declared.request.Request.{Request}
 use Rattle.task_events.specs.declared.reply.Reply.{Reply}
 use Rattle.task_events.specs.declared.reply.Reply.TheVariants.{Rejected}
 use Rattle.task_events.specs.declared.event.Event.{Event}
@@ -12,19 +13,25 @@ use Rattle.task_events.specs.Tasks.{child_of, reply_of}
 -- the number of the task's last ask, 0 before the first
 abbrev pub last_ask : TaskId → List Event → ℕ
 last_ask p [] = 0
-last_ask p (Ask q k n ∷ h) = if same_task p q then k else last_ask p h
+last_ask p (Ask q k n r ∷ h) = if same_task p q then k else last_ask p h
 last_ask p (_ ∷ h) = last_ask p h
 
 -- the node to which an ask was sent
 abbrev pub node_of_ask : TaskId → ℕ → List Event → Option ℕ
 node_of_ask p k [] = None
-node_of_ask p k (Ask q j n ∷ h) = if same_pair p k q j then Some n else node_of_ask p k h
+node_of_ask p k (Ask q j n r ∷ h) = if same_pair p k q j then Some n else node_of_ask p k h
 node_of_ask p k (_ ∷ h) = node_of_ask p k h
+
+-- what was asked
+abbrev pub request_of_ask : TaskId → ℕ → List Event → Option Request
+request_of_ask p k [] = None
+request_of_ask p k (Ask q j n r ∷ h) = if same_pair p k q j then Some r else request_of_ask p k h
+request_of_ask p k (_ ∷ h) = request_of_ask p k h
 
 -- an ask is unanswered up to the event in which its answer arrives
 abbrev pub is_unanswered : TaskId → ℕ → List Event → Bool
 is_unanswered p k [] = false
-is_unanswered p k (Ask q j n ∷ h) = if same_pair p k q j then true else is_unanswered p k h
+is_unanswered p k (Ask q j n r ∷ h) = if same_pair p k q j then true else is_unanswered p k h
 is_unanswered p k (Answered q j ∷ h) = if same_pair p k q j then false else is_unanswered p k h
 is_unanswered p k (_ ∷ h) = is_unanswered p k h
 
@@ -36,7 +43,7 @@ pub record Pending : Type 0 where
 -- the task's unanswered asks with their nodes
 abbrev pub unanswered : TaskId → List Event → List Pending
 unanswered p [] = []
-unanswered p (Ask q k n ∷ h) = if same_task p q then record { ask = k; node = n } ∷ unanswered p h else unanswered p h
+unanswered p (Ask q k n r ∷ h) = if same_task p q then record { ask = k; node = n } ∷ unanswered p h else unanswered p h
 unanswered p (Answered q k ∷ h) = if same_task p q then filter (λ a. not (a.ask == k)) (unanswered p h) else unanswered p h
 unanswered p (_ ∷ h) = unanswered p h
 

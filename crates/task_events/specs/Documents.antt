@@ -1,5 +1,4 @@
 -- Which documents a shard of an index has.
-pub use Rattle.task_ids.specs.Rows.{has_id, Row, living_rows, rows_at}
 use Rattle.std.specs.Prelude.{ℕ, List, ◌&&◌, ◌==◌, map, filter}
 use Rattle.std.specs.Str.{bytes_eq}
 use Rattle.task_ids.specs.declared.corpus.Corpus.{Corpus}

@@ -1,18 +1,19 @@
 -- The messages in flight.
 use Rattle.std.specs.Prelude.{ℕ, Bool, false, List, [], ◌∷◌, ◌++◌, Option, Some, None, map, count_by, if◌then◌else◌}
 use Rattle.task_ids.specs.declared.task_id.TaskId.{TaskId}
+use Rattle.task_events.specs.declared.request.Request.{Request as Asked}
 use Rattle.task_events.specs.declared.reply.Reply.{Reply}
 use Rattle.task_events.specs.declared.reply.Reply.TheVariants.{Cancelled, Rejected}
 use Rattle.task_events.specs.declared.event.Event.{Event}
 use Rattle.task_events.specs.declared.event.Event.TheVariants.{Ask, Put, Reject, Refuse, Mark, BanPut, Listed, Acked, BanGone, Answered, End}
 use Rattle.task_events.specs.Same.{same_pair}
-use Rattle.task_events.specs.Tasks.{parent_of, ask_of}
+use Rattle.task_events.specs.Tasks.{no_counts, parent_of, ask_of}
 use Rattle.task_events.specs.Asks.{unanswered_nodes}
 use Rattle.task_events.specs.Bans.{banned_nodes, unbans_are_sent}
 
 pub data Message : Type 0 where
   -- of an ask, to its node
-  Request : (parent : TaskId) → (ask to : ℕ) → Message
+  Request : (parent : TaskId) → (ask to : ℕ) → (request : Asked) → Message
   -- to the task that asked
   Answer : (parent : TaskId) → (ask : ℕ) → (reply : Reply) → Message
   -- of the children of a marked task, with the number of the cancellation, to a node
@@ -24,7 +25,7 @@ pub data Message : Type 0 where
 
 -- the request of this ask; and likewise below
 abbrev pub is_request : TaskId → ℕ → Message → Bool
-is_request p k (Request q j n) = same_pair p k q j
+is_request p k (Request q j n r) = same_pair p k q j
 is_request p k _ = false
 
 abbrev pub is_answer : TaskId → ℕ → Message → Bool
@@ -61,10 +62,10 @@ unbans_from t h = if unbans_are_sent t h then map (Unban t) (banned_nodes t h) e
 -- the messages that were sent and not delivered, in the order of their sending
 abbrev pub in_flight : List Event → List Message
 in_flight [] = []
-in_flight (Ask p k n ∷ h) = in_flight h ++ Request p k n ∷ []
+in_flight (Ask p k n r ∷ h) = in_flight h ++ Request p k n r ∷ []
 in_flight (Put t p k ∷ h) = without (is_request p k) (in_flight h)
 in_flight (Reject n p k ∷ h) = without (is_request p k) (in_flight h) ++ Answer p k (Rejected n) ∷ []
-in_flight (Refuse t c ∷ h) = in_flight h ++ answer_from (parent_of t h) (ask_of t h) (Cancelled t c) ++ unbans_from t (Refuse t c ∷ h)
+in_flight (Refuse t c ∷ h) = in_flight h ++ answer_from (parent_of t h) (ask_of t h) (Cancelled t c no_counts) ++ unbans_from t (Refuse t c ∷ h)
 in_flight (Mark t c ∷ h) = in_flight h ++ map (Ban t c) (unanswered_nodes t h)
 in_flight (BanPut n p c ∷ h) = without (is_ban n p) (in_flight h)
 in_flight (Listed n p ∷ h) = in_flight h ++ Ack p n ∷ []

@@ -7,7 +7,7 @@ use Rattle.task_events.specs.declared.event.Event.{Event}
 use Rattle.task_events.specs.declared.reply.Hit.{Hit}
 use Rattle.task_events.specs.declared.reply.Reply.{Reply}
 use Rattle.task_events.specs.declared.reply.Reply.TheVariants.{Search}
-use Rattle.task_events.specs.declared.reply.SearchAsk.{SearchAsk}
+use Rattle.task_events.specs.declared.request.SearchAsk.{SearchAsk}
 use Rattle.task_events.specs.declared.reply.SearchReply.{SearchReply}
 use Rattle.task_events.specs.Replies.{reply_to}
 

@@ -1,12 +1,12 @@
 -- The run of a script of at most one search: what happens, from an empty history on.
-use Rattle.std.specs.Prelude.{ℕ, List, [], ◌∷◌, length, Option, Some, None}
+use Rattle.std.specs.Prelude.{List, [], ◌∷◌, length, Option, Some, None}
 use Rattle.std.proofs.Common.{lit≤}
 use Rattle.task_ids.specs.declared.corpus.Corpus.{Corpus}
 use Rattle.task_ids.specs.declared.task_id.TaskId.{TaskId}
 use Rattle.task_events.specs.declared.event.Event.{Event}
 use Rattle.task_events.specs.declared.event.Event.TheVariants.{Begin, Root, Work, End}
 use Rattle.task_events.specs.declared.reply.Reply.{Reply}
-use Rattle.task_events.specs.declared.reply.SearchAsk.{SearchAsk}
+use Rattle.task_events.specs.declared.request.SearchAsk.{SearchAsk}
 use Rattle.task_events.specs.Answers.{plain_answer}
 use Rattle.task_events.specs.Documents.{writes_of}
 
@@ -16,7 +16,7 @@ first_task = record { node = 1; number = 1; node_in_range = (lit≤ tt, lit≤ t
 
 -- The only shard of an index answers at the version of all its writes, and none fails.
 abbrev pub answer_to : Corpus → SearchAsk → Reply
-answer_to corpus ask = plain_answer corpus 1 ask.index ((0, length (writes_of corpus 1 ask.index 0)) ∷ []) []
+answer_to corpus ask = plain_answer first_task ask 1 (writes_of corpus 1 ask.index) ((0, length (writes_of corpus 1 ask.index 0)) ∷ []) []
 
 -- A search's root takes one turn of work and ends with the plain answer.
 abbrev pub worked : Corpus → SearchAsk → List Event → List Event

@@ -3,6 +3,7 @@
 use Rattle.std.specs.Prelude.{ℕ, ◌+◌, ◌-◌, Bool, true, false, List, [], ◌∷◌, Option, Some, None, filter, not, cond, if◌then◌else◌, ◌==◌}
 use Rattle.std.specs.List.{list_any}
 use Rattle.task_ids.specs.declared.task_id.TaskId.{TaskId}
+use Rattle.task_events.specs.declared.reply.Counts.{Counts}
 use Rattle.task_events.specs.declared.reply.Reply.{Reply}
 use Rattle.task_events.specs.declared.reply.Reply.TheVariants.{Cancelled}
 use Rattle.task_events.specs.declared.event.Event.{Event}
@@ -107,9 +108,13 @@ number_that test (Some t) = cond (test t) 1 0
 abbrev pub live_child : TaskId → ℕ → List Event → ℕ
 live_child p k h = number_that (λ t. is_live t h) (child_of p k h)
 
+-- the counts of a task that wrote nothing
+abbrev pub no_counts : Counts
+no_counts = record { total = 0; created = 0; updated = 0; batches = 0; failures = 0 }
+
 -- what the task answered when it ended
 abbrev pub reply_of : TaskId → List Event → Option Reply
 reply_of t [] = None
-reply_of t (Refuse u c ∷ h) = if same_task t u then Some (Cancelled u c) else reply_of t h
+reply_of t (Refuse u c ∷ h) = if same_task t u then Some (Cancelled u c no_counts) else reply_of t h
 reply_of t (End u r ∷ h) = if same_task t u then Some r else reply_of t h
 reply_of t (_ ∷ h) = reply_of t h

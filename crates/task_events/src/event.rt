@@ -1,9 +1,11 @@
 use crate::reply::Reply;
+use crate::request::Request;
 use task_ids::{TaskId, Text};
 
 /// What happened, one atomic step at a time. A task that was put stands on the node of its id.
 ///
-/// Asks of a task are numbered from 1. Commands, and cancellations by their commands, are numbered from 1.
+/// Nodes are 1 to 15, shards go from 0. Commands, and cancellations by their commands, are numbered from 1 to 65,535;
+/// the closing drain has the number after the last command's.
 /// After Elasticsearch's TaskManager and TaskCancellationService; the list of kinds is this project's own.
 #[derive(Debug, Drop)]
 pub enum Event {
@@ -21,11 +23,12 @@ pub enum Event {
         command: u32,
         node: u32,
     },
-    /// A task asks for a child on a node.
+    /// A task asks for a child on a node. Asks of a task are numbered from 1.
     Ask {
         parent: TaskId,
         ask: u32,
         to: u32,
+        request: Request,
     },
     /// The request of an ask reaches its node and finds a free slot: the child is registered.
     Put {

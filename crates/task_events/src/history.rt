@@ -1,4 +1,4 @@
-ghost use Rattle.std.specs.Prelude.{◌≡◌, ◌∷◌, [], ◌↔◌, length, reverse, slice_get, option_copied, IfErr, IsErrOf, IsTrue, OnOk, OnErr};
+ghost use Rattle.std.specs.Prelude.{◌≡◌, ◌∷◌, [], ◌<◌, ◌↔◌, length, reverse, slice_get, option_copied, IfErr, IsErrOf, IsTrue, OnOk, OnErr};
 
 use crate::event::Event;
 use std::alloc::Global;
@@ -53,6 +53,7 @@ impl History {
     /// Adds the newest event.
     pub fn push(&mut self, event: Event) -> Result<(), PushError>
         ensures ok { OnOk result (self.new ≡ event ∷ self.old) }
+        ensures room { OnOk result (length self.old < MAX_EVENTS) }
         ensures err { OnErr result (self.new ≡ self.old) }
         ensures full { IsErrOf result (PushError.Full event) ↔ (length self.old ≡ MAX_EVENTS) }
         ensures given_back { IfErr result (λ e. returned e ≡ event) }
@@ -73,6 +74,13 @@ impl History {
         self.events.get(at)
     }
 
+    /// The events, the oldest first.
+    pub fn as_slice(&self) -> &[Event]
+        ensures { result.now ≡ reverse self.now }
+    {
+        self.events.as_slice()
+    }
+
     /// The newest event. There is none exactly where nothing has happened.
     pub fn newest(&self) -> Option<&Event>
         ensures { option_copied result ≡ slice_get self.now 0 }
@@ -87,6 +95,7 @@ impl History {
         self.events.len()
     }
 
+    /// Whether nothing has happened yet.
     pub fn is_empty(&self) -> bool
         ensures { IsTrue result ↔ (self.now ≡ []) }
     {

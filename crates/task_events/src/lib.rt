@@ -1,13 +1,23 @@
 //! The events of tasks, the history that they make, and what can be asked of it.
 #![tactic(auto)]
 
+mod copying;
 mod event;
 mod history;
+mod print;
 mod reply;
+mod request;
+mod step;
+mod stop;
 
+pub use copying::copy_hits;
 pub use event::{Event, Outcome};
 pub use history::{History, MAX_EVENTS, PushError};
-pub use reply::{FailedShard, Hit, Reply, SearchAsk, SearchReply, ShardFailure};
+pub use print::{print_event, write_event};
+pub use reply::{Counts, FailedShard, Hit, Reply, SearchReply, ShardCount, ShardFailure, ShardTop};
+pub use request::{FetchAsk, HitKey, Request, SearchAsk, ShardAsk, SlicePick};
+pub use step::{Asked, Do};
+pub use stop::Stop;
 
 #[cfg(test)]
 mod tests;

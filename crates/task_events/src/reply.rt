@@ -1,33 +1,83 @@
+use crate::request::HitKey;
 use task_ids::{Boxed, Doc, Items, TaskId, Text};
-
-/// A search of one index, for its first ten documents and the number of all.
-#[derive(Debug, Drop)]
-pub struct SearchAsk {
-    pub index: Text,
-}
 
 /// What a task answers when it ends.
 #[derive(Debug, Drop)]
 pub enum Reply {
     /// A search's answer.
     Search(Boxed<SearchReply>),
-    /// Every shard of a search failed.
+    /// What a shard found in the query phase.
+    Top(Boxed<ShardTop>),
+    /// The documents of the fetch phase.
+    Hits(Items<Hit>),
+    /// Every shard of a search failed. The shards ascend.
     AllFailed(Items<FailedShard>),
     /// The task was cancelled, or refused, by the cancellation of this number.
-    Cancelled { task: TaskId, cancel: u32 },
+    Cancelled {
+        task: TaskId,
+        cancel: u32,
+        counts: Counts,
+    },
     /// The node had no free slot for it.
-    Rejected { node: u32 },
+    Rejected {
+        node: u32,
+    },
+}
+
+/// What a writing task has done. All are zero for other tasks.
+#[derive(Clone, Copy, Debug, PartialEq, Eq)]
+pub struct Counts {
+    /// How many documents there were to write.
+    pub total: u64,
+    /// How many were created.
+    pub created: u64,
+    /// How many replaced a document of their id.
+    pub updated: u64,
+    /// How many pages were read.
+    pub batches: u64,
+    /// How many parts failed.
+    pub failures: u64,
 }
 
 /// A search's answer, after Elasticsearch's search API.
 #[derive(Debug, Drop)]
 pub struct SearchReply {
-    /// The shards that failed, ascending.
+    /// The context that the search opened, where it opened one.
+    pub context: Option<TaskId>,
+    /// The shards that answered the query, ascending.
+    pub shards: Items<ShardCount>,
+    /// The shards that failed in the query or in the fetch, ascending.
     pub failed: Items<FailedShard>,
-    /// How many documents match in the shards that answered the query.
+    /// How many rows match in the shards that answered the query.
     pub total: u64,
-    /// The first ten of them in hit order, without those of shards that failed afterwards.
+    /// The documents of the winners in hit order, without those of shards that failed in the fetch.
     pub hits: Items<Hit>,
+    /// The last winner, where there is one.
+    pub last: Option<HitKey>,
+}
+
+/// What a shard found in the query phase.
+#[derive(Debug, Drop)]
+pub struct ShardTop {
+    /// The shard, from 0.
+    pub shard: u32,
+    /// The version that was read, a number of first writes.
+    pub version: u32,
+    /// How many rows match.
+    pub count: u64,
+    /// The keys of those that stand first, in hit order, at most as many as the search passes over and shows.
+    pub keys: Items<HitKey>,
+}
+
+/// How many rows matched in a shard at a version.
+#[derive(Clone, Copy, Debug, PartialEq, Eq)]
+pub struct ShardCount {
+    /// The shard, from 0.
+    pub shard: u32,
+    /// The version that was read, a number of first writes.
+    pub version: u32,
+    /// How many rows match.
+    pub count: u64,
 }
 
 /// A document that a search found.

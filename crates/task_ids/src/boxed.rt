@@ -27,6 +27,12 @@ impl<X> Boxed<X> {
         Ok(Boxed { held })
     }
 
+    /// Where its memory comes from, so that a copy can take its own from there.
+    pub fn allocator(&self) -> Global {
+        *Box::allocator(&self.held)
+    }
+
+    /// The value, which stays.
     pub fn get(&self) -> &X
         ensures { result.now ≡ self.now }
     {

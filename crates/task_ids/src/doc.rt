@@ -78,6 +78,7 @@ impl DocSource {
         Ok(DocSource { value })
     }
 
+    /// The source as a JSON value: an object whose numbers are all whole.
     pub fn as_value(&self) -> &Value
         ensures { view result.now ≡ self.now }
     {

@@ -44,6 +44,12 @@ impl<X> Items<X> {
         self.items
     }
 
+    /// Where its memory comes from, so that a copy can take its own from there.
+    pub fn allocator(&self) -> Global {
+        *self.items.allocator()
+    }
+
+    /// The elements, in order.
     pub fn as_slice(&self) -> &[X]
         ensures { result.now ≡ self.now }
     {

@@ -25,6 +25,7 @@ impl Text {
         Text { string }
     }
 
+    /// The text, as it stands.
     pub fn as_str(&self) -> &str
         ensures { result.now ≡ self.now }
     {

@@ -94,23 +94,23 @@ module _ (cluster : Cluster) where
   keep_unborn_asks : (e : Event) (h : List Event) → Allowed cluster e h → AskFacts h → (t : TaskId) → last_number t.node (e ∷ h) < t.number → last_ask t (e ∷ h) ≡ 0
   keep_unborn_asks (Root c u) h a f t l = grind (arith, same_tests, f.unborn_asks t)
   keep_unborn_asks (Put u p k) h a f t l = grind (arith, same_tests, f.unborn_asks t)
-  keep_unborn_asks (Ask p k n) h a f t l = grind (arith, same_tests, f.unborn_asks t, f.born p a.goes_on.live)
+  keep_unborn_asks (Ask p k n w) h a f t l = grind (arith, same_tests, f.unborn_asks t, f.born p a.goes_on.live)
   keep_unborn_asks _ h a f t l = f.unborn_asks t l
 
   keep_new_asks : (e : Event) (h : List Event) → Allowed cluster e h → AskFacts h → (t : TaskId) → is_new t (e ∷ h) ≡ true → last_ask t (e ∷ h) ≡ 0
   keep_new_asks (Put u p k) h a f t l = grind (arith, same_tests, f.new_asks t, f.unborn_asks t)
   keep_new_asks (Pass u) h a f t l = grind (arith, same_tests, f.new_asks t)
   keep_new_asks (Refuse u c) h a f t l = grind (arith, same_tests, f.new_asks t)
-  keep_new_asks (Ask p k n) h a f t l = grind (arith, same_tests, f.new_asks t)
+  keep_new_asks (Ask p k n w) h a f t l = grind (arith, same_tests, f.new_asks t)
   keep_new_asks _ h a f t l = f.new_asks t l
 
   keep_not_asked : (e : Event) (h : List Event) → Allowed cluster e h → AskFacts h → (p : TaskId) (k : ℕ) → last_ask p (e ∷ h) < k → is_unanswered p k (e ∷ h) ≡ false
-  keep_not_asked (Ask q j n) h a f p k l = grind (arith, same_tests, f.not_asked p k)
+  keep_not_asked (Ask q j n w) h a f p k l = grind (arith, same_tests, f.not_asked p k)
   keep_not_asked (Answered q j) h a f p k l = grind (arith, same_tests, f.not_asked p k)
   keep_not_asked _ h a f p k l = f.not_asked p k l
 
   keep_no_child : (e : Event) (h : List Event) → Allowed cluster e h → AskFacts h → (p : TaskId) (k : ℕ) → last_ask p (e ∷ h) < k → child_of p k (e ∷ h) ≡ None
-  keep_no_child (Ask q j n) h a f p k l = grind (arith, same_tests, f.no_child p k)
+  keep_no_child (Ask q j n w) h a f p k l = grind (arith, same_tests, f.no_child p k)
   keep_no_child (Put t q j) h a f p k l = grind (arith, same_tests, f.no_child p k, f.not_asked q j, f.place q j, requests_in_flight q j h)
   keep_no_child _ h a f p k l = f.no_child p k l
 
@@ -120,7 +120,7 @@ module _ (cluster : Cluster) where
   keep_child_born _ h a f p k u l = f.child_born p k u l
 
   keep_child_put : (e : Event) (h : List Event) → Allowed cluster e h → AskFacts h → (p : TaskId) (k : ℕ) (u : TaskId) → child_of p k (e ∷ h) ≡ Some u → requests p k (e ∷ h) ≡ 0
-  keep_child_put (Ask q j n) h a f p k u l = grind (arith, same_tests, f.child_put p k u, f.no_child p k)
+  keep_child_put (Ask q j n w) h a f p k u l = grind (arith, same_tests, f.child_put p k u, f.no_child p k)
   keep_child_put (Put t q j) h a f p k u l = grind (arith, same_tests, f.child_put p k u, f.place p k)
   keep_child_put (Reject n q j) h a f p k u l = grind (arith, same_tests, f.child_put p k u)
   keep_child_put _ h a f p k u l = f.child_put p k u l
@@ -134,14 +134,14 @@ module _ (cluster : Cluster) where
   keep_ask_knows _ h a f p k u l = f.ask_knows p k u l
 
   keep_first_ask : (e : Event) (h : List Event) → Allowed cluster e h → AskFacts h → (p : TaskId) → is_unanswered p 0 (e ∷ h) ≡ false
-  keep_first_ask (Ask q j n) h a f p = grind (arith, same_tests, f.first_ask p)
+  keep_first_ask (Ask q j n w) h a f p = grind (arith, same_tests, f.first_ask p)
   keep_first_ask (Answered q j) h a f p = grind (arith, same_tests, f.first_ask p)
   keep_first_ask _ h a f p = f.first_ask p
 
   keep_live_asker : (e : Event) (h : List Event) → Allowed cluster e h → AskFacts h → (p : TaskId) (k : ℕ) → is_unanswered p k (e ∷ h) ≡ true → is_live p (e ∷ h) ≡ true
   keep_live_asker (Root c u) h a f p k l = grind (arith, same_tests, f.live_asker p k)
   keep_live_asker (Put u q j) h a f p k l = grind (arith, same_tests, f.live_asker p k)
-  keep_live_asker (Ask q j n) h a f p k l = grind (arith, same_tests, f.live_asker p k)
+  keep_live_asker (Ask q j n w) h a f p k l = grind (arith, same_tests, f.live_asker p k)
   keep_live_asker (Answered q j) h a f p k l = grind (arith, same_tests, f.live_asker p k)
   keep_live_asker (Refuse u c) h a f p k l = grind (arith, same_tests, f.live_asker p k, f.new_asks p, f.not_asked p k, f.first_ask p)
   keep_live_asker (End u r) h a f p k l = grind (arith, same_tests, f.live_asker p k, is_pending p k h)
@@ -149,7 +149,7 @@ module _ (cluster : Cluster) where
 
   keep_place : (e : Event) (h : List Event) → Allowed cluster e h → AskFacts h → (p : TaskId) (k : ℕ) → requests p k (e ∷ h) + live_child p k (e ∷ h) + answers p k (e ∷ h) ≡ cond (is_unanswered p k (e ∷ h)) 1 0
   keep_place (Root c u) h a f p k = grind (arith, same_tests, f.place p k, f.child_born p k u)
-  keep_place (Ask q j n) h a f p k = grind (arith, same_tests, f.place p k, f.not_asked p k)
+  keep_place (Ask q j n w) h a f p k = grind (arith, same_tests, f.place p k, f.not_asked p k)
   keep_place (Put u q j) h a f p k = grind (arith, same_tests, f.place p k, f.child_born p k u, requests_in_flight p k h)
   keep_place (Reject n q j) h a f p k = grind (arith, same_tests, f.place p k, requests_in_flight p k h)
   keep_place (Refuse u c) h a f p k = grind (arith, same_tests, f.place p k, f.child_knows p k u, f.ask_knows p k u)

@@ -6,11 +6,12 @@ use Rattle.task_ids.specs.declared.task_id.TaskId.{TaskId}
 use Rattle.task_ids.specs.declared.cluster.Cluster.{Cluster}
 use Rattle.task_events.specs.declared.reply.Reply.{Reply}
 use Rattle.task_events.specs.declared.reply.Reply.TheVariants.{Cancelled, Rejected}
+use Rattle.task_events.specs.declared.request.Request.{Request as Asked}
 use Rattle.task_events.specs.declared.event.Event.{Event}
 use Rattle.task_events.specs.declared.event.Event.TheVariants.{Ask, Put, Reject, Refuse, Mark, BanPut, Listed, Acked, BanGone, Answered, End}
 use Rattle.task_events.specs.Same.{same_task}
-use Rattle.task_events.specs.Tasks.{is_live, has_ended, reply_of, child_of, parent_of, ask_of}
-use Rattle.task_events.specs.Asks.{last_ask, node_of_ask, rejection_of, answer_of, unanswered_nodes}
+use Rattle.task_events.specs.Tasks.{no_counts, is_live, has_ended, reply_of, child_of, parent_of, ask_of}
+use Rattle.task_events.specs.Asks.{last_ask, node_of_ask, request_of_ask, rejection_of, answer_of, unanswered_nodes}
 use Rattle.task_events.specs.Bans.{mark_of, banned_nodes, is_listed, is_acked, bans_are_placed, unbans_are_sent}
 use Rattle.task_events.specs.Messages.{Message, is_request, is_answer, is_ban, is_ack, is_unban, without, answer_from, unbans_from, in_flight, number_in_flight}
 use Rattle.task_events.specs.Messages.Message.{Request, Answer, Ban, Ack, Unban}
@@ -64,7 +65,7 @@ members (n ∷ ns) = (
 
 module _ (cluster : Cluster) where
   keep_node_asked : (e : Event) (h : List Event) → Allowed cluster e h → AnswerFacts h → (p : TaskId) (k n : ℕ) → node_of_ask p k (e ∷ h) ≡ Some n → k ≤ last_ask p (e ∷ h)
-  keep_node_asked (Ask q j m) h a g p k n e = grind (arith, same_tests, g.node_asked p k n)
+  keep_node_asked (Ask q j m w) h a g p k n e = grind (arith, same_tests, g.node_asked p k n)
   keep_node_asked _ h a g p k n e = g.node_asked p k n e
 
   -- the ask whose request is in flight was asked
@@ -72,12 +73,12 @@ module _ (cluster : Cluster) where
   requested_asked q j h f i = grind (arith, same_tests, f.not_asked q j, f.place q j, requests_in_flight q j h)
 
   keep_rejected_asked : (e : Event) (h : List Event) → Allowed cluster e h → AskFacts h → AnswerFacts h → (p : TaskId) (k n : ℕ) → rejection_of p k (e ∷ h) ≡ Some n → k ≤ last_ask p (e ∷ h)
-  keep_rejected_asked (Ask q j m) h a f g p k n e = grind (arith, same_tests, g.rejected_asked p k n)
+  keep_rejected_asked (Ask q j m w) h a f g p k n e = grind (arith, same_tests, g.rejected_asked p k n)
   keep_rejected_asked (Reject m q j) h a f g p k n e = grind (arith, same_tests, g.rejected_asked p k n, requested_asked q j h f a.requested)
   keep_rejected_asked _ h a f g p k n e = g.rejected_asked p k n e
 
   keep_rejected_put : (e : Event) (h : List Event) → Allowed cluster e h → AskFacts h → AnswerFacts h → (p : TaskId) (k n : ℕ) → rejection_of p k (e ∷ h) ≡ Some n → (requests p k (e ∷ h) ≡ 0) × (child_of p k (e ∷ h) ≡ None)
-  keep_rejected_put (Ask q j m) h a f g p k n e = grind (arith, same_tests, g.rejected_put p k n, g.rejected_asked p k n)
+  keep_rejected_put (Ask q j m w) h a f g p k n e = grind (arith, same_tests, g.rejected_put p k n, g.rejected_asked p k n)
   keep_rejected_put (Put t q j) h a f g p k n e = grind (arith, same_tests, g.rejected_put p k n, requests_in_flight q j h)
   keep_rejected_put (Reject m q j) h a f g p k n e = grind (arith, same_tests, g.rejected_put p k n, requests_in_flight q j h, f.child_put p k, f.place p k)
   keep_rejected_put _ h a f g p k n e = g.rejected_put p k n e
@@ -112,9 +113,13 @@ module _ (cluster : Cluster) where
   still_answer (End u s) h a f g p k r e = grind (arith, same_tests, g.reply_ended u, f.live_or_ended u)
   still_answer _ h a f g p k r e = e
 
-  still_request : (e : Event) (h : List Event) → Allowed cluster e h → AnswerFacts h → (p : TaskId) (k n : ℕ) → node_of_ask p k h ≡ Some n → node_of_ask p k (e ∷ h) ≡ Some n
-  still_request (Ask q j m) h a g p k n e = let i = g.node_asked p k n e in grind (arith, same_tests)
-  still_request _ h a g p k n e = e
+  still_request : (e : Event) (h : List Event) → Allowed cluster e h → AnswerFacts h → (p : TaskId) (k n : ℕ) (r : Asked) → (node_of_ask p k h ≡ Some n) × (request_of_ask p k h ≡ Some r) → (node_of_ask p k (e ∷ h) ≡ Some n) × (request_of_ask p k (e ∷ h) ≡ Some r)
+  still_request (Ask q j m w) h a g p k n r e =
+      let i = g.node_asked p k n e.0 in
+      let f = e.0 in
+      let d = e.1 in
+      (grind (arith, same_tests), grind (arith, same_tests))
+  still_request _ h a g p k n r e = e
 
   still_marked : (e : Event) (h : List Event) → Allowed cluster e h → (p : TaskId) (c : ℕ) → mark_of p h ≡ Some c → mark_of p (e ∷ h) ≡ Some c
   still_marked (Mark q d) h a p c e = grind (arith, same_tests)
@@ -156,7 +161,7 @@ module _ (cluster : Cluster) where
   still_banned_sent e h a p n (Some c) m s b = still_banned e h a p c n m b
 
   still_told : (e : Event) (h : List Event) → Allowed cluster e h → AskFacts h → AnswerFacts h → (m : Message) → IsTold m h → IsTold m (e ∷ h)
-  still_told e h a f g (Request p k n) t = still_request e h a g p k n t
+  still_told e h a f g (Request p k n r) t = still_request e h a g p k n r t
   still_told e h a f g (Answer p k r) t = still_answer e h a f g p k r t
   still_told e h a f g (Ban p c n) t = (still_marked e h a p c t.0, still_banned e h a p c n t.0 t.1)
   still_told e h a f g (Ack p n) t = still_listed e h p n t
@@ -203,7 +208,7 @@ module _ (cluster : Cluster) where
   old_told e h a f g all = each_grow (λ m. IsTold m h) (λ m. IsTold m (e ∷ h)) (still_told e h a f g) (in_flight h) all
 
   keep_told : (e : Event) (h : List Event) → Allowed cluster e h → AskFacts h → AnswerFacts h → AllByRecursion (λ m. IsTold m (e ∷ h)) (in_flight h) → AllByRecursion (λ m. IsTold m (e ∷ h)) (in_flight (e ∷ h))
-  keep_told (Ask p k n) h a f g all = each_append (λ m. IsTold m (Ask p k n ∷ h)) (in_flight h) (Request p k n ∷ []) all (grind (arith, same_tests), tt)
+  keep_told (Ask p k n w) h a f g all = each_append (λ m. IsTold m (Ask p k n w ∷ h)) (in_flight h) (Request p k n w ∷ []) all ((grind (arith, same_tests), grind (arith, same_tests)), tt)
   keep_told (Put t p k) h a f g all = each_without (λ m. IsTold m (Put t p k ∷ h)) (is_request p k) (in_flight h) all
   keep_told (Reject n p k) h a f g all =
       each_append (λ m. IsTold m (Reject n p k ∷ h)) (without (is_request p k) (in_flight h)) (Answer p k (Rejected n) ∷ [])
@@ -218,9 +223,9 @@ module _ (cluster : Cluster) where
       (each_without (λ m. IsTold m (Acked p n ∷ h)) (is_ack n p) (in_flight h) all)
       (new_unbans p (Acked p n ∷ h) (unbans_are_sent p (Acked p n ∷ h)) refl)
   keep_told (Refuse t c) h a f g all =
-      each_append (λ m. IsTold m (Refuse t c ∷ h)) (in_flight h ++ answer_from (parent_of t h) (ask_of t h) (Cancelled t c)) (unbans_from t (Refuse t c ∷ h))
-      (each_append (λ m. IsTold m (Refuse t c ∷ h)) (in_flight h) (answer_from (parent_of t h) (ask_of t h) (Cancelled t c)) all
-      (new_answer t (Cancelled t c) h (Refuse t c ∷ h) f g a.live (grind (arith, same_tests)) (λ p k. refl) (λ p k. refl) (parent_of t h) refl))
+      each_append (λ m. IsTold m (Refuse t c ∷ h)) (in_flight h ++ answer_from (parent_of t h) (ask_of t h) (Cancelled t c no_counts)) (unbans_from t (Refuse t c ∷ h))
+      (each_append (λ m. IsTold m (Refuse t c ∷ h)) (in_flight h) (answer_from (parent_of t h) (ask_of t h) (Cancelled t c no_counts)) all
+      (new_answer t (Cancelled t c no_counts) h (Refuse t c ∷ h) f g a.live (grind (arith, same_tests)) (λ p k. refl) (λ p k. refl) (parent_of t h) refl))
       (new_unbans t (Refuse t c ∷ h) (unbans_are_sent t (Refuse t c ∷ h)) refl)
   keep_told (End t r) h a f g all =
       each_append (λ m. IsTold m (End t r ∷ h)) (in_flight h ++ answer_from (parent_of t h) (ask_of t h) r) (unbans_from t (End t r ∷ h))

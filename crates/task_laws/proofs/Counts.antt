@@ -23,7 +23,7 @@ is_child_of p k t h = is_for p k (parent_of t h) (ask_of t h)
 -- requests of the ask k of p
 abbrev pub requests : TaskId → ℕ → List Event → ℕ
 requests p k [] = 0
-requests p k (Ask q j n ∷ h) = requests p k h + cond (same_pair p k q j) 1 0
+requests p k (Ask q j n w ∷ h) = requests p k h + cond (same_pair p k q j) 1 0
 requests p k (Put t q j ∷ h) = requests p k h - cond (same_pair p k q j) 1 0
 requests p k (Reject n q j ∷ h) = requests p k h - cond (same_pair p k q j) 1 0
 requests p k (_ ∷ h) = requests p k h

@@ -6,7 +6,7 @@ use Rattle.task_events.specs.declared.reply.Reply.TheVariants.{Cancelled}
 use Rattle.task_events.specs.declared.event.Event.{Event}
 use Rattle.task_events.specs.declared.event.Event.TheVariants.{Begin, Put, Reject, Refuse, Cancel, Mark, BanPut, Acked, Answered, End}
 use Rattle.task_events.specs.Same.{same_task, same_pair}
-use Rattle.task_events.specs.Tasks.{is_live, has_ended, parent_of}
+use Rattle.task_events.specs.Tasks.{no_counts, is_live, has_ended, parent_of}
 use Rattle.task_events.specs.Asks.{all_nodes}
 use Rattle.task_events.specs.Bans.{mark_of, bans_are_placed, late_ban}
 use Rattle.task_events.specs.Cancels.{is_named}
@@ -31,7 +31,7 @@ all_marked : (t : TaskId) → parent_of t (Mark early 2 ∷ before_mark) ≡ Som
 all_marked t p n l = λ m. grind (arith, same_tests)
 
 abbrev before_done : List Event
-before_done = End root (Cancelled root 2) ∷ Answered root 1 ∷ End early (Cancelled early 2) ∷ Answered root 3 ∷ Answered root 2 ∷ Acked root 2 ∷ until_listed root early late
+before_done = End root (Cancelled root 2 no_counts) ∷ Answered root 1 ∷ End early (Cancelled early 2 no_counts) ∷ Answered root 3 ∷ Answered root 2 ∷ Acked root 2 ∷ until_listed root early late
 
 named_is_root : (t : TaskId) → is_named 2 t before_done ≡ true → t ≡ root
 named_is_root t e = grind (arith, same_tests)

@@ -4,10 +4,11 @@ use Rattle.std.specs.Prelude.{◌==◌}
 use Rattle.task_ids.specs.declared.task_id.TaskId.{TaskId}
 use Rattle.task_events.specs.declared.reply.Reply.{Reply}
 use Rattle.task_events.specs.declared.reply.Reply.TheVariants.{Cancelled, Rejected}
+use Rattle.task_events.specs.declared.request.Request.{Request as Asked}
 use Rattle.task_events.specs.declared.event.Event.{Event}
 use Rattle.task_events.specs.declared.event.Event.TheVariants.{Ask, Put, Reject, Refuse, Mark, BanPut, Listed, Acked, BanGone, Answered, End}
 use Rattle.task_events.specs.Same.{same_task, same_pair}
-use Rattle.task_events.specs.Tasks.{parent_of, ask_of}
+use Rattle.task_events.specs.Tasks.{no_counts, parent_of, ask_of}
 use Rattle.task_events.specs.Asks.{unanswered_nodes}
 use Rattle.task_events.specs.Bans.{banned_nodes, unbans_are_sent}
 use Rattle.task_events.specs.Messages.{Message, is_request, is_answer, is_ban, is_ack, is_unban, without, answer_from, unbans_from, in_flight, number_in_flight}
@@ -41,7 +42,7 @@ same_kind (of_unban n p) (of_unban m q) = same_pair p n q m
 same_kind _ _ = false
 
 tells_each : (a b : Kind) (m : Message) → test_of b m ≡ true → test_of a m ≡ same_kind a b
-tells_each (of_request p k) (of_request q j) (Request r i n) e = grind (arith, same_tests)
+tells_each (of_request p k) (of_request q j) (Request r i n w) e = grind (arith, same_tests)
 tells_each (of_answer p k) (of_answer q j) (Answer r i n) e = grind (arith, same_tests)
 tells_each (of_ban n p) (of_ban m q) (Ban r c i) e = grind (arith, same_tests)
 tells_each (of_ack n p) (of_ack m q) (Ack r i) e = grind (arith, same_tests)
@@ -49,7 +50,7 @@ tells_each (of_unban n p) (of_unban m q) (Unban r i) e = grind (arith, same_test
 tells_each _ _ _ e = grind arith
 
 tells_all : (a b : Kind) → same_kind a b ≡ true → (m : Message) → test_of a m ≡ true → test_of b m ≡ true
-tells_all (of_request p k) (of_request q j) s (Request r i n) e = grind (arith, same_tests)
+tells_all (of_request p k) (of_request q j) s (Request r i n w) e = grind (arith, same_tests)
 tells_all (of_answer p k) (of_answer q j) s (Answer r i n) e = grind (arith, same_tests)
 tells_all (of_ban n p) (of_ban m q) s (Ban r c i) e = grind (arith, same_tests)
 tells_all (of_ack n p) (of_ack m q) s (Ack r i) e = grind (arith, same_tests)
@@ -106,9 +107,9 @@ unbanned_by a t true ns = number-none (test_of a) (Unban t) (λ n. refl) ns
 unbanned_by a t false ns = refl
 
 -- each event changes the list as it changes the count
-at_ask : (a : Kind) (q : TaskId) (j n : ℕ) (h : List Event) → number (test_of a) (in_flight h) ≡ count_of a h → number (test_of a) (in_flight (Ask q j n ∷ h)) ≡ count_of a (Ask q j n ∷ h)
-at_ask (of_request p k) q j n h e = let x = number-append (is_request p k) (in_flight h) (Request q j n ∷ []) in omega arith
-at_ask a q j n h e = let x = number-append (test_of a) (in_flight h) (Request q j n ∷ []) in omega arith
+at_ask : (a : Kind) (q : TaskId) (j n : ℕ) (w : Asked) (h : List Event) → number (test_of a) (in_flight h) ≡ count_of a h → number (test_of a) (in_flight (Ask q j n w ∷ h)) ≡ count_of a (Ask q j n w ∷ h)
+at_ask (of_request p k) q j n w h e = let x = number-append (is_request p k) (in_flight h) (Request q j n w ∷ []) in omega arith
+at_ask a q j n w h e = let x = number-append (test_of a) (in_flight h) (Request q j n w ∷ []) in omega arith
 
 at_put : (a : Kind) (t q : TaskId) (j : ℕ) (h : List Event) → number (test_of a) (in_flight h) ≡ count_of a h → number (test_of a) (in_flight (Put t q j ∷ h)) ≡ count_of a (Put t q j ∷ h)
 at_put (of_request p k) t q j h e = let x = left (of_request p k) (of_request q j) (in_flight h) in omega arith
@@ -155,8 +156,8 @@ ending a ms xs ys n m u e f g = let x = number-append (test_of a) (ms ++ xs) ys 
 
 at_refuse : (a : Kind) (t : TaskId) (c : ℕ) (h : List Event) → number (test_of a) (in_flight h) ≡ count_of a h → number (test_of a) (in_flight (Refuse t c ∷ h)) ≡ count_of a (Refuse t c ∷ h)
 unfolding unban_count answer_count
-at_refuse (of_request p k) t c h e = let x = ending (of_request p k) _ _ _ _ _ _ e (answered_by (of_request p k) (parent_of t h) (ask_of t h) (Cancelled t c)) (unbanned_by (of_request p k) t (unbans_are_sent t (Refuse t c ∷ h)) (banned_nodes t (Refuse t c ∷ h))) in omega arith
-at_refuse a t c h e = let x = ending a _ _ _ _ _ _ e (answered_by a (parent_of t h) (ask_of t h) (Cancelled t c)) (unbanned_by a t (unbans_are_sent t (Refuse t c ∷ h)) (banned_nodes t (Refuse t c ∷ h))) in omega arith
+at_refuse (of_request p k) t c h e = let x = ending (of_request p k) _ _ _ _ _ _ e (answered_by (of_request p k) (parent_of t h) (ask_of t h) (Cancelled t c no_counts)) (unbanned_by (of_request p k) t (unbans_are_sent t (Refuse t c ∷ h)) (banned_nodes t (Refuse t c ∷ h))) in omega arith
+at_refuse a t c h e = let x = ending a _ _ _ _ _ _ e (answered_by a (parent_of t h) (ask_of t h) (Cancelled t c no_counts)) (unbanned_by a t (unbans_are_sent t (Refuse t c ∷ h)) (banned_nodes t (Refuse t c ∷ h))) in omega arith
 
 at_end : (a : Kind) (t : TaskId) (r : Reply) (h : List Event) → number (test_of a) (in_flight h) ≡ count_of a h → number (test_of a) (in_flight (End t r ∷ h)) ≡ count_of a (End t r ∷ h)
 unfolding unban_count answer_count
@@ -169,7 +170,7 @@ at_start a = refl
 
 of_list : (a : Kind) (h : List Event) → number (test_of a) (in_flight h) ≡ count_of a h
 of_list a [] = at_start a
-of_list a (Ask q j n ∷ h) = at_ask a q j n h (of_list a h)
+of_list a (Ask q j n w ∷ h) = at_ask a q j n w h (of_list a h)
 of_list a (Put t q j ∷ h) = at_put a t q j h (of_list a h)
 of_list a (Reject n q j ∷ h) = at_reject a n q j h (of_list a h)
 of_list a (Answered q j ∷ h) = at_answered a q j h (of_list a h)

@@ -9,7 +9,7 @@ use Rattle.task_events.specs.declared.reply.Reply.TheVariants.{Cancelled}
 use Rattle.task_events.specs.declared.event.Event.{Event}
 use Rattle.task_events.specs.declared.event.Event.TheVariants.{Root, Put, Refuse, Cancel, Mark, End}
 use Rattle.task_events.specs.Same.{same_task}
-use Rattle.task_events.specs.Tasks.{is_live, has_ended, refusal_of, reply_of, parent_of, ancestors, last_number, live_on}
+use Rattle.task_events.specs.Tasks.{no_counts, is_live, has_ended, refusal_of, reply_of, parent_of, ancestors, last_number, live_on}
 use Rattle.task_events.specs.Bans.{mark_of, standing_ban, listing_is_open, ban_over, open_ban_over}
 use Rattle.task_events.specs.Cancels.{is_named, names_one_of}
 use Rattle.task_events.specs.Laws.{IsUnderBan, IsUnderListing}
@@ -54,7 +54,7 @@ pub record CauseFacts (slots : ℕ) (h : List Event) : Type 0 where
   pub mark : (t : TaskId) (c : ℕ) → mark_of t h ≡ Some c → names_one_of c (t ∷ ancestors t h) h ≡ true
   pub refusal_ended : (t : TaskId) (c : ℕ) → refusal_of t h ≡ Some c → has_ended t h ≡ true
   pub refusal : (t : TaskId) (c : ℕ) → refusal_of t h ≡ Some c → names_one_of c (ancestors t h) h ≡ true
-  pub refused_reply : (t : TaskId) (c : ℕ) → refusal_of t h ≡ Some c → reply_of t h ≡ Some (Cancelled t c)
+  pub refused_reply : (t : TaskId) (c : ℕ) → refusal_of t h ≡ Some c → reply_of t h ≡ Some (Cancelled t c no_counts)
   pub reply_ended : (t : TaskId) (r : Reply) → reply_of t h ≡ Some r → has_ended t h ≡ true
   pub ended_reply : (t : TaskId) (r : Reply) → reply_of t h ≡ Some r → refusal_of t h ≡ None → cancellation_in r ≡ option_map (λ c. (t, c)) (mark_of t h)
   pub no_rejection : (t : TaskId) (r : Reply) → reply_of t h ≡ Some r → is_rejection r ≡ false
@@ -86,7 +86,7 @@ module _ (cluster : Cluster) where
   keep_refusal_ended (End u r) h a k t c e = grind (arith, same_tests, k.refusal_ended t c)
   keep_refusal_ended _ h a k t c e = k.refusal_ended t c e
 
-  keep_refused_reply : (e : Event) (h : List Event) → Allowed cluster e h → CauseFacts cluster.slots h → AskFacts h → (t : TaskId) (c : ℕ) → refusal_of t (e ∷ h) ≡ Some c → reply_of t (e ∷ h) ≡ Some (Cancelled t c)
+  keep_refused_reply : (e : Event) (h : List Event) → Allowed cluster e h → CauseFacts cluster.slots h → AskFacts h → (t : TaskId) (c : ℕ) → refusal_of t (e ∷ h) ≡ Some c → reply_of t (e ∷ h) ≡ Some (Cancelled t c no_counts)
   keep_refused_reply (Refuse u d) h a k f t c e = grind (arith, same_tests, k.refused_reply t c)
   keep_refused_reply (End u r) h a k f t c e = grind (arith, same_tests, k.refused_reply t c, k.refusal_ended t c, f.live_or_ended u)
   keep_refused_reply _ h a k f t c e = k.refused_reply t c e

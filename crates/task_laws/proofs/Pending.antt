@@ -15,6 +15,6 @@ others k j (a ∷ xs) = grind (arith, same_tests, others k j xs)
 
 pub is_pending : (p : TaskId) (k : ℕ) (h : List Event) → is_unanswered p k h ≡ list_any (λ a. a.ask == k) (unanswered p h)
 is_pending p k [] = refl
-is_pending p k (Ask q j n ∷ h) = grind (arith, same_tests, is_pending p k h)
+is_pending p k (Ask q j n w ∷ h) = grind (arith, same_tests, is_pending p k h)
 is_pending p k (Answered q j ∷ h) = grind (arith, same_tests, is_pending p k h, others k j (unanswered p h))
 is_pending p k (_ ∷ h) = is_pending p k h

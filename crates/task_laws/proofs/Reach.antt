@@ -31,7 +31,7 @@ others k n j d (a ∷ xs) e = let rest = others k n j d xs in grind (arith, same
 -- an unanswered ask stands in the list with its node
 pending_to : (p : TaskId) (k n : ℕ) (h : List Event) → is_unanswered p k h ≡ true → node_of_ask p k h ≡ Some n → list_any (is_to k n) (unanswered p h) ≡ true
 pending_to p k n [] u e = u
-pending_to p k n (Ask q j m ∷ h) u e = let rest = pending_to p k n h in grind (arith, same_tests, rest)
+pending_to p k n (Ask q j m w ∷ h) u e = let rest = pending_to p k n h in grind (arith, same_tests, rest)
 pending_to p k n (Answered q j ∷ h) u e = let rest = pending_to p k n h in grind (arith, same_tests, rest, others k n j)
 pending_to p k n (_ ∷ h) u e = pending_to p k n h u e
 
@@ -60,16 +60,16 @@ pub record ReachFacts (cluster : Cluster) (h : List Event) : Type 0 where
 
 module _ (cluster : Cluster) where
   keep_child_node : (e : Event) (h : List Event) → Allowed cluster e h → AskFacts h → ReachFacts cluster h → (p : TaskId) (k : ℕ) (t : TaskId) → child_of p k (e ∷ h) ≡ Some t → node_of_ask p k (e ∷ h) ≡ Some t.node
-  keep_child_node (Ask q j n) h a f r p k t e = grind (arith, same_tests, r.child_node p k t, f.no_child p k)
+  keep_child_node (Ask q j n w) h a f r p k t e = grind (arith, same_tests, r.child_node p k t, f.no_child p k)
   keep_child_node (Put u q j) h a f r p k t e = grind (arith, same_tests, r.child_node p k t)
   keep_child_node _ h a f r p k t e = r.child_node p k t e
 
   keep_low : (e : Event) (h : List Event) → Allowed cluster e h → ReachFacts cluster h → (p : TaskId) (k n : ℕ) → node_of_ask p k (e ∷ h) ≡ Some n → 1 ≤ n
-  keep_low (Ask q j m) h a r p k n e = grind (arith, same_tests, r.low p k n)
+  keep_low (Ask q j m w) h a r p k n e = grind (arith, same_tests, r.low p k n)
   keep_low _ h a r p k n e = r.low p k n e
 
   keep_high : (e : Event) (h : List Event) → Allowed cluster e h → ReachFacts cluster h → (p : TaskId) (k n : ℕ) → node_of_ask p k (e ∷ h) ≡ Some n → n ≤ cluster.nodes
-  keep_high (Ask q j m) h a r p k n e = grind (arith, same_tests, r.high p k n)
+  keep_high (Ask q j m w) h a r p k n e = grind (arith, same_tests, r.high p k n)
   keep_high _ h a r p k n e = r.high p k n e
 
   -- the mark that comes now bans the nodes of all unanswered asks
@@ -85,7 +85,7 @@ module _ (cluster : Cluster) where
   choose false n xs ys a b = b refl
 
   keep_reach : (e : Event) (h : List Event) → Allowed cluster e h → ReachFacts cluster h → (p : TaskId) (k n : ℕ) → mark_of p (e ∷ h) ≢ None → is_unanswered p k (e ∷ h) ≡ true → node_of_ask p k (e ∷ h) ≡ Some n → is_banned n p (e ∷ h) ≡ true
-  keep_reach (Ask q j m) h a r p k n i u e = grind (arith, same_tests, r.reach p k n)
+  keep_reach (Ask q j m w) h a r p k n i u e = grind (arith, same_tests, r.reach p k n)
   keep_reach (Answered q j) h a r p k n i u e = grind (arith, same_tests, r.reach p k n)
   keep_reach (Mark q c) h a r p k n i u e = choose (same_task p q) n (unanswered_nodes p h) (banned_nodes p h) (λ s. marked_now p h r k n u e) (λ s. r.reach p k n (rw s at i) u e)
   keep_reach _ h a r p k n i u e = r.reach p k n i u e

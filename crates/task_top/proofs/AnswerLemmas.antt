@@ -1,34 +1,34 @@
--- The plain answer over documents of which none comes twice: the first ten of its index, and the number of all.
-use Rattle.std.proofs.Common.{◌≡◌, ℕ, suc, ◌+◌, ◌<◌, Bool, true, false, not, ◌&&◌, ◌||◌, cond, List, [], ◌∷◌, ◌++◌, length, take, map, filter, refl, sym, ap, ◌∙◌, arith, take_all, le_refl, append-nil, get_or, ⊎_elim, true≢false, eqb, ltb, length-append}
+-- The plain answer to a search of all documents, of which none comes twice: the first ten of its index, and the number of all.
+use Rattle.std.proofs.Common.{◌≡◌, ℕ, suc, ◌+◌, ◌<◌, Bool, true, false, not, ◌&&◌, ◌||◌, cond, List, [], ◌∷◌, ◌++◌, length, take, map, filter, refl, sym, ap, ◌∙◌, arith, take_all, le_refl, append-nil, Some, None, All, subst, get_or, ⊎_elim, true≢false, eqb, ltb, length-append}
 use Rattle.std.proofs.lemmas.Bool.{cases_Bool, cases_lt, eq-eqb, le-ltb, lt-ltb}
-use Rattle.std.proofs.lemmas.List.{take_more, take-append-le}
+use Rattle.std.proofs.lemmas.List.{length-map, take-map, take_more, take-append-le}
+use Rattle.std.proofs.lemmas.List.Elements.{All-take}
 use Rattle.std.proofs.lemmas.Slice.Eq.{bytes_eq-Decides}
 use Rattle.std.proofs.Math.Bool.{and-true}
 use Rattle.std.proofs.Math.Nat.{mod-one}
-use Rattle.std.specs.List.{list_any}
+use Rattle.std.specs.List.{list_any, filter_map, last_or}
 use Rattle.std.specs.Str.{bytes_eq}
 use Rattle.task_ids.specs.declared.corpus.Corpus.{Corpus}
 use Rattle.task_ids.specs.declared.corpus.CorpusLine.{CorpusLine}
 use Rattle.task_ids.specs.declared.doc.Doc.{Doc}
 use Rattle.task_ids.specs.Placing.{hash_id, shard_of}
+use Rattle.task_ids.specs.Rows.{has_id, living_rows, rows_at}
 use Rattle.task_events.specs.declared.reply.Hit.{Hit}
 use Rattle.task_events.specs.declared.reply.Reply.{Reply}
 use Rattle.task_events.specs.declared.reply.Reply.TheVariants.{Search}
-use Rattle.task_events.specs.declared.reply.SearchAsk.{SearchAsk}
-use Rattle.task_events.specs.Answers.{shard_hits, hit_order}
-use Rattle.task_events.specs.Documents.{writes_of, has_id, living_rows}
+use Rattle.task_events.specs.declared.request.SearchAsk.{SearchAsk}
+use Rattle.task_events.specs.declared.request.HitKey.{HitKey}
+use Rattle.task_events.specs.Answers.{ShardVersion, keys_among, matching_keys, found_keys, winners, hit_of}
+use Rattle.task_events.specs.Documents.{writes_of}
+use Rattle.task_events.specs.HitOrder.{in_hit_order}
 use Rattle.task_events.specs.Run.{answer_to}
-use Rattle.task_top.specs.FirstForm.{is_same_document, are_distinct}
-use Rattle.task_top.specs.Search.{hit_below}
+use Rattle.task_top.specs.FirstForm.{is_same_document, are_distinct, match_all_body, search_all}
+use Rattle.task_top.specs.Search.{hit_below, key_of_hit, last_key, whole_reply}
+use Rattle.task_top.proofs.KeyLemmas.{rows_from, hits_from, keys_from, all_match, in_order, hit_among, IsFound, each_found, found_again}
 
 -- the documents of an index
 abbrev pub docs_of : List ℕ → List CorpusLine → List Doc
 docs_of index lines = map (λ line. line.doc) (filter (λ line. bytes_eq index line.index) lines)
-
--- the hits that documents are, the first of them at this place
-abbrev pub hits_from : List ℕ → ℕ → List Doc → List Hit
-hits_from index place [] = []
-hits_from index place (doc ∷ docs) = record { index = index; doc = doc; place = place } ∷ hits_from index (suc place) docs
 
 -- with one shard each document lies in it
 one_shard : (id : List ℕ) → eqb (shard_of id 1) 0 ≡ true
@@ -84,13 +84,12 @@ not_true true h = cc
 not_true false h = refl
 
 -- so each document is alive
-all_alive : (index : List ℕ) (place : ℕ) (lines : List CorpusLine) → are_distinct lines ≡ true
-    → map (λ row. record { index = index; doc = row.1; place = row.0 }) (living_rows place (docs_of index lines)) ≡ hits_from index place (docs_of index lines)
+all_alive : (index : List ℕ) (place : ℕ) (lines : List CorpusLine) → are_distinct lines ≡ true → living_rows place (docs_of index lines) ≡ rows_from place (docs_of index lines)
 all_alive index place [] h = refl
 all_alive index place (line ∷ more) h =
     let parts = and_true (not (list_any (λ later. is_same_document later line) more)) (are_distinct more) h in
     ⊎_elim
-    (λ yes. rw yes (rw (no_later index line more yes (not_true _ parts.0)) (ap (λ hits. record { index = index; doc = line.doc; place = place } ∷ hits) (all_alive index (suc place) more parts.1))))
+    (λ yes. rw yes (rw (no_later index line more yes (not_true _ parts.0)) (ap (λ rows. (place, line.doc) ∷ rows) (all_alive index (suc place) more parts.1))))
     (λ no. rw no (all_alive index place more parts.1))
     (cases_Bool (bytes_eq index line.index))
 
@@ -102,25 +101,80 @@ length-hits_from : (index : List ℕ) (place : ℕ) (docs : List Doc) → length
 length-hits_from index place [] = refl
 length-hits_from index place (doc ∷ docs) = ap suc (length-hits_from index (suc place) docs)
 
--- the rows of an index of one shard at its newest version, as hits
-all_hits : (corpus : Corpus) (index : List ℕ) → are_distinct corpus.lines ≡ true
-    → hit_order corpus 1 index ((0, length (writes_of corpus 1 index 0)) ∷ []) ≡ hits_from index 0 (docs_of index corpus.lines)
-all_hits corpus index distinct =
-    append-nil (shard_hits corpus 1 index (0, length (writes_of corpus 1 index 0)))
-    ∙ ap (λ docs. map (λ row. record { index = index; doc = row.1; place = row.0 }) (living_rows 0 docs)) (take_all (length (writes_of corpus 1 index 0)) (writes_of corpus 1 index 0) (le_refl _))
-    ∙ ap (λ lines. map (λ row. record { index = index; doc = row.1; place = row.0 }) (living_rows 0 (map (λ line. line.doc) lines))) (one_shard_kept index corpus.lines)
-    ∙ all_alive index 0 corpus.lines distinct
+length-keys_from : (index : List ℕ) (place : ℕ) (docs : List Doc) → length (keys_from index place docs) ≡ length docs
+length-keys_from index place docs = length-map (hits_from index place docs) key_of_hit ∙ length-hits_from index place docs
+
+-- the writes to the one shard of an index
+abbrev writes : Corpus → List ℕ → List Doc
+writes corpus index = writes_of corpus 1 index 0
+
+abbrev newest : Corpus → List ℕ → List ShardVersion
+newest corpus index = (0, length (writes corpus index)) ∷ []
+
+abbrev all_keys : Corpus → List ℕ → List HitKey
+all_keys corpus index = matching_keys match_all_body None 0 (length (writes corpus index)) (writes corpus index)
+
+abbrev found : Corpus → List ℕ → List HitKey
+found corpus index = found_keys (search_all index) (writes_of corpus 1 index) (newest corpus index)
+
+abbrev won : Corpus → List ℕ → List HitKey
+won corpus index = winners match_all_body (found corpus index)
+
+module _ (corpus : Corpus) (index : List ℕ) (distinct : are_distinct corpus.lines ≡ true) where
+  all_written : writes corpus index ≡ docs_of index corpus.lines
+  all_written = ap (map (λ line. line.doc)) (one_shard_kept index corpus.lines)
+
+  -- the rows of the shard at its newest version
+  newest_rows : rows_at (length (writes corpus index)) (writes corpus index) ≡ rows_from 0 (docs_of index corpus.lines)
+  newest_rows = ap (living_rows 0) (take_all (length (writes corpus index)) (writes corpus index) (le_refl _) ∙ all_written) ∙ all_alive index 0 corpus.lines distinct
+
+  newest_keys : all_keys corpus index ≡ keys_from index 0 (docs_of index corpus.lines)
+  newest_keys = ap (keys_among match_all_body None 0) newest_rows ∙ all_match index 0 (docs_of index corpus.lines)
+
+  all_found : found corpus index ≡ keys_from index 0 (docs_of index corpus.lines)
+  all_found = ap in_hit_order (append-nil (all_keys corpus index) ∙ newest_keys) ∙ in_order index 0 (docs_of index corpus.lines)
+
+  first_won : won corpus index ≡ map key_of_hit (take 10 (hits_from index 0 (docs_of index corpus.lines)))
+  first_won = ap (take 10) all_found ∙ take-map key_of_hit 10 (hits_from index 0 (docs_of index corpus.lines))
+
+  -- each of the first hits is found again by its key
+  found_by_key : All (λ hit. hit_of index (writes_of corpus 1 index) (newest corpus index) (key_of_hit hit) ≡ Some hit) (take 10 (hits_from index 0 (docs_of index corpus.lines)))
+  found_by_key =
+      let hits = hits_from index 0 (docs_of index corpus.lines) in
+      subst (λ rows. All (λ hit. hit_among index rows hit.place ≡ Some hit) (take 10 hits)) (sym newest_rows)
+      (All-take (IsFound index (docs_of index corpus.lines)) 10 hits (each_found index (docs_of index corpus.lines)))
+
+  all_hits : take 10 (hits_from index 0 (docs_of index corpus.lines)) ≡ filter_map (hit_of index (writes_of corpus 1 index) (newest corpus index)) (filter (λ key. not false) (won corpus index))
+  all_hits =
+      let find = hit_of index (writes_of corpus 1 index) (newest corpus index) in
+      sym (ap (filter_map find) (all_kept (won corpus index) ∙ first_won) ∙ found_again find key_of_hit (take 10 (hits_from index 0 (docs_of index corpus.lines))) found_by_key)
+
+  module _ (total : ℕ) (hits : List Hit) (counted : total ≡ length (docs_of index corpus.lines)) (first : hits ≡ take 10 (hits_from index 0 (docs_of index corpus.lines))) where
+    at_newest : total ≡ length (writes corpus index)
+    at_newest = counted ∙ sym (ap length all_written)
+
+    all_counted : total ≡ length (keys_from index 0 (docs_of index corpus.lines))
+    all_counted = counted ∙ sym (length-keys_from index 0 (docs_of index corpus.lines))
+
+    all_answer : ◌≡◌ {A = Reply} (Search (whole_reply total hits)) (answer_to corpus (search_all index))
+    all_answer =
+        let count : total ≡ length (all_keys corpus index) = all_counted ∙ sym (ap length newest_keys) in
+        let matching : total ≡ length (found corpus index) = all_counted ∙ sym (ap length all_found) in
+        let last : last_key hits ≡ last_or None (won corpus index) = ap last_key first ∙ sym (ap (last_or None) first_won) in
+        λ i. Search (record {
+          context = None;
+          shards = record { shard = 0; version = at_newest i; count = count i } ∷ [];
+          failed = [];
+          total = matching i;
+          hits = (first ∙ all_hits) i;
+          last = last i;
+        })
 
 -- the answer, from the documents of the index
-pub is_answer : (corpus : Corpus) (ask : SearchAsk) (total : ℕ) (hits : List Hit) → are_distinct corpus.lines ≡ true
+pub is_answer : (corpus : Corpus) (ask : SearchAsk) (total : ℕ) (hits : List Hit) → are_distinct corpus.lines ≡ true → ask ≡ search_all ask.index
     → total ≡ length (docs_of ask.index corpus.lines) → hits ≡ take 10 (hits_from ask.index 0 (docs_of ask.index corpus.lines))
-    → ◌≡◌ {A = Reply} (Search (record { failed = []; total = total; hits = hits })) (answer_to corpus ask)
-is_answer corpus ask total hits distinct counted first =
-    let docs = docs_of ask.index corpus.lines in
-    let found = all_hits corpus ask.index distinct in
-    ap (λ n. Search (record { failed = []; total = n; hits = hits })) (counted ∙ sym (length-hits_from ask.index 0 docs))
-    ∙ ap (λ hs. Search (record { failed = []; total = length (hits_from ask.index 0 docs); hits = hs })) (first ∙ sym (all_kept (take 10 (hits_from ask.index 0 docs))))
-    ∙ ap (λ hs. Search (record { failed = []; total = length hs; hits = filter (λ hit. not false) (take 10 hs) })) (sym found)
+    → ◌≡◌ {A = Reply} (Search (whole_reply total hits)) (answer_to corpus ask)
+is_answer corpus ask total hits distinct all counted first = all_answer corpus ask.index distinct total hits counted first ∙ sym (ap (answer_to corpus) all)
 
 -- one line more, of the index or not
 docs_with : (index : List ℕ) (lines : List CorpusLine) (line : CorpusLine) → docs_of index (lines ++ line ∷ []) ≡ docs_of index lines ++ cond (bytes_eq index line.index) (line.doc ∷ []) []

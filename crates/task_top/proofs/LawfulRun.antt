@@ -4,7 +4,7 @@ use Rattle.task_ids.specs.declared.cluster.Cluster.{Cluster}
 use Rattle.task_ids.specs.declared.corpus.Corpus.{Corpus}
 use Rattle.task_events.specs.declared.event.Event.{Event}
 use Rattle.task_events.specs.declared.event.Event.TheVariants.{Begin, Root, Work}
-use Rattle.task_events.specs.declared.reply.SearchAsk.{SearchAsk}
+use Rattle.task_events.specs.declared.request.SearchAsk.{SearchAsk}
 use Rattle.task_events.specs.Lawful.{Lawful}
 use Rattle.task_events.specs.Run.{first_task, run_of}
 use Rattle.task_events.specs.Same.{same_task, same_pair}

@@ -1,6 +1,11 @@
 pub mod AnswerLemmas
 pub mod CorpusLemmas
 pub mod DistinctLemmas
+pub mod EndLemmas
+pub mod KeyLemmas
+pub mod FoundLemmas
+pub mod KnownLemmas
+pub mod LastLemmas
 pub mod LawfulRun
 pub mod LineLemmas
 pub mod LinesLemmas
@@ -8,4 +13,6 @@ pub mod PrintLemmas
 pub mod ReadingLaws
 pub mod RunLemmas
 pub mod TopLemmas
+pub mod TurnLemmas
+pub mod WholeLemmas
 pub mod WordLemmas

@@ -1,11 +1,12 @@
 -- The texts of a reply's parts, as they are appended one after another.
-use Rattle.std.proofs.Common.{◌≡◌, ℕ, ◌-◌, false, List, ◌++◌, length, map, codes, refl, sym, ap, ◌∙◌, append_assoc, decimal}
+use Rattle.std.proofs.Common.{◌≡◌, ℕ, ◌-◌, false, List, [], ◌∷◌, ◌++◌, length, map, codes, refl, sym, ap, ◌∙◌, append_assoc, decimal}
 use Rattle.json.specs.Print.{quoted, escape_byte}
-use Rattle.serde_json.specs.Data.{Data}
+use Rattle.serde_json.specs.Data.{Data, Items, array}
 use Rattle.serde_json.specs.View.{items_of}
 use Rattle.serde_json.specs.Written.{compact_text, items_text}
 use Rattle.task_events.specs.declared.reply.Hit.{Hit}
 use Rattle.task_events.specs.declared.reply.SearchReply.{SearchReply}
+use Rattle.task_top.specs.Lines.{error_line}
 use Rattle.task_events.specs.Printed.{hit_json, hits_json, shards_json, search_json, total_json, reply_line}
 
 -- parts that were appended in turn are appended as one
@@ -68,3 +69,24 @@ line_parts command reply = ap (λ rest. codes "{\"command\":" ++ rest) (ap (λ r
 pub line_text : (command : ℕ) (reply : Data) (o : List ℕ)
     → ((((o ++ codes "{\"command\":") ++ decimal command) ++ codes ",\"reply\":") ++ compact_text reply) ++ codes "}\n" ≡ o ++ reply_line command reply
 line_text command reply o = appended_five o _ _ _ _ _ ∙ ap (λ text. o ++ text) (line_parts command reply)
+
+error_parts : (command : ℕ) (error : Data)
+    → codes "{\"command\":" ++ (decimal command ++ (codes ",\"error\":" ++ (compact_text error ++ codes "}\n"))) ≡ error_line command error
+unfolding escape_byte
+error_parts command error = ap (λ rest. codes "{\"command\":" ++ rest) (ap (λ rest. decimal command ++ (codes ",\"error\":" ++ rest)) (sym (append_assoc (compact_text error) (codes "}") (codes "\n"))) ∙ sym (append_assoc (decimal command) (codes ",\"error\":" ++ (compact_text error ++ codes "}")) (codes "\n")))
+
+pub error_text : (command : ℕ) (error : Data) (o : List ℕ)
+    → ((((o ++ codes "{\"command\":") ++ decimal command) ++ codes ",\"error\":") ++ compact_text error) ++ codes "}\n" ≡ o ++ error_line command error
+error_text command error o = appended_five o _ _ _ _ _ ∙ ap (λ text. o ++ text) (error_parts command error)
+
+opened : (a r i : List ℕ) → (a ++ (r ++ 91 ∷ [])) ++ i ≡ (a ++ r) ++ 91 ∷ i
+opened a r i = simp append_assoc
+
+-- a line whose reply is a list that was appended item by item
+pub list_text : (command : ℕ) (items : Items) (o out : List ℕ)
+    → out ++ codes "]" ≡ (((o ++ codes "{\"command\":") ++ decimal command) ++ codes ",\"reply\":[") ++ items_text false items
+    → out ++ codes "]}\n" ≡ o ++ reply_line command (array items)
+list_text command items o out h =
+    sym (append_assoc out (codes "]") (codes "}\n"))
+    ∙ ap (λ text. text ++ codes "}\n") (h ∙ opened ((o ++ codes "{\"command\":") ++ decimal command) (codes ",\"reply\":") (items_text false items))
+    ∙ line_text command (array items) o

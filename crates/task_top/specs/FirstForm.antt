@@ -1,14 +1,16 @@
 -- The form of input that is read so far: documents as the bulk API takes them, a line `--`, and at most one search.
-use Rattle.std.specs.Prelude.{◌≡◌, ℕ, List, [], ◌∷◌, length, codes, Bool, true, not, ◌&&◌, if◌then◌else◌, nat_lt, Option, Some, None, Result, Ok, Err}
+use Rattle.std.specs.Prelude.{◌≡◌, ◌≤◌, ℕ, List, [], ◌∷◌, length, codes, Bool, true, not, ◌&&◌, if◌then◌else◌, nat_lt, Option, Some, None, IfSome, Result, Ok, Err}
 use Rattle.std.specs.List.{list_any}
 use Rattle.std.specs.Str.{bytes_eq}
 use Rattle.std.specs.Str.Lines.{lines}
 use Rattle.serde_json.specs.Find.{as_str}
+use Rattle.query_parse.specs.declared.body.SearchBody.{SearchBody}
+use Rattle.query_parse.specs.Query.{match_all}
 use Rattle.task_ids.specs.declared.cause.Cause.{Cause}
 use Rattle.task_ids.specs.declared.cause.Cause.TheVariants.{TooLong, NotBuilt}
 use Rattle.task_ids.specs.declared.corpus.Corpus.{Corpus}
 use Rattle.task_ids.specs.declared.corpus.CorpusLine.{CorpusLine}
-use Rattle.task_events.specs.declared.reply.SearchAsk.{SearchAsk}
+use Rattle.task_events.specs.declared.request.SearchAsk.{SearchAsk}
 use Rattle.task_top.specs.declared.script.Command.{Command}
 use Rattle.task_top.specs.declared.script.Command.TheVariants.{Search}
 use Rattle.task_top.specs.declared.script.Script.{Script}
@@ -69,12 +71,20 @@ search_of line = do
   all ← get_of 1 (codes "match_all") query
   if is_empty_object all then Some index else None
 
+-- the body of a search of all documents, which shows the first ten
+abbrev pub match_all_body : SearchBody
+match_all_body = record { query = match_all; sort = []; from = 0; size = 10 }
+
+-- the search of all documents of an index, which opens no context
+abbrev pub search_all : List ℕ → SearchAsk
+search_all index = record { index = index; body = match_all_body; scroll = None; slice = None; owner = None }
+
 -- the script's lines: none, or one search of a known index
 unfoldable pub script_of : List CorpusLine → List (List ℕ) → Option (List Command)
 script_of corpus [] = Some []
 script_of corpus (line ∷ []) = do
   index ← search_of line
-  if is_known index corpus then Some (Search (record { index = index }) ∷ []) else None
+  if is_known index corpus then Some (Search (search_all index) ∷ []) else None
 script_of corpus (line ∷ next ∷ rest) = None
 
 -- the documents and the script of an input of the first form
@@ -120,3 +130,9 @@ first_search (Search ask ∷ more) = Some ask
 -- the search of a script of at most one
 abbrev pub search_in : Script → Option SearchAsk
 search_in script = first_search script.commands
+
+-- What holds of an input of the first form: it has no more documents than an input has bytes at most, none of them comes twice, and its search is one of all documents.
+pub record IsFirstForm (corpus : Corpus) (search : Option SearchAsk) : Type 0 where
+  pub few : length corpus.lines ≤ max_input
+  pub distinct : are_distinct corpus.lines ≡ true
+  pub all : IfSome search (λ ask. ask ≡ search_all ask.index)

@@ -1,7 +1,11 @@
+pub mod Ends
+pub mod Errors
 pub mod FirstForm
 pub mod Gives
 pub mod Json
 pub mod Kept
+pub mod Lines
+pub mod Looked
 pub mod Parts
 pub mod Plan
 pub mod Search

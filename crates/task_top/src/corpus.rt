@@ -1,4 +1,4 @@
-ghost use Rattle.std.specs.Prelude.{◌≡◌, IfOk};
+ghost use Rattle.std.specs.Prelude.{◌≡◌, ◌≤◌, length, IfOk};
 ghost use Rattle.std.specs.Str.Lines.{lines};
 ghost use Rattle.task_top.specs.FirstForm.{action_of, corpus_line, corpus_lines, are_distinct};
 ghost use Rattle.task_top.specs.Gives.{Gives};
@@ -44,7 +44,8 @@ fn corpus_line_of(alloc: Global, action: &[u8], next: &[u8]) -> Result<CorpusLin
 
 /// The documents up to the line `--` or the end, and the bytes after it.
 pub fn split_corpus(alloc: Global, bytes: &[u8]) -> Result<(Vec<CorpusLine>, &[u8]), FormError>
-    ensures { Gives split_view result (corpus_lines (lines bytes.now)) }
+    ensures split { Gives split_view result (corpus_lines (lines bytes.now)) }
+    ensures few { IfOk result (λ split. length split.0.items ≤ length bytes.now) }
 {
     let mut found = Vec::new(alloc);
     let mut rest = bytes;

@@ -9,6 +9,7 @@ mod laws;
 mod lines;
 mod plans;
 mod print;
+pub mod printing;
 mod reading;
 mod run;
 mod script;

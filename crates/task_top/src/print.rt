@@ -9,14 +9,14 @@ use std::alloc::{AllocError, Global};
 use task_events::{Hit, SearchReply};
 
 /// Appends a text as it stands.
-fn push(out: &mut Vec<u8>, text: &str) -> Result<(), AllocError>
+pub(crate) fn push(out: &mut Vec<u8>, text: &str) -> Result<(), AllocError>
     ensures { OnOk result (out.new.items ≡ out.old.items ++ text.now) }
 {
     out.extend_from_slice(text.as_bytes())
 }
 
 /// Appends a number in decimal digits.
-fn push_number(alloc: Global, out: &mut Vec<u8>, number: u64) -> Result<(), AllocError>
+pub(crate) fn push_number(alloc: Global, out: &mut Vec<u8>, number: u64) -> Result<(), AllocError>
     ensures { OnOk result (out.new.items ≡ out.old.items ++ decimal number) }
 {
     let digits = number.to_string(alloc)?;
@@ -24,7 +24,7 @@ fn push_number(alloc: Global, out: &mut Vec<u8>, number: u64) -> Result<(), Allo
 }
 
 /// Appends a text as a JSON string.
-fn push_quoted(alloc: Global, out: &mut Vec<u8>, text: &str) -> Result<(), AllocError>
+pub(crate) fn push_quoted(alloc: Global, out: &mut Vec<u8>, text: &str) -> Result<(), AllocError>
     ensures { OnOk result (out.new.items ≡ out.old.items ++ quoted text.now) }
 {
     let value = Value::try_from_str(alloc, text)?;
@@ -63,13 +63,12 @@ fn push_hits(alloc: Global, out: &mut Vec<u8>, hits: &[Hit]) -> Result<(), Alloc
 
 /// Appends how many of so many shards failed and how many did not.
 fn push_shards(alloc: Global, out: &mut Vec<u8>, shards: u64, failed: u64) -> Result<(), AllocError>
-    requires { failed ≤ shards }
     ensures { OnOk result (out.new.items ≡ out.old.items ++ compact_text (shards_json shards failed)) }
 {
     push(out, "{\"failed\":")?;
     push_number(alloc, out, failed)?;
     push(out, ",\"successful\":")?;
-    push_number(alloc, out, shards - failed)?;
+    push_number(alloc, out, shards.saturating_sub(failed))?;
     push(out, ",\"total\":")?;
     push_number(alloc, out, shards)?;
     push(out, "}")?;
@@ -99,13 +98,12 @@ fn push_found(alloc: Global, out: &mut Vec<u8>, reply: &SearchReply) -> Result<(
 }
 
 /// Appends a search's reply, where its index has so many shards.
-fn push_reply(
+pub(crate) fn push_reply(
     alloc: Global,
     out: &mut Vec<u8>,
     shards: u32,
     reply: &SearchReply,
 ) -> Result<(), AllocError>
-    requires { length reply.now.failed ≤ shards }
     ensures { OnOk result (out.new.items ≡ out.old.items ++ compact_text (search_json shards reply.now)) }
 {
     let failed = reply.failed.as_slice().len() as u64;

@@ -1,6 +1,6 @@
-ghost use Rattle.std.specs.Prelude.{true, ◌≡◌, ◌≤◌, length, IfOk};
+ghost use Rattle.std.specs.Prelude.{true, ◌≡◌, ◌≤◌, length, IfOk, IfSome};
 ghost use Rattle.std.specs.Str.Lines.{lines};
-ghost use Rattle.task_top.specs.FirstForm.{are_distinct, is_known, search_of, script_of, first_form};
+ghost use Rattle.task_top.specs.FirstForm.{IsFirstForm, max_input, are_distinct, is_known, search_of, search_all, script_of, first_search, first_form, search_in};
 ghost use Rattle.task_top.specs.Gives.{Gives};
 
 use crate::corpus::{are_distinct, split_corpus};
@@ -8,6 +8,8 @@ use crate::fault::FormError;
 use crate::json_line::{get_of, is_empty_object, value_of_line};
 use crate::lines::split_line;
 use crate::script::{Command, Script};
+use crate::search::DEFAULT_SIZE;
+use query_parse::{Query, SearchBody};
 use std::alloc::Global;
 use task_events::SearchAsk;
 use task_ids::{Corpus, CorpusLine, Items, Text};
@@ -30,6 +32,25 @@ fn index_of_search(alloc: Global, line: &[u8]) -> Result<Text, FormError>
     Ok(Text::new(String::from_str(alloc, index)?))
 }
 
+/// The search of all documents of an index.
+fn search_all(alloc: Global, index: Text) -> SearchAsk
+    ensures { result ≡ search_all index }
+{
+    let body = SearchBody {
+        query: Query::all(),
+        sort: query_parse::Items::new(alloc),
+        from: 0,
+        size: DEFAULT_SIZE,
+    };
+    SearchAsk {
+        index,
+        body,
+        scroll: None,
+        slice: None,
+        owner: None,
+    }
+}
+
 /// Whether some document is of this index.
 fn is_known(index: &str, corpus: &[CorpusLine]) -> bool
     ensures { result ≡ is_known index.now corpus.now }
@@ -44,7 +65,8 @@ fn commands_of(
     corpus: &[CorpusLine],
     bytes: &[u8],
 ) -> Result<Vec<Command>, FormError>
-    ensures { Gives (λ commands. commands.items) result (script_of corpus.now (lines bytes.now)) }
+    ensures read { Gives (λ commands. commands.items) result (script_of corpus.now (lines bytes.now)) }
+    ensures all { IfOk result (λ commands. IfSome (first_search commands.items) (λ ask. ask ≡ search_all ask.index)) }
 {
     let mut commands = Vec::new(alloc);
     let Some((line, rest)) = split_line(bytes) else {
@@ -57,15 +79,16 @@ fn commands_of(
     if !is_known(index.as_str(), corpus) {
         return Err(FormError::NotFirstForm);
     }
-    commands.push(Command::Search(SearchAsk { index }))?;
+    commands.push(Command::Search(search_all(alloc, index)))?;
     Ok(commands)
 }
 
 /// The documents and the script of an input of the first form.
 #[tactic(auto, unfolding(crate::specs::FirstForm::first_form))]
 pub fn read_input(alloc: Global, input: &[u8]) -> Result<(Corpus, Script), FormError>
+    requires { length input.now ≤ max_input }
     ensures read { Gives (λ read. read) result (first_form input.now) }
-    ensures distinct { IfOk result (λ read. are_distinct read.0.lines ≡ true) }
+    ensures form { IfOk result (λ read. IsFirstForm read.0 (search_in read.1)) }
 {
     let (found, rest) = split_corpus(alloc, input)?;
     if !are_distinct(alloc, found.as_slice())? {

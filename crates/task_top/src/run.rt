@@ -1,7 +1,7 @@
-ghost use Rattle.std.specs.Prelude.{◌≡◌, ◌<◌, [], ◌∷◌, length, true, OnOk, OnErr, Some};
+ghost use Rattle.std.specs.Prelude.{◌≡◌, ◌<◌, [], ◌∷◌, length, OnOk, OnErr, Some};
 ghost use Rattle.task_events.specs.declared.history.TheConstants.{MAX_EVENTS};
 ghost use Rattle.task_events.specs.Run.{first_task, run_of};
-ghost use Rattle.task_top.specs.FirstForm.{are_distinct, search_in};
+ghost use Rattle.task_top.specs.FirstForm.{IsFirstForm, search_in};
 ghost use Rattle.task_top.specs.Parts.{IsPartOf};
 
 use crate::script::Script;
@@ -32,7 +32,7 @@ pub fn run_script(
     history: &mut History,
 ) -> Result<(), AllocError>
     requires empty { history.old ≡ [] }
-    requires distinct { are_distinct corpus.now.lines ≡ true }
+    requires form { IsFirstForm corpus.now (search_in script.now) }
     ensures ok { OnOk result (history.new ≡ run_of corpus.now (search_in script.now)) }
     ensures err { OnErr result (IsPartOf history.new (run_of corpus.now (search_in script.now))) }
 {
@@ -56,7 +56,7 @@ fn run_search(
     history: &mut History,
 ) -> Result<(), AllocError>
     requires empty { history.old ≡ [] }
-    requires distinct { are_distinct corpus.now.lines ≡ true }
+    requires form { IsFirstForm corpus.now (Some ask.now) }
     ensures ok { OnOk result (history.new ≡ run_of corpus.now (Some ask.now)) }
     ensures err { OnErr result (IsPartOf history.new (run_of corpus.now (Some ask.now))) }
 {

@@ -1,18 +1,19 @@
-ghost use Rattle.std.specs.Prelude.{◌≡◌, [], ◌++◌, true, IfOk, OnOk};
+ghost use Rattle.std.specs.Prelude.{◌≡◌, ◌≤◌, [], ◌++◌, Some, IfOk, OnOk};
 ghost use Rattle.task_events.specs.Run.{answer_to};
-ghost use Rattle.task_top.specs.FirstForm.{are_distinct};
-ghost use Rattle.task_top.specs.Search.{hit_below};
+ghost use Rattle.task_top.specs.FirstForm.{IsFirstForm, max_input};
+ghost use Rattle.task_top.specs.Search.{hit_below, key_of_hit, last_key, whole_reply};
 
+use query_parse::sort_key;
 use std::alloc::{AllocError, Global};
-use task_events::{Hit, Reply, SearchAsk, SearchReply};
+use task_events::{Hit, HitKey, Reply, SearchAsk, SearchReply, ShardCount};
 use task_ids::{Boxed, Corpus, CorpusLine, Items};
 
 /// How many hits a search has at most, where it does not say.
-const DEFAULT_SIZE: u64 = 10;
+pub const DEFAULT_SIZE: u32 = 10;
 
-/// The answer to a search over the documents of its index, none of which comes twice.
+/// The answer to a search of all documents of its index, none of which comes twice.
 pub fn answer(alloc: Global, corpus: &Corpus, ask: &SearchAsk) -> Result<Reply, AllocError>
-    requires { are_distinct corpus.now.lines ≡ true }
+    requires { IsFirstForm corpus.now (Some ask.now) }
     ensures { IfOk result (λ reply. reply ≡ answer_to corpus.now ask.now) }
 {
     let mut hits = Items::new(alloc);
@@ -23,12 +24,7 @@ pub fn answer(alloc: Global, corpus: &Corpus, ask: &SearchAsk) -> Result<Reply, 
             total += 1;
         }
     }
-    let failed = Items::new(alloc);
-    let reply = SearchReply {
-        failed,
-        total,
-        hits,
-    };
+    let reply = whole_reply(alloc, total, hits)?;
     Ok(Reply::Search(Boxed::new(alloc, reply)?))
 }
 
@@ -36,7 +32,7 @@ pub fn answer(alloc: Global, corpus: &Corpus, ask: &SearchAsk) -> Result<Reply, 
 fn keep_first(hits: &mut Items<Hit>, line: &CorpusLine, before: u64) -> Result<(), AllocError>
     ensures { OnOk result (hits.new ≡ hits.old ++ hit_below DEFAULT_SIZE before line.now) }
 {
-    if before >= DEFAULT_SIZE {
+    if before >= u64::from(DEFAULT_SIZE) {
         return Ok(());
     }
     let index = line.index.copy()?;
@@ -44,4 +40,47 @@ fn keep_first(hits: &mut Items<Hit>, line: &CorpusLine, before: u64) -> Result<(
     let place = before as u32;
     hits.push(Hit { index, doc, place })?;
     Ok(())
+}
+
+/// The reply of one shard with so many writes, which all match, and of which these hits are shown.
+fn whole_reply(alloc: Global, total: u64, hits: Items<Hit>) -> Result<SearchReply, AllocError>
+    requires { total ≤ max_input }
+    ensures { IfOk result (λ reply. reply ≡ whole_reply total hits) }
+{
+    let mut shards = Items::new(alloc);
+    shards.push(ShardCount {
+        shard: 0,
+        version: total as u32,
+        count: total,
+    })?;
+    let last = last_key(alloc, hits.as_slice())?;
+    Ok(SearchReply {
+        context: None,
+        shards,
+        failed: Items::new(alloc),
+        total,
+        hits,
+        last,
+    })
+}
+
+/// The key of the last hit, for no sort.
+fn last_key(alloc: Global, hits: &[Hit]) -> Result<Option<HitKey>, AllocError>
+    ensures { IfOk result (λ last. last ≡ last_key hits.now) }
+{
+    match hits.last() {
+        None => Ok(None),
+        Some(hit) => Ok(Some(key_of_hit(alloc, hit)?)),
+    }
+}
+
+fn key_of_hit(alloc: Global, hit: &Hit) -> Result<HitKey, AllocError>
+    ensures { IfOk result (λ key. key ≡ key_of_hit hit.now) }
+{
+    let sort = sort_key(alloc, &[], hit.doc.source.as_value())?;
+    Ok(HitKey {
+        sort,
+        shard: 0,
+        place: hit.place,
+    })
 }

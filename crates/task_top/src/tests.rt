@@ -6,6 +6,7 @@ use crate::{Kept, Status, sim_top};
 use es_io::{MemSink, MemSource};
 use std::alloc::Global;
 use std::test::Fail;
+use task_events::{Event, Reply, SearchReply, ShardCount};
 use task_ids::{Cause, Cluster};
 
 /// Two documents and a search for both.
@@ -29,6 +30,19 @@ impl Ended {
         self.kept.corpus.lines.as_slice().is_empty()
             && self.kept.script.commands.as_slice().is_empty()
             && self.kept.history.is_empty()
+    }
+
+    /// The reply with which the search's root ended.
+    fn reply(&self) -> Option<&SearchReply> {
+        match self.kept.history.newest() {
+            Some(
+                Event::End {
+                    reply: Reply::Search(reply),
+                    ..
+                },
+            ) => Some(reply.get()),
+            _ => None,
+        }
     }
 }
 
@@ -83,6 +97,50 @@ fn answers_the_first_search_in_pieces(rt: HostRuntime) -> Result<(), Fail> {
         assert_eq!(rt; ended.kept.corpus.lines.as_slice().len(), 2);
         assert_eq!(rt; ended.kept.script.commands.as_slice().len(), 1);
         assert_eq!(rt; ended.kept.history.len(), 5);
+    }
+    Ok(())
+}
+
+/// So many documents of an index, each after one of another index, and a search for the first.
+fn with_documents(alloc: Global, count: u32) -> Result<String, Fail> {
+    let mut all = String::new(alloc);
+    for id in 0..count {
+        for index in ["b", "a"] {
+            let action = format!(in alloc;
+                "{{\"index\":{{\"_index\":\"{index}\",\"_id\":\"{id}\"}}}}\n{{}}\n"
+            )?;
+            all.push_str(action.as_str())?;
+        }
+    }
+    all.push_str("--\n{\"search\":{\"index\":\"a\",\"body\":{\"query\":{\"match_all\":{}}}}}\n")?;
+    Ok(all)
+}
+
+#[test]
+fn keeps_the_count_and_the_last_key(rt: HostRuntime) -> Result<(), Fail> {
+    for (documents, hits, last) in [(1, 1, 0), (9, 9, 8), (10, 10, 9), (12, 10, 9)] {
+        let input = with_documents(rt.alloc(), documents)?;
+        let ended = sim_text(rt.alloc(), input.as_str())?;
+        let reply = ended.reply().ok_or("a search has a reply")?;
+        assert!(rt; reply.context.is_none());
+        assert!(rt; reply.failed.as_slice().is_empty());
+        let count = ShardCount {
+            shard: 0,
+            version: documents,
+            count: u64::from(documents),
+        };
+        assert_eq!(rt;
+            reply.shards.as_slice(),
+            [count].as_slice(),
+            "of {documents}"
+        );
+        assert_eq!(rt; reply.total, u64::from(documents));
+        assert_eq!(rt; reply.hits.as_slice().len(), hits, "of {documents}");
+        let key = reply
+            .last
+            .as_ref()
+            .ok_or("a reply with hits has a last key")?;
+        assert_eq!(rt; (key.shard, key.place), (0, last), "of {documents}");
     }
     Ok(())
 }

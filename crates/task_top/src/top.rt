@@ -1,8 +1,8 @@
-ghost use Rattle.std.specs.Prelude.{◌≡◌, Some, true, IfSome, option_map};
+ghost use Rattle.std.specs.Prelude.{◌≡◌, Some, IfSome, option_map};
 ghost use Rattle.es_io.specs.Count.{Rose};
 ghost use Rattle.task_events.specs.Lawful.{Lawful};
 ghost use Rattle.task_events.specs.Run.{run_of};
-ghost use Rattle.task_top.specs.FirstForm.{are_distinct, search_in};
+ghost use Rattle.task_top.specs.FirstForm.{IsFirstForm, search_in};
 ghost use Rattle.task_top.specs.Kept.{AnswersInput, RanAsRead, WritesLines, HasCause, IsAfterReading, newest_answer};
 ghost use Rattle.task_top.specs.Plan.{IsSmall};
 
@@ -70,7 +70,7 @@ fn run_and_print<K: Sink>(
     out: &mut K,
 ) -> (Status, Kept)
     requires one_shard { shards ≡ 1 }
-    requires distinct { are_distinct corpus.lines ≡ true }
+    requires form { IsFirstForm corpus (search_in script) }
     ensures corpus { result.1.corpus ≡ corpus }
     ensures script { result.1.script ≡ script }
     ensures status { IsAfterReading result.0 }

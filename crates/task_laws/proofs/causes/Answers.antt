@@ -3,7 +3,7 @@ use Rattle.task_ids.specs.declared.task_id.TaskId.{TaskId}
 use Rattle.task_events.specs.declared.reply.Reply.{Reply}
 use Rattle.task_events.specs.declared.reply.Reply.TheVariants.{Cancelled}
 use Rattle.task_events.specs.declared.event.Event.{Event}
-use Rattle.task_events.specs.Tasks.{live_on, refusal_of, reply_of, ancestors}
+use Rattle.task_events.specs.Tasks.{no_counts, live_on, refusal_of, reply_of, ancestors}
 use Rattle.task_events.specs.Bans.{mark_of}
 use Rattle.task_events.specs.Cancels.{is_named, names_one_of}
 use Rattle.task_events.specs.Allowed.{cancellation_in}
@@ -29,7 +29,7 @@ named_by : (slots : ℕ) (h : List Event) → CauseFacts slots h → (t u : Task
     → (o : Option ℕ) → refusal_of t h ≡ o → (m : Option ℕ) → mark_of t h ≡ m → (u ≡ t) × (names_one_of c (t ∷ ancestors t h) h ≡ true)
 named_by slots h k t u c r e i (Some d) o m q =
     let refused = k.refused_reply t d o in
-    let is : r ≡ Cancelled t d = cc in
+    let is : r ≡ Cancelled t d no_counts = cc in
     let told : Some (t, d) ≡ Some (u, c) = rw is at i in
     let same : d ≡ c = ap (λ x. second x) told in
     (sym (ap (λ x. first t x) told), also (is_named c t h) _ (subst (λ x. names_one_of x (ancestors t h) h ≡ true) same (k.refusal t d o)))
@@ -63,7 +63,7 @@ returns-clause-events c = λ cluster. record {
   marked_by = λ t d h l. marked_by t d h l.0.cause;
   refused_by = λ t d h l. refused_under t d h l.0.ban;
   ended_by = λ t r h l. l.0.cancelled;
-  asks = λ p k n h l. (l.0.unmarked, l.0.goes_on.passed, l.0.goes_on.live);
+  asks = λ p k n r h l. (l.0.unmarked, l.0.goes_on.passed, l.0.goes_on.live);
   works = λ t h l. (l.0.unmarked, l.0.goes_on.passed, l.0.goes_on.live);
   rejected = λ n p k h l. (full cluster.slots n h (cause_facts cluster h l.1) l.0.full, l.0.node);
   root_rejected = λ k n h l. (full cluster.slots n h (cause_facts cluster h l.1) l.0.full, l.0.low, l.0.high);

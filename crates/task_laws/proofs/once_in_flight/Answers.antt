@@ -12,7 +12,7 @@ use Rattle.task_laws.proofs.once_in_flight.Goals as goal
 
 delivered : (h : List Event) → OnceInFlight h → DeliversAnyMessage h
 delivered h o = record {
-  request = λ i p k n e. at_place (is_request p k) h i (Request p k n) (o.request p k) e (same_pair_refl p k);
+  request = λ i p k n r e. at_place (is_request p k) h i (Request p k n r) (o.request p k) e (same_pair_refl p k);
   answer = λ i p k r e. at_place (is_answer p k) h i (Answer p k r) (o.answer p k) e (same_pair_refl p k);
   ban = λ i p c n e. at_place (is_ban n p) h i (Ban p c n) (o.ban n p) e (same_pair_refl p n);
   ack = λ i p n e. at_place (is_ack n p) h i (Ack p n) (o.ack n p) e (same_pair_refl p n);

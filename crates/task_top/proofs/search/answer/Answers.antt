@@ -1,7 +1,8 @@
 use Rattle.std.proofs.Common.{◌≡◌, true, false, take, length, ap, sym, ◌∙◌, arith, take_all}
 use Rattle.std.specs.Str.{bytes_eq}
 use Rattle.task_events.specs.declared.reply.Reply.TheVariants.{Search}
-use Rattle.task_top.proofs.AnswerLemmas.{docs_of, hits_from, is_answer, docs_same, counted_more, first_more}
+use Rattle.task_top.proofs.AnswerLemmas.{docs_of, is_answer, docs_same, counted_more, first_more}
+use Rattle.task_top.proofs.KeyLemmas.{hits_from}
 use Rattle.task_top.proofs.search.answer.Goals as goal
 use Rattle.task_top.proofs.search.answer.Goals.{then-eq+in_ok-keep_first, else-eq}
 
@@ -33,9 +34,9 @@ loop-line-preserved c =
 pub returns : goal.returns
 returns c =
     let corpus = c.args.corpus.now in
-    let index = c.args.ask.now.index in
+    let ask = c.args.ask.now in
     let all : take c.loop-line.line-index c.as_slice-line-items.result.now ≡ corpus.lines = take_all c.loop-line.line-index c.as_slice-line-items.result.now (omega arith) ∙ c.as_slice-line-items.ensures in
-    ap Search (c.in_ok-new.ensures.ok ∙ ap (λ failed. record { failed = failed; total = c.loop-line.total; hits = c.loop-line.hits }) c.new-failed.ensures)
-    ∙ is_answer corpus c.args.ask.now c.loop-line.total c.loop-line.hits c.requires
-    (c.loop-line.invariant.counted ∙ ap (λ lines. length (docs_of index lines)) all)
-    (c.loop-line.invariant.first ∙ ap (λ lines. take 10 (hits_from index 0 (docs_of index lines))) all)
+    ap Search (c.in_ok-new.ensures.ok ∙ c.in_ok-reply.ensures)
+    ∙ is_answer corpus ask c.loop-line.total c.loop-line.hits c.requires.distinct c.requires.all
+    (c.loop-line.invariant.counted ∙ ap (λ lines. length (docs_of ask.index lines)) all)
+    (c.loop-line.invariant.first ∙ ap (λ lines. take 10 (hits_from ask.index 0 (docs_of ask.index lines))) all)

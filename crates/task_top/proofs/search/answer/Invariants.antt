@@ -1,5 +1,6 @@
 use Rattle.std.proofs.Common.{◌≡◌, ◌≤◌, length, take}
-use Rattle.task_top.proofs.AnswerLemmas.{docs_of, hits_from}
+use Rattle.task_top.proofs.AnswerLemmas.{docs_of}
+use Rattle.task_top.proofs.KeyLemmas.{hits_from}
 use Rattle.task_top.proofs.search.answer.Given as goal
 
 abbrev pub invariant-loop-line : goal.invariant-loop-line

@@ -1,0 +1,42 @@
+-- Several fields, as contracts see them.
+use Rattle.std.proofs.Common.{◌≡◌, Result, Ok, Err, refl, ap, ◌∙◌}
+use Rattle.task_ids.specs.declared.cause.Cause.{Cause}
+use Rattle.shard_docs.specs.Fault.{and_then}
+use Rattle.script_lang.specs.Fields.{both, seen}
+
+-- a value that is seen as itself
+pub seen_same : {A : Type 0} (a : Result A Cause) → seen (λ x. x) a ≡ a
+seen_same (Ok x) = refl
+seen_same (Err cause) = refl
+
+-- two fields are seen as each of them is
+pub seen_both : {A B X Y : Type 0} (f : A → X) (g : B → Y) (a : Result A Cause) (b : Result B Cause) → seen (λ p. (f p.0, g p.1)) (both a b) ≡ both (seen f a) (seen g b)
+seen_both f g (Ok x) (Ok y) = refl
+seen_both f g (Ok x) (Err b) = refl
+seen_both f g (Err a) (Ok y) = refl
+seen_both f g (Err a) (Err b) = refl
+
+-- three fields are seen as each of them is
+pub seen_three : {A B C X Y Z : Type 0} (f : A → X) (g : B → Y) (h : C → Z) (a : Result A Cause) (b : Result B Cause) (c : Result C Cause) (x : Result X Cause) (y : Result Y Cause) (z : Result Z Cause)
+    → seen f a ≡ x → seen g b ≡ y → seen h c ≡ z → seen (λ p. (f p.0, (g p.1.0, h p.1.1))) (both a (both b c)) ≡ both x (both y z)
+seen_three f g h a b c x y z e e' e'' =
+    seen_both f (λ p. (g p.0, h p.1)) a (both b c) ∙ ap (both (seen f a)) (seen_both g h b c)
+    ∙ ap (λ r. both r (both (seen g b) (seen h c))) e ∙ ap (λ r. both x (both r (seen h c))) e' ∙ ap (λ r. both x (both y r)) e''
+
+-- where both fields are good, each is
+pub both_first : {A B : Type 0} (a : Result A Cause) (b : Result B Cause) (p : A × B) → both a b ≡ Ok p → a ≡ Ok p.0
+both_first {A = A} {B = B} (Ok x) (Ok y) p e = let same : ◌≡◌ {A = A × B} (x, y) p = cc in ap (λ q. Ok q.0) same
+both_first (Ok x) (Err b) p e = cc
+both_first (Err a) (Ok y) p e = cc
+both_first (Err a) (Err b) p e = cc
+
+pub both_second : {A B : Type 0} (a : Result A Cause) (b : Result B Cause) (p : A × B) → both a b ≡ Ok p → b ≡ Ok p.1
+both_second {A = A} {B = B} (Ok x) (Ok y) p e = let same : ◌≡◌ {A = A × B} (x, y) p = cc in ap (λ q. Ok q.1) same
+both_second (Ok x) (Err b) p e = cc
+both_second (Err a) (Ok y) p e = cc
+both_second (Err a) (Err b) p e = cc
+
+-- where two steps go well, the first does
+pub first_ok : {A B E : Type 0} (a : Result A E) (f : A → Result B E) (y : B) → and_then a f ≡ Ok y → (x : A) × (a ≡ Ok x) × (f x ≡ Ok y)
+first_ok (Ok x) f y e = (x, refl, e)
+first_ok (Err cause) f y e = cc

@@ -1,0 +1,6 @@
+pub mod FieldLemmas
+pub mod Fitting
+pub mod LineLemmas
+pub mod Places
+pub mod Shapes
+pub mod Sources

@@ -1,0 +1,76 @@
+-- What stands in a line of whole numbers that nests no deeper than 127 is so too.
+use Rattle.std.proofs.Common.{◌≡◌, ℕ, ◌≤◌, List, Bool, true, false, cond, codes, Option, Some, None, is_some, Ok, Err, Ordering, Less, Equal, Greater, nat_cmp, refl, ap, subst, arith}
+use Rattle.std.specs.Cmp.Lexicographic.{slice_cmp}
+use Rattle.std.specs.Option.{ok_or}
+use Rattle.std.specs.Ordering.{match_ordering}
+use Rattle.serde_json.specs.Data.{Data, null, boolean, number, string, array, object, Members, no_members, member, depth, members_depth}
+use Rattle.serde_json.specs.Find.{as_object, get_member}
+use Rattle.serde_json.specs.Read.{max_depth}
+use Rattle.serde_json.specs.Written.{has_float}
+use Rattle.shard_docs.proofs.FloatLemmas.{found_whole}
+use Rattle.shard_docs.specs.Fault.{and_then}
+use Rattle.task_ids.specs.Source.{IsSource}
+use Rattle.task_ids.specs.declared.cause.Cause.TheVariants.{BadField, UnknownField, NotBuilt}
+use Rattle.script_lang.specs.Fields.{are_among, expects, fields_of, body_in}
+use Rattle.script_lang.specs.Commands.{search_fields, built_search_fields, search_parts}
+use Rattle.script_lang.proofs.FieldLemmas.{both_second, first_ok}
+
+-- a member nests no deeper than the members
+member_depth : (key : List ℕ) (ms : Members) (found : Data) → get_member key ms ≡ Some found → depth found ≤ members_depth ms
+member_depth key no_members found e = cc
+member_depth key (member k d ms) found e = either (slice_cmp nat_cmp key k) (get_member key ms) e (member_depth key ms found)
+  where
+    either : (o : Ordering) (rest : Option Data) → match_ordering o rest (Some d) rest ≡ Some found → (rest ≡ Some found → depth found ≤ members_depth ms) → depth found ≤ members_depth (member k d ms)
+    either Less rest is later = let below = later is in omega arith
+    either Equal rest is later = let same : d ≡ found = cc in subst (λ x. depth x ≤ members_depth (member k d ms)) same (omega arith)
+    either Greater rest is later = let below = later is in omega arith
+
+-- an object is that of its members
+object_is : (value : Data) (fields : Members) → as_object value ≡ Some fields → value ≡ object fields
+object_is null fields e = cc
+object_is (boolean b) fields e = cc
+object_is (number n) fields e = cc
+object_is (string s) fields e = cc
+object_is (array ds) fields e = cc
+object_is (object ms) fields e = let same : ms ≡ fields = cc in ap object same
+
+named : (known built : Members → Bool) (found : Option Members) (fields : Members)
+    → and_then (ok_or found BadField) (λ ms. and_then (expects (known ms) UnknownField) (λ _. and_then (expects (built ms) NotBuilt) (λ _. Ok ms))) ≡ Ok fields → found ≡ Some fields
+named known built None fields e = cc
+named known built (Some ms) fields e = chosen (known ms) (built ms) e
+  where
+    chosen : (k b : Bool) → and_then (expects k UnknownField) (λ _. and_then (expects b NotBuilt) (λ _. Ok ms)) ≡ Ok fields → Some ms ≡ Some fields
+    chosen false b e' = cc
+    chosen true false e' = cc
+    chosen true true e' = let same : ms ≡ fields = cc in ap Some same
+
+-- the fields of a command are those of its object
+fields_are : (known built : List (List ℕ)) (value : Data) (fields : Members) → fields_of known built value ≡ Ok fields → value ≡ object fields
+unfolding fields_of
+fields_are known built value fields e = object_is value fields (named (are_among known) (are_among built) (as_object value) fields e)
+
+kept : (b : Bool) (value body : Data) → cond b (Ok value) (Err BadField) ≡ Ok body → (b ≡ true) × (value ≡ body)
+kept true value body e = (refl, cc)
+kept false value body e = cc
+
+-- what a body is read as is a source
+body_found : (field : Option Data) (body : Data) → ((found : Data) → field ≡ Some found → (has_float found ≡ false) × (depth found ≤ max_depth)) → body_in field ≡ Ok body → IsSource body
+body_found None body found e =
+    let same : object no_members ≡ body = cc in
+    subst IsSource same (record { is_object = refl; is_whole = refl; nests = omega arith })
+body_found (Some value) body found e =
+    let is = kept (is_some (as_object value)) value body e in
+    let within = found value refl in
+    subst IsSource is.1 (record { is_object = is.0; is_whole = within.0; nests = within.1 })
+
+-- the body of a search is a source, where the search is of whole numbers and nests no deeper than 127
+pub body_is_source : (nodes : ℕ) (value : Data) (found : List ℕ × (ℕ × Data)) → has_float value ≡ false → depth value ≤ max_depth → search_parts nodes value ≡ Ok found → IsSource found.1.1
+unfolding search_parts
+body_is_source nodes value found whole nests e =
+    let step = first_ok (fields_of search_fields built_search_fields value) _ found e in
+    let is : value ≡ object step.0 = fields_are search_fields built_search_fields value step.0 step.1 in
+    let below : depth (object step.0) ≤ max_depth = subst (λ d. depth d ≤ max_depth) is nests in
+    let body = both_second _ _ found.1 (both_second _ _ found step.2) in
+    body_found (get_member (codes "body") step.0) found.1.1 (λ d at.
+    let inside = member_depth (codes "body") step.0 d at in
+    (found_whole (codes "body") (object step.0) d (subst (λ d. has_float d ≡ false) is whole) at, omega arith)) body

@@ -1,0 +1,47 @@
+use Rattle.std.proofs.Common.{◌≡◌, length, true, false, eqb, ap, ◌∙◌, sym, arith}
+use Rattle.std.proofs.lemmas.Result.{err_from_is_err_and}
+use Rattle.std.specs.Str.Lines.{lines}
+use Rattle.script_lang.specs.Script.{max_commands}
+use Rattle.script_lang.proofs.Fitting.{script_fits}
+use Rattle.script_lang.proofs.LineLemmas.{read_at_end, after_empty, command_fails, goes_on}
+use Rattle.script_lang.proofs.script.read_script.Goals as goal
+use Rattle.script_lang.proofs.script.read_script.Goals.{then-not-is_empty+in_ok-command+in_ok-push, else-not-is_empty}
+
+pub returns-in_err-command-clause-gives : goal.returns-in_err-command-clause-gives
+returns-in_err-command-clause-gives c =
+    let some : eqb (length c.in-Some.text.now) 0 ≡ false = sym c.is_empty.ensures ∙ c.if-not-is_empty.true in
+    let p = err_from_is_err_and c.from_residual.result c.from_residual.ensures.1 in
+    rw (p.1, p.2)
+    (command_fails c.args.mode c.args.cluster.now.nodes c.loop-text.number c.loop-text.commands (lines c.loop-text.rest.now) _ c.loop-text.invariant.reads c.in-Some.text.now (lines c.in-Some.after.now) c.in-Some.ensures.found some
+    c.in_err-command.field-0.0 (rw c.as_slice-before.ensures at c.in_err-command.ensures))
+
+pub loop-text-preserved : goal.loop-text-preserved
+loop-text-preserved c = record {
+  reads = elim c.if-not-is_empty.branch [
+    | then-not-is_empty+in_ok-command+in_ok-push w ↦
+        let some : eqb (length c.in-Some.text.now) 0 ≡ false = sym c.is_empty.ensures ∙ w.if-not-is_empty.true in
+        rw (w.commands-is, w.in_ok-push.ensures.ok)
+        (goes_on c.args.mode c.args.cluster.now.nodes c.loop-text.number c.loop-text.commands (lines c.loop-text.rest.now) _ c.loop-text.invariant.reads c.in-Some.text.now (lines c.in-Some.after.now) c.in-Some.ensures.found some
+        w.in_ok-command.command (rw w.as_slice-before.ensures at w.in_ok-command.ensures))
+    | else-not-is_empty w ↦
+        let empty : eqb (length c.in-Some.text.now) 0 ≡ true = sym c.is_empty.ensures ∙ w.if-not-is_empty.false in
+        rw w.commands-is
+        (after_empty c.args.mode c.args.cluster.now.nodes c.loop-text.number c.loop-text.commands (lines c.loop-text.rest.now) _ c.loop-text.invariant.reads c.in-Some.text.now (lines c.in-Some.after.now) c.in-Some.ensures.found empty)
+  ];
+  fits = omega (arith, c.in-Some.ensures.shorter);
+}
+
+pub returns-clause-gives : goal.returns-clause-gives
+returns-clause-gives c =
+    read_at_end c.args.mode c.args.cluster.now.nodes c.loop-text.number c.loop-text.commands (lines c.loop-text.rest.now) _ c.loop-text.invariant.reads (ap lines c.in_default.ensures.found)
+
+pub returns-clause-fits : goal.returns-clause-fits
+returns-clause-fits c =
+    (script_fits c.args.mode c.args.cluster.now.nodes c.args.line (lines c.args.bytes.now) c.loop-text.commands (c.args.cluster.now.nodes_in_range.0)
+    (read_at_end c.args.mode c.args.cluster.now.nodes c.loop-text.number c.loop-text.commands (lines c.loop-text.rest.now) _ c.loop-text.invariant.reads (ap lines c.in_default.ensures.found))).0
+
+pub returns-clause-few : goal.returns-clause-few
+unfolding max_commands
+returns-clause-few c =
+    (script_fits c.args.mode c.args.cluster.now.nodes c.args.line (lines c.args.bytes.now) c.loop-text.commands (c.args.cluster.now.nodes_in_range.0)
+    (read_at_end c.args.mode c.args.cluster.now.nodes c.loop-text.number c.loop-text.commands (lines c.loop-text.rest.now) _ c.loop-text.invariant.reads (ap lines c.in_default.ensures.found))).1

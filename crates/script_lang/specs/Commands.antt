@@ -1,0 +1,97 @@
+-- The command that a JSON value is, or the first of its causes.
+use Rattle.std.specs.Prelude.{ℕ, List, [], ◌∷◌, codes, Bool, true, false, ◌&&◌, Option, Some, None, option_and_then, Result, Ok, Err, if◌then◌else◌}
+use Rattle.std.specs.Option.{ok_or}
+use Rattle.serde_json.specs.Data.{Data, Members, no_members, member}
+use Rattle.serde_json.specs.Find.{get_member, as_object}
+use Rattle.task_ids.specs.declared.cause.Cause.{Cause}
+use Rattle.task_ids.specs.declared.cause.Cause.TheVariants.{NotObject, ScheduleLineInRun}
+use Rattle.shard_docs.specs.Fault.{◌>>=◌}
+use Rattle.script_lang.specs.declared.command.CancelTarget.{CancelTarget}
+use Rattle.script_lang.specs.declared.command.Command.{Command}
+use Rattle.script_lang.specs.declared.command.Command.TheVariants.{Search, Cancel, Deliver, Step, ListStep, Settle, History}
+use Rattle.script_lang.specs.declared.command.Mode.{Mode}
+use Rattle.script_lang.specs.declared.command.Mode.TheVariants.{Sim, Run}
+use Rattle.script_lang.specs.declared.kind.Kind.{Kind}
+use Rattle.script_lang.specs.declared.kind.Kind.TheVariants as kinds
+use Rattle.script_lang.specs.Fields.{both, fields_of, text_of, text_or, node_in, node_or_first, task_in, flag_or_false, body_in, number_in, truth_in, target_in}
+use Rattle.script_lang.specs.Kinds.{kind_named, is_schedule}
+
+-- ---- the fields of the commands: those that there are, and those that are built
+
+abbrev pub built_search_fields : List (List ℕ)
+built_search_fields = codes "index" ∷ codes "node" ∷ codes "body" ∷ []
+
+abbrev pub search_fields : List (List ℕ)
+search_fields = codes "index" ∷ codes "node" ∷ codes "body" ∷ codes "scroll" ∷ codes "opaque_id" ∷ []
+
+abbrev pub built_cancel_fields : List (List ℕ)
+built_cancel_fields = codes "task_id" ∷ codes "command" ∷ codes "reason" ∷ codes "wait_for_completion" ∷ []
+
+abbrev pub cancel_fields : List (List ℕ)
+cancel_fields = codes "task_id" ∷ codes "command" ∷ codes "reason" ∷ codes "wait_for_completion" ∷ codes "actions" ∷ codes "nodes" ∷ codes "parent_task_id" ∷ []
+
+abbrev pub list_step_fields : List (List ℕ)
+list_step_fields = codes "node" ∷ codes "parent" ∷ []
+
+-- ---- the commands
+
+-- the index, the node and the body of a search on a cluster of so many nodes
+unfoldable pub search_parts : ℕ → Data → Result (List ℕ × (ℕ × Data)) Cause
+search_parts nodes value = do
+  fields ← fields_of search_fields built_search_fields value
+  both (text_of (get_member (codes "index") fields)) (both (node_or_first nodes (get_member (codes "node") fields)) (body_in (get_member (codes "body") fields)))
+
+unfoldable pub search_in : ℕ → Data → Result Command Cause
+search_in nodes value = do
+  found ← search_parts nodes value
+  Ok (Search found.0 found.1.0 found.1.1)
+
+-- what a cancel after some commands names, its reason, and whether it waits
+unfoldable pub cancel_parts : List Command → Data → Result (CancelTarget × (List ℕ × Bool)) Cause
+cancel_parts before value = do
+  fields ← fields_of cancel_fields built_cancel_fields value
+  both (target_in before (get_member (codes "task_id") fields) (get_member (codes "command") fields)) (both (text_or (codes "by user request") (get_member (codes "reason") fields)) (flag_or_false (get_member (codes "wait_for_completion") fields)))
+
+unfoldable pub cancel_in : List Command → Data → Result Command Cause
+cancel_in before value = do
+  found ← cancel_parts before value
+  Ok (Cancel found.0 found.1.0 found.1.1)
+
+-- a step of a listing on a cluster of so many nodes
+unfoldable pub list_step_in : ℕ → Data → Result Command Cause
+list_step_in nodes value = do
+  fields ← fields_of list_step_fields list_step_fields value
+  found ← both (node_in nodes (get_member (codes "node") fields)) (task_in (get_member (codes "parent") fields))
+  Ok (ListStep found.0 found.1)
+
+-- the command of a kind, from what stands at its key, after other commands
+abbrev pub command_of_kind : ℕ → List Command → Kind → Data → Result Command Cause
+command_of_kind nodes before kinds.Search value = search_in nodes value
+command_of_kind nodes before kinds.Cancel value = cancel_in before value
+command_of_kind nodes before kinds.Deliver value = number_in value >>= λ nth. Ok (Deliver nth)
+command_of_kind nodes before kinds.Step value = task_in (Some value) >>= λ task. Ok (Step task)
+command_of_kind nodes before kinds.ListStep value = list_step_in nodes value
+command_of_kind nodes before kinds.Settle value = truth_in value >>= λ _. Ok Settle
+command_of_kind nodes before kinds.History value = truth_in value >>= λ _. Ok History
+
+-- ---- the line of a command
+
+abbrev pub only_entry : Members → Option (List ℕ × Data)
+only_entry no_members = None
+only_entry (member name value no_members) = Some (name, value)
+only_entry (member name value (member other more fields)) = None
+
+-- the key and the value of an object with one key
+abbrev pub only_member : Data → Option (List ℕ × Data)
+only_member value = option_and_then only_entry (as_object value)
+
+abbrev pub is_run : Mode → Bool
+is_run Sim = false
+is_run Run = true
+
+-- the command that a JSON value is, after other commands, on a cluster of so many nodes
+unfoldable pub command_in : Mode → ℕ → List Command → Data → Result Command Cause
+command_in mode nodes before value = do
+  entry ← ok_or (only_member value) NotObject
+  kind ← kind_named entry.0
+  if is_run mode && is_schedule kind then Err ScheduleLineInRun else command_of_kind nodes before kind entry.1

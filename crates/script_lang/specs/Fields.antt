@@ -1,0 +1,160 @@
+-- The fields of a command: each is read for itself, and the earliest of the causes counts, wherever it stands in the line.
+use Rattle.std.specs.Prelude.{ℕ, zero, suc, List, Bool, true, false, Option, Some, None, option_and_then, is_some, Result, Ok, Err, nat_lt, if◌then◌else◌, slice_get}
+use Rattle.std.specs.Option.{ok_or, option_map_or}
+use Rattle.serde_json.specs.Data.{Data, object, Members, no_members, member}
+use Rattle.serde_json.specs.Find.{as_object, as_str, as_bool, as_number, as_u64}
+use Rattle.task_ids.specs.declared.cause.Cause.{Cause}
+use Rattle.task_ids.specs.declared.cause.Cause.TheVariants.{TooLong, TooManyLines, LineTooLong, NoSource, BadUtf8, BadJson, NotWhole, NotObject, UnknownAction, BadAction, Conflict, UnknownCommand, ScheduleLineInRun, UnknownField, NotBuilt, BadField, BadTaskId, UnknownNode, BadReference, NotWaitable}
+use Rattle.task_ids.specs.declared.task_id.TaskId.{TaskId}
+use Rattle.shard_docs.specs.Fault.{◌>>=◌}
+use Rattle.script_lang.specs.declared.command.CancelTarget.{CancelTarget}
+use Rattle.script_lang.specs.declared.command.CancelTarget.TheVariants as targets
+use Rattle.script_lang.specs.declared.command.Command.{Command}
+use Rattle.script_lang.specs.declared.command.Command.TheVariants.{Search, Cancel, Deliver, Step, ListStep, Settle, History}
+use Rattle.script_lang.specs.Names.{task_id_of, is_one_of, node_of}
+
+-- ---- which cause counts
+
+-- where a cause stands in the order in which the causes of one line count
+abbrev pub place_of : Cause → ℕ
+place_of TooLong = 0
+place_of TooManyLines = 1
+place_of LineTooLong = 2
+place_of NoSource = 3
+place_of BadUtf8 = 4
+place_of BadJson = 5
+place_of NotWhole = 6
+place_of NotObject = 7
+place_of UnknownAction = 8
+place_of BadAction = 9
+place_of Conflict = 10
+place_of UnknownCommand = 11
+place_of ScheduleLineInRun = 12
+place_of UnknownField = 13
+place_of NotBuilt = 14
+place_of BadField = 15
+place_of BadTaskId = 16
+place_of UnknownNode = 17
+place_of BadReference = 18
+place_of NotWaitable = 19
+
+abbrev pub earlier : Cause → Cause → Cause
+earlier a b = if nat_lt (place_of b) (place_of a) then b else a
+
+-- two fields, or the earlier of their causes
+abbrev pub both : {A B : Type 0} → Result A Cause → Result B Cause → Result (A × B) Cause
+both (Ok x) (Ok y) = Ok (x, y)
+both (Ok x) (Err b) = Err b
+both (Err a) (Ok y) = Err a
+both (Err a) (Err b) = Err (earlier a b)
+
+-- a field as contracts see it
+abbrev pub seen : {X Y : Type 0} → (X → Y) → Result X Cause → Result Y Cause
+seen view (Ok x) = Ok (view x)
+seen view (Err cause) = Err cause
+
+abbrev pub expects : Bool → Cause → Result (Unit {0}) Cause
+expects true cause = Ok tt
+expects false cause = Err cause
+
+-- ---- the names of fields
+
+-- each field is among these
+abbrev pub are_among : List (List ℕ) → Members → Bool
+are_among names no_members = true
+are_among names (member name value fields) = if is_one_of name names then are_among names fields else false
+
+-- the fields of a command, which are among those that there are, and among those that are built
+unfoldable pub fields_of : List (List ℕ) → List (List ℕ) → Data → Result Members Cause
+fields_of known built value = do
+  fields ← ok_or (as_object value) BadField
+  _ ← expects (are_among known fields) UnknownField
+  _ ← expects (are_among built fields) NotBuilt
+  Ok fields
+
+-- ---- the kinds of fields, each of what stands at its key, if it is there
+
+abbrev pub text_of : Option Data → Result (List ℕ) Cause
+text_of field = ok_or (option_and_then as_str field) BadField
+
+abbrev pub text_or : List ℕ → Option Data → Result (List ℕ) Cause
+text_or default None = Ok default
+text_or default (Some value) = text_of (Some value)
+
+-- the name of a node, of so many
+unfoldable pub node_in : ℕ → Option Data → Result ℕ Cause
+node_in nodes field = do
+  name ← text_of field
+  ok_or (node_of nodes name) UnknownNode
+
+abbrev pub node_or_first : ℕ → Option Data → Result ℕ Cause
+node_or_first nodes None = Ok 1
+node_or_first nodes (Some value) = node_in nodes (Some value)
+
+-- a task id
+unfoldable pub task_in : Option Data → Result TaskId Cause
+task_in field = do
+  text ← text_of field
+  ok_or (task_id_of text) BadTaskId
+
+abbrev pub flag_or_false : Option Data → Result Bool Cause
+flag_or_false None = Ok false
+flag_or_false (Some value) = ok_or (as_bool value) BadField
+
+abbrev pub body_or_empty : Option Data → Data
+body_or_empty None = object no_members
+body_or_empty (Some value) = value
+
+-- an object, which is empty where it is not there
+abbrev pub body_in : Option Data → Result Data Cause
+body_in None = Ok (object no_members)
+body_in (Some value) = if is_some (as_object value) then Ok value else Err BadField
+
+-- a whole number from 0
+abbrev pub number_in : Data → Result ℕ Cause
+number_in value = ok_or (option_and_then as_u64 (as_number value)) BadField
+
+-- the value `true`
+abbrev pub truth_of : Option Bool → Result (Unit {0}) Cause
+truth_of (Some true) = Ok tt
+truth_of (Some false) = Err BadField
+truth_of None = Err BadField
+
+abbrev pub truth_in : Data → Result (Unit {0}) Cause
+truth_in value = truth_of (as_bool value)
+
+-- ---- what a cancel names
+
+abbrev pub starts_task : Command → Bool
+starts_task (Search index node body) = true
+starts_task (Cancel target reason wait) = false
+starts_task (Deliver nth) = false
+starts_task (Step task) = false
+starts_task (ListStep node parent) = false
+starts_task Settle = false
+starts_task History = false
+
+-- one of the commands has this number, from 1, and starts a task
+abbrev pub starts_at : List Command → ℕ → Bool
+starts_at commands zero = false
+starts_at commands (suc place) = option_map_or starts_task (slice_get commands place) false
+
+abbrev pub started_at : List Command → ℕ → Option ℕ
+started_at before number = if starts_at before number then Some number else None
+
+-- the number of an earlier command that starts a task
+unfoldable pub reference_in : List Command → Data → Result ℕ Cause
+reference_in before value = do
+  number ← ok_or (as_number value) BadField
+  ok_or (option_and_then (started_at before) (as_u64 number)) BadReference
+
+-- a task id or an earlier command; it is not built yet to name neither
+unfoldable pub target_in : List Command → Option Data → Option Data → Result CancelTarget Cause
+target_in before None None = Err NotBuilt
+target_in before (Some task) None = do
+  id ← task_in (Some task)
+  Ok (targets.Task id)
+target_in before None (Some command) = do
+  number ← reference_in before command
+  Ok (targets.Command number)
+target_in before (Some task) (Some command) = Err BadField

@@ -1,0 +1,31 @@
+-- What holds of the commands of a script: they are of a cluster, and name one another.
+use Rattle.std.specs.Prelude.{◌≡◌, ℕ, ◌≤◌, List, [], ◌∷◌, ◌++◌, true}
+use Rattle.script_lang.specs.declared.command.CancelTarget.{CancelTarget}
+use Rattle.script_lang.specs.declared.command.CancelTarget.TheVariants as targets
+use Rattle.script_lang.specs.declared.command.Command.{Command}
+use Rattle.script_lang.specs.declared.command.Command.TheVariants.{Search, Cancel, Deliver, Step, ListStep, Settle, History}
+use Rattle.script_lang.specs.Fields.{starts_at}
+
+-- a node of a cluster of so many
+abbrev pub IsNodeOf : ℕ → ℕ → Type 0
+IsNodeOf nodes node = (1 ≤ node) × (node ≤ nodes)
+
+-- a command that is named comes before and starts a task
+abbrev pub NamesStart : List Command → CancelTarget → Type 0
+NamesStart before (targets.Task id) = Unit {0}
+NamesStart before (targets.Command number) = starts_at before number ≡ true
+
+-- a command after others, on a cluster of so many nodes
+abbrev pub Fits : ℕ → List Command → Command → Type 0
+Fits nodes before (Search index node body) = IsNodeOf nodes node
+Fits nodes before (Cancel target reason wait) = NamesStart before target
+Fits nodes before (Deliver nth) = Unit {0}
+Fits nodes before (Step task) = Unit {0}
+Fits nodes before (ListStep node parent) = IsNodeOf nodes node
+Fits nodes before Settle = Unit {0}
+Fits nodes before History = Unit {0}
+
+-- each of some commands fits, after others and those before it
+abbrev pub AllFit : ℕ → List Command → List Command → Type 0
+AllFit nodes before [] = Unit {0}
+AllFit nodes before (command ∷ rest) = Fits nodes before command × AllFit nodes (before ++ command ∷ []) rest

@@ -1,0 +1,70 @@
+use task_ids::{DocSource, Items, TaskId, Text};
+
+/// How a script runs: step by step in one order that it may choose, or on threads.
+#[derive(Clone, Copy, Debug, PartialEq, Eq)]
+pub enum Mode {
+    /// The script may write a schedule, by `deliver`, `step`, `list_step`, `settle` and `history`.
+    Sim,
+    /// The threads make the schedule.
+    Run,
+}
+
+/// What a cancel names.
+#[derive(Clone, Copy, Debug, PartialEq, Eq)]
+pub enum CancelTarget {
+    /// A task by its id, whose node need not be of the cluster.
+    Task(TaskId),
+    /// The task of an earlier command that starts one, by the command's number, from 1.
+    Command(u32),
+}
+
+/// A command of a script, its defaults filled in.
+#[derive(Debug, Drop)]
+pub enum Command {
+    /// A search, after Elasticsearch's search API.
+    Search {
+        /// The index that it looks in, which may be unknown.
+        index: Text,
+        /// The node that it starts on, from 1, which is what stands where it is not written.
+        node: u32,
+        /// The query and what else a search has, which may have faults. It is empty where it is not written.
+        body: DocSource,
+    },
+    /// A cancel, after Elasticsearch's task cancellation.
+    Cancel {
+        /// The task that it is about.
+        target: CancelTarget,
+        /// Why, `by user request` where it is not written.
+        reason: Text,
+        /// Whether it is answered only once the tasks have ended; false where it is not written.
+        wait: bool,
+    },
+    /// Delivers a message.
+    Deliver {
+        /// The place of the message among those in flight, from 0.
+        nth: u64,
+    },
+    /// Makes the next step of a task.
+    Step {
+        /// The task, whose node need not be of the cluster.
+        task: TaskId,
+    },
+    /// Goes on with a listing of children.
+    ListStep {
+        /// The node that lists, from 1.
+        node: u32,
+        /// The task whose children are listed, whose node need not be of the cluster.
+        parent: TaskId,
+    },
+    /// Makes moves until there is none.
+    Settle,
+    /// Tells the events so far.
+    History,
+}
+
+/// What was read of a script.
+#[derive(Debug, Drop)]
+pub struct Script {
+    /// The commands in order, of which the first has the number 1. There are at most 65,535.
+    pub commands: Items<Command>,
+}

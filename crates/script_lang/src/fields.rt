@@ -1,0 +1,249 @@
+//! The fields of a command, each read for itself.
+
+ghost use Rattle.std.specs.Prelude.{◌≡◌, ◌<◌, ◌≤◌, ◌^◌, length, map, option_map, codes};
+ghost use Rattle.std.specs.List.{list_all};
+ghost use Rattle.serde_json.specs.Find.{get_member};
+ghost use Rattle.serde_json.specs.View.{view, members_view};
+ghost use Rattle.script_lang.specs.Fields as spec;
+ghost use Rattle.script_lang.specs.Fields.{seen};
+
+use crate::command::{CancelTarget, Command};
+use crate::names::{is_one_of, node_of, task_id_of};
+use serde_json::{Map, Value};
+use task_ids::{Cause, TaskId};
+
+/// Where a cause stands in the order in which the causes of one line count.
+fn place_of(cause: Cause) -> u32
+    ensures { result ≡ spec.place_of cause }
+{
+    match cause {
+        Cause::TooLong => 0,
+        Cause::TooManyLines => 1,
+        Cause::LineTooLong => 2,
+        Cause::NoSource => 3,
+        Cause::BadUtf8 => 4,
+        Cause::BadJson => 5,
+        Cause::NotWhole => 6,
+        Cause::NotObject => 7,
+        Cause::UnknownAction => 8,
+        Cause::BadAction => 9,
+        Cause::Conflict => 10,
+        Cause::UnknownCommand => 11,
+        Cause::ScheduleLineInRun => 12,
+        Cause::UnknownField => 13,
+        Cause::NotBuilt => 14,
+        Cause::BadField => 15,
+        Cause::BadTaskId => 16,
+        Cause::UnknownNode => 17,
+        Cause::BadReference => 18,
+        Cause::NotWaitable => 19,
+    }
+}
+
+fn earlier(first: Cause, second: Cause) -> Cause
+    ensures { result ≡ spec.earlier first second }
+{
+    if place_of(second) < place_of(first) {
+        second
+    } else {
+        first
+    }
+}
+
+/// Two fields, or the earlier of their causes.
+pub(crate) fn both<A: Copy, B: Copy>(
+    first: Result<A, Cause>,
+    second: Result<B, Cause>,
+) -> Result<(A, B), Cause>
+    ensures { result ≡ spec.both first second }
+{
+    match (first, second) {
+        (Ok(a), Ok(b)) => Ok((a, b)),
+        (Ok(_), Err(cause)) => Err(cause),
+        (Err(cause), Ok(_)) => Err(cause),
+        (Err(a), Err(b)) => Err(earlier(a, b)),
+    }
+}
+
+fn are_among(members: &Map<String, Value>, names: &[&str]) -> bool
+    ensures { result ≡ spec.are_among (map (λ n. n.now) names.now) (members_view members.now.entries) }
+{
+    for (key, _) in members.iter() {
+        if !is_one_of(key.as_str(), names) {
+            return false;
+        }
+    }
+    true
+}
+
+/// The fields of a command, an object. They are refused where one is not among those known, and where one of these is not
+/// built yet.
+#[tactic(auto, unfolding(crate::specs::Fields::fields_of))]
+pub(crate) fn fields_of<'v>(
+    value: &'v Value,
+    known: &[&str],
+    built: &[&str],
+) -> Result<&'v Map<String, Value>, Cause>
+    ensures { seen (λ ms. members_view ms.now.entries) result
+        ≡ spec.fields_of (map (λ n. n.now) known.now) (map (λ n. n.now) built.now) (view value.now) }
+{
+    let Some(members) = value.as_object() else {
+        return Err(Cause::BadField);
+    };
+    if !are_among(members, known) {
+        return Err(Cause::UnknownField);
+    }
+    if !are_among(members, built) {
+        return Err(Cause::NotBuilt);
+    }
+    Ok(members)
+}
+
+/// What stands at a key, if it is there.
+pub(crate) fn field<'v>(members: &'v Map<String, Value>, name: &str) -> Option<&'v Value>
+    ensures { option_map (λ v. view v.now) result ≡ get_member name.now (members_view members.now.entries) }
+{
+    members.get(name)
+}
+
+/// A text, which must be there.
+pub(crate) fn text_of(value: Option<&Value>) -> Result<&str, Cause>
+    ensures { seen (λ t. t.now) result ≡ spec.text_of (option_map (λ v. view v.now) value.entry) }
+{
+    match value.and_then(Value::as_str) {
+        Some(text) => Ok(text),
+        None => Err(Cause::BadField),
+    }
+}
+
+/// A text, or one that stands for it where it is missing.
+pub(crate) fn text_or<'v>(default: &'v str, value: Option<&'v Value>) -> Result<&'v str, Cause>
+    ensures { seen (λ t. t.now) result ≡ spec.text_or default.now (option_map (λ v. view v.now) value.entry) }
+{
+    match value {
+        None => Ok(default),
+        Some(_) => text_of(value),
+    }
+}
+
+/// The name of a node, of so many.
+#[tactic(auto, unfolding(crate::specs::Fields::node_in))]
+pub(crate) fn node_in(nodes: u32, value: Option<&Value>) -> Result<u32, Cause>
+    requires { nodes ≤ 15 }
+    ensures { result ≡ spec.node_in nodes (option_map (λ v. view v.now) value.entry) }
+{
+    match node_of(nodes, text_of(value)?) {
+        Some(node) => Ok(node),
+        None => Err(Cause::UnknownNode),
+    }
+}
+
+/// The name of a node, of so many, or the first one.
+pub(crate) fn node_or_first(nodes: u32, value: Option<&Value>) -> Result<u32, Cause>
+    requires { nodes ≤ 15 }
+    ensures { result ≡ spec.node_or_first nodes (option_map (λ v. view v.now) value.entry) }
+{
+    match value {
+        None => Ok(1),
+        Some(_) => node_in(nodes, value),
+    }
+}
+
+/// A task id.
+#[tactic(auto, unfolding(crate::specs::Fields::task_in))]
+pub(crate) fn task_in(value: Option<&Value>) -> Result<TaskId, Cause>
+    ensures { result ≡ spec.task_in (option_map (λ v. view v.now) value.entry) }
+{
+    match task_id_of(text_of(value)?) {
+        Some(task) => Ok(task),
+        None => Err(Cause::BadTaskId),
+    }
+}
+
+/// A flag, or false.
+pub(crate) fn flag_or_false(value: Option<&Value>) -> Result<bool, Cause>
+    ensures { result ≡ spec.flag_or_false (option_map (λ v. view v.now) value.entry) }
+{
+    match value {
+        None => Ok(false),
+        Some(value) => match value.as_bool() {
+            Some(flag) => Ok(flag),
+            None => Err(Cause::BadField),
+        },
+    }
+}
+
+/// An object, if it is there.
+pub(crate) fn body_in(value: Option<&Value>) -> Result<Option<&Value>, Cause>
+    ensures { seen (λ v. spec.body_or_empty (option_map (λ b. view b.now) v)) result
+        ≡ spec.body_in (option_map (λ v. view v.now) value.entry) }
+{
+    match value {
+        Some(body) if !body.is_object() => Err(Cause::BadField),
+        _ => Ok(value),
+    }
+}
+
+/// A whole number from 0.
+pub(crate) fn number_in(value: &Value) -> Result<u64, Cause>
+    ensures { result ≡ spec.number_in (view value.now) }
+{
+    match value.as_u64() {
+        Some(number) => Ok(number),
+        None => Err(Cause::BadField),
+    }
+}
+
+/// The value `true`.
+pub(crate) fn truth_in(value: &Value) -> Result<(), Cause>
+    ensures { result ≡ spec.truth_in (view value.now) }
+{
+    match value.as_bool() {
+        Some(true) => Ok(()),
+        _ => Err(Cause::BadField),
+    }
+}
+
+/// Whether one of the commands has this number, from 1, and starts a task.
+fn starts_at(commands: &[Command], number: u64) -> bool
+    ensures { result ≡ spec.starts_at commands.now number }
+{
+    let Some(place) = number.checked_sub(1) else {
+        return false;
+    };
+    matches!(commands.get(place as usize), Some(Command::Search { .. }))
+}
+
+/// The number of an earlier command that starts a task.
+#[tactic(auto, unfolding(crate::specs::Fields::reference_in))]
+fn reference_in(before: &[Command], value: &Value) -> Result<u32, Cause>
+    requires { length before.now < 2 ^ 32 }
+    ensures { result ≡ spec.reference_in before.now (view value.now) }
+{
+    if !value.is_number() {
+        return Err(Cause::BadField);
+    }
+    match value.as_u64() {
+        Some(number) if starts_at(before, number) => Ok(number as u32),
+        _ => Err(Cause::BadReference),
+    }
+}
+
+/// What a cancel names: a task id or an earlier command. It is not built yet to name neither.
+#[tactic(auto, unfolding(crate::specs::Fields::target_in))]
+pub(crate) fn target_in(
+    before: &[Command],
+    task: Option<&Value>,
+    command: Option<&Value>,
+) -> Result<CancelTarget, Cause>
+    requires { length before.now < 2 ^ 32 }
+    ensures { result ≡ spec.target_in before.now (option_map (λ v. view v.now) task.entry)
+        (option_map (λ v. view v.now) command.entry) }
+{
+    match (task, command) {
+        (None, None) => Err(Cause::NotBuilt),
+        (Some(_), None) => Ok(CancelTarget::Task(task_in(task)?)),
+        (None, Some(command)) => Ok(CancelTarget::Command(reference_in(before, command)?)),
+        (Some(_), Some(_)) => Err(Cause::BadField),
+    }
+}

@@ -1,0 +1,52 @@
+ghost use Rattle.std.specs.Prelude.{◌≡◌};
+ghost use Rattle.script_lang.specs.Kinds.{kind_named, is_schedule};
+
+use task_ids::Cause;
+
+/// The kind of a command, which the key of its line names.
+#[derive(Clone, Copy, Debug, PartialEq, Eq)]
+pub(crate) enum Kind {
+    Search,
+    Cancel,
+    Deliver,
+    Step,
+    ListStep,
+    Settle,
+    History,
+}
+
+impl Kind {
+    /// The kind of a name. It is refused where it is still to come, and where there is no such command.
+    pub(crate) fn named(name: &str) -> Result<Kind, Cause>
+        ensures { result ≡ kind_named name.now }
+    {
+        match name {
+            "search" => Ok(Kind::Search),
+            "cancel" => Ok(Kind::Cancel),
+            "deliver" => Ok(Kind::Deliver),
+            "step" => Ok(Kind::Step),
+            "list_step" => Ok(Kind::ListStep),
+            "settle" => Ok(Kind::Settle),
+            "history" => Ok(Kind::History),
+            "scroll"
+            | "clear_scroll"
+            | "reindex"
+            | "list"
+            | "tick"
+            | "wait_for"
+            | "summary"
+            | "shuffle" => Err(Cause::NotBuilt),
+            _ => Err(Cause::UnknownCommand),
+        }
+    }
+
+    /// Whether it writes a schedule, which threads do not take.
+    pub(crate) fn is_schedule(self) -> bool
+        ensures { result ≡ is_schedule self }
+    {
+        match self {
+            Kind::Search | Kind::Cancel => false,
+            Kind::Deliver | Kind::Step | Kind::ListStep | Kind::Settle | Kind::History => true,
+        }
+    }
+}

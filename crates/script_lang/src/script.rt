@@ -1,0 +1,81 @@
+ghost use Rattle.std.specs.Prelude.{◌≡◌, ◌+◌, ◌<◌, ◌≤◌, [], length, IfOk};
+ghost use Rattle.std.specs.Str.Lines.{lines};
+ghost use Rattle.shard_docs.specs.Fault.{on_line};
+ghost use Rattle.script_lang.specs.Answers.{Gives};
+ghost use Rattle.script_lang.specs.Fits.{AllFit};
+ghost use Rattle.script_lang.specs.Script.{command_of, script_of};
+
+use crate::command::{Command, Mode, Script};
+use crate::commands::command_in;
+use crate::error::{CommandError, ScriptError};
+use shard_docs::{split_line, whole_value_of_line};
+use std::alloc::Global;
+use task_ids::{Cause, Cluster, Items};
+
+/// How many commands a script has at most.
+const MAX_COMMANDS: usize = 65_535;
+
+/// The command of a line, which has this number and is not empty, after other commands.
+#[tactic(auto, unfolding(crate::specs::Script::command_of, crate::specs::Script::max_commands))]
+fn command_of_line(
+    alloc: Global,
+    mode: Mode,
+    nodes: u32,
+    before: &[Command],
+    number: u32,
+    line: &[u8],
+) -> Result<Command, ScriptError>
+    requires { nodes ≤ 15 }
+    ensures { Gives (λ c. c) result (on_line number (command_of mode nodes before.now line.now)) }
+{
+    if before.len() >= MAX_COMMANDS {
+        return Err(ScriptError::at(number, Cause::TooManyLines));
+    }
+    let value = whole_value_of_line(alloc, number, line)?;
+    match command_in(alloc, mode, nodes, before, &value) {
+        Ok(command) => Ok(command),
+        Err(CommandError::Refused(cause)) => Err(ScriptError::at(number, cause)),
+        Err(CommandError::Memory) => Err(ScriptError::Memory),
+    }
+}
+
+/// Reads the script of an input for a mode and a cluster. Its first line has this number over the whole input.
+///
+/// There are at most 67,108,864 bytes, and the number is at most 67,108,865. A line ends at a newline, with which one
+/// carriage return before it is dropped. Empty lines are passed over; each other line is a command, an object of one key,
+/// as `{"search":{"index":"a"}}`. The commands and their fields are this project's own; what they stand for is after
+/// Elasticsearch's search, task management and cancellation APIs.
+///
+/// The error is the first bad line and the first of its causes in the order of `Cause`, over all fields of the line, or
+/// want of memory. `NotBuilt` stands in the place of `UnknownCommand` for a command that is still to come, and directly
+/// after `UnknownField` for a field that is. A body may be any object.
+pub fn read_script(
+    alloc: Global,
+    bytes: &[u8],
+    line: u32,
+    mode: Mode,
+    cluster: &Cluster,
+) -> Result<Script, ScriptError>
+    requires bytes { length bytes.now ≤ 67108864 }
+    requires number { line ≤ 67108865 }
+    // The commands are those that the lines spell, and an error tells their first fault.
+    ensures gives { Gives (λ script. script.commands) result (script_of mode cluster.now.nodes line (lines bytes.now)) }
+
+    // Each node is of the cluster, and each command that is named comes before and starts a task.
+    ensures fits { IfOk result (λ script. AllFit cluster.now.nodes [] script.commands) }
+    ensures few { IfOk result (λ script. length script.commands ≤ 65535) }
+{
+    let mut commands = Items::new(alloc);
+    let mut number = line;
+    let mut rest = bytes;
+    while let Some((text, after)) = split_line(rest) {
+        if !text.is_empty() {
+            let before = commands.as_slice();
+            let command = command_of_line(alloc, mode, cluster.nodes, before, number, text)?;
+            commands.push(command)?;
+        }
+        number += 1;
+        rest = after;
+    }
+    Ok(Script { commands })
+}

@@ -1,0 +1,114 @@
+-- The reply of a search, by its parts, and what is read off the fields of its root.
+use Rattle.std.specs.Prelude.{◌≡◌, ℕ, zero, suc, ◌-◌, ◌<◌, ◌==◌, List, [], ◌∷◌, Bool, true, false, not, ◌&&◌, is_some, Option, Some, None, map, filter_map, length, position, slice_get, slice_set, refl}
+use Rattle.std.proofs.Common.{sym, ◌∙◌, ap, arith}
+use Rattle.std.proofs.lemmas.Bool.{eq-eqb, ne_eqb}
+use Rattle.std.proofs.lemmas.List.{length-set}
+use Rattle.std.specs.List.{sum_by, last_or}
+use Rattle.task_ids.specs.declared.task_id.TaskId.{TaskId}
+use Rattle.task_events.specs.declared.request.SearchAsk.{SearchAsk}
+use Rattle.task_events.specs.declared.request.Request.{Request}
+use Rattle.task_events.specs.declared.reply.ShardTop.{ShardTop}
+use Rattle.task_events.specs.declared.reply.FailedShard.{FailedShard}
+use Rattle.task_events.specs.declared.reply.SearchReply.{SearchReply}
+use Rattle.task_events.specs.declared.reply.Reply.{Reply}
+use Rattle.task_events.specs.declared.reply.Reply.TheVariants.{Search, AllFailed}
+use Rattle.task_events.specs.declared.step.Asked.{Asked}
+use Rattle.task_events.specs.Answers.{context_of}
+use Rattle.task_events.specs.Searches.{tops_in, winners_among, failed_in, hit_in, counted, search_reply, ask_or_end}
+use Rattle.search_phase.specs.Searching.{Searching, IsSearching, is_open, takes, with_answer, has_ended, does_wait, wants_to_ask, next_step}
+use Rattle.search_phase.proofs.Roots.{takes_none, takes_place, answer_at_place}
+use Rattle.search_phase.specs.declared.fetching.Fetching.{Fetching}
+use Rattle.search_phase.specs.FetchPhase.{fetching_of}
+use Rattle.search_phase.specs.Roots.{IsRoot}
+use Rattle.search_phase.proofs.Requests.{slice_get_below, ended}
+
+module _ (task : TaskId) (ask : SearchAsk) (shards : ℕ) (asked : List Asked) where
+  pub all_failed : (failed : List FailedShard) → failed ≡ failed_in ask shards asked → length failed ≡ shards → AllFailed failed ≡ search_reply task ask shards asked
+  all_failed failed e l =
+      let all : (length (failed_in ask shards asked) == shards) ≡ true = eq-eqb (length (failed_in ask shards asked)) shards (ap length (sym e) ∙ l) in
+      rw all (ap AllFailed e)
+
+  pub reply_by_parts : (reply : SearchReply) → reply.context ≡ context_of task ask → reply.shards ≡ map counted (tops_in shards asked) → reply.failed ≡ failed_in ask shards asked
+      → reply.total ≡ sum_by (λ (t : ShardTop). t.count) (tops_in shards asked) → reply.hits ≡ filter_map (hit_in ask shards asked) (winners_among ask.body (tops_in shards asked))
+      → reply.last ≡ last_or None (winners_among ask.body (tops_in shards asked)) → (length reply.failed ≡ shards → ⊥) → Search reply ≡ search_reply task ask shards asked
+  reply_by_parts reply ec es ef et eh el some =
+      let others : (length (failed_in ask shards asked) == shards) ≡ false = ne_eqb (length (failed_in ask shards asked)) shards (λ e. some (ap length ef ∙ e)) in
+      rw others (λ i. Search (record { context = ec i; shards = es i; failed = ef i; total = et i; hits = eh i; last = el i }))
+
+pub last_or_read : {X : Type 0} (xs : List X) (x : X) → slice_get xs (length xs - 1) ≡ Some x → last_or None xs ≡ Some x
+last_or_read [] x e = absurd cc
+last_or_read {X = X} (y ∷ ys) x e = let n : suc (length ys) - 1 ≡ length ys = omega arith in at_end (Some y) y ys (rw n at e)
+  where
+    at_end : (o : Option X) (y : X) (ys : List X) → slice_get (y ∷ ys) (length ys) ≡ Some x → last_or (Some y) ys ≡ Some x
+    at_end o y [] e = e
+    at_end o y (z ∷ zs) e = at_end o z zs e
+
+-- ---- an answer that comes
+
+pub an_ask_waits : (s : Searching) (ask : ℕ) (reply : Reply) → takes s ask reply ≡ true → position (is_open ask) s.asked ≡ None → ⊥
+an_ask_waits s ask reply t e = let f : false ≡ true = sym (takes_none s ask reply e) ∙ t in cc
+
+-- the ask that an answer is for
+pub record Waits (s : Searching) (ask place : ℕ) (a : Asked) : Type 0 where
+  pub at : slice_get s.asked place ≡ Some a
+  pub below : place < length s.asked
+  pub number : a.ask ≡ ask
+  pub no_answer : a.answer ≡ None
+
+pub waiting_at : (s : Searching) (ask : ℕ) (reply : Reply) (place : ℕ) → takes s ask reply ≡ true → position (is_open ask) s.asked ≡ Some place → (a : Asked) × Waits s ask place a
+waiting_at s ask reply place t e = of_place (takes_place s ask reply t)
+  where
+    of_place : (p : ℕ) × (a : Asked) × (position (is_open ask) s.asked ≡ Some p) × (slice_get s.asked p ≡ Some a) × (a.ask ≡ ask) × (a.answer ≡ None) → (a : Asked) × Waits s ask place a
+    of_place (p, a, f, at, number, none) =
+        let g : Some p ≡ Some place = sym f ∙ e in
+        let same : p ≡ place = cc in
+        let there : slice_get s.asked place ≡ Some a = ap (slice_get s.asked) (sym same) ∙ at in
+        (a, record { at = there; below = slice_get_below s.asked place a there; number = number; no_answer = none })
+
+-- the list with the answer at its place is that of the search with the answer
+pub answer_put : (s : Searching) (ask : ℕ) (reply : Reply) (place : ℕ) (a : Asked) (asked : List Asked) → IsSearching s → Waits s ask place a
+    → asked ≡ slice_set s.asked place (record { ask = a.ask; answer = Some reply }) → asked ≡ (with_answer s ask reply).asked
+answer_put s ask reply place a asked h w e =
+    e ∙ (λ i. slice_set s.asked place (record { ask = w.number i; answer = Some reply })) ∙ sym (answer_at_place ask reply s.asked place a h.numbers w.at w.number)
+
+set_back : {X : Type 0} (xs : List X) (i : ℕ) (x y : X) → slice_get xs i ≡ Some x → slice_set (slice_set xs i y) i x ≡ xs
+set_back [] i x y e = refl
+set_back (z ∷ zs) zero x y e = let f : x ≡ z = cc in ap (λ w. w ∷ zs) f
+set_back (z ∷ zs) (suc i) x y e = ap (λ l. z ∷ l) (set_back zs i x y e)
+
+get_set : {X : Type 0} (xs : List X) (i : ℕ) (x y : X) → slice_get xs i ≡ Some x → slice_get (slice_set xs i y) i ≡ Some y
+get_set [] i x y e = absurd cc
+get_set (z ∷ zs) zero x y e = refl
+get_set (z ∷ zs) (suc i) x y e = get_set zs i x y e
+
+-- and without it the list is as before
+pub answer_dropped : (s : Searching) (ask : ℕ) (reply : Reply) (place : ℕ) (a : Asked) (asked back : List Asked) → Waits s ask place a
+    → asked ≡ slice_set s.asked place (record { ask = a.ask; answer = Some reply })
+    → ((b : Asked) → slice_get asked place ≡ Some b → back ≡ slice_set asked place (record { ask = b.ask; answer = None })) → back ≡ s.asked
+answer_dropped s ask reply place a asked back w e f =
+    let new : Asked = record { ask = a.ask; answer = Some reply } in
+    let there : slice_get asked place ≡ Some new = ap (λ l. slice_get l place) e ∙ get_set s.asked place a new w.at in
+    let old : record { ask = a.ask; answer = None } ≡ a = λ i. record { ask = a.ask; answer = sym w.no_answer i } in
+    f new there ∙ ap (λ l. slice_set l place (record { ask = a.ask; answer = None })) e ∙ ap (slice_set (slice_set s.asked place new) place) old ∙ set_back s.asked place a new w.at
+
+pub still_below : (asked : List Asked) (place : ℕ) (xs : List Asked) (b : Asked) → place < length xs → asked ≡ slice_set xs place b → place < length asked
+still_below asked place xs b l e = let f : length asked ≡ length (slice_set xs place b) = ap length e in let g : length (slice_set xs place b) ≡ length xs = length-set xs place b in omega arith
+
+-- what the fetch phase is about is known once the search has ended
+pub ended_is_known : (s : Searching) (fetching : Option Fetching) (capacity : ℕ) → IsRoot s fetching capacity → has_ended (next_step s) ≡ true → fetching ≡ None → ⊥
+ended_is_known s fetching capacity h e none =
+    let known : fetching ≡ Some (fetching_of s.ask (tops_in s.shards s.asked)) = h.fetching_is ∙ rw (ended s e).queried refl in
+    let f : None ≡ Some (fetching_of s.ask (tops_in s.shards s.asked)) = sym none ∙ known in
+    cc
+
+-- ---- what comes next, without the request itself
+
+pub waits_by : (o : Option Request) (answered : Bool) (reply : Reply) → does_wait (ask_or_end o answered reply) ≡ (not (is_some o) && not answered)
+waits_by (Some request) answered reply = refl
+waits_by None true reply = refl
+waits_by None false reply = refl
+
+pub asks_where : (o : Option Request) (answered : Bool) (reply : Reply) → wants_to_ask (ask_or_end o answered reply) ≡ is_some o
+asks_where (Some request) answered reply = refl
+asks_where None true reply = refl
+asks_where None false reply = refl

@@ -1,0 +1,110 @@
+-- The answers to fetches, by what the fetches ask for.
+use Rattle.std.specs.Prelude.{◌≡◌, ℕ, zero, suc, ◌+◌, ◌<◌, ◌≤◌, ◌==◌, List, [], ◌∷◌, ◌++◌, true, ◌&&◌, Option, Some, None, option_map, option_and_then, map, filter_map, find, zip, take, drop, length, slice_get, refl}
+use Rattle.std.proofs.lemmas.Bool.{eqb-true, eqb-false, eq-eqb, ne_eqb}
+use Rattle.std.proofs.lemmas.List.{take_more, drop_all}
+use Rattle.std.proofs.lemmas.List.Elements.{filter_map-append}
+use Rattle.std.specs.Ordering.{is_lt}
+use Rattle.std.proofs.Common.{sym, ◌∙◌, ap, arith, get_or}
+use Rattle.std.specs.List.{range_with_len, cons_option}
+use Rattle.std.specs.Option.{option_or}
+use Rattle.std.specs.Map.{lookup}
+use Rattle.task_events.specs.declared.request.HitKey.{HitKey}
+use Rattle.task_events.specs.declared.request.SearchAsk.{SearchAsk}
+use Rattle.task_events.specs.declared.request.FetchAsk.{FetchAsk}
+use Rattle.task_events.specs.declared.reply.Hit.{Hit}
+use Rattle.task_events.specs.declared.reply.ShardTop.{ShardTop}
+use Rattle.task_events.specs.declared.reply.Reply.{Reply}
+use Rattle.task_events.specs.declared.step.Asked.{Asked}
+use Rattle.task_events.specs.HitOrder.{hit_cmp}
+use Rattle.task_events.specs.Possible.{ascend, are_among}
+use Rattle.task_events.specs.Searches.{tops_in, winners_among, won_tops, fetch_of, fetches_of, fetch_at, failed_at, failed_in, failure_of, hits_of, hit_in}
+use Rattle.search_phase.specs.FetchPhase.{answer_to, failed_by, hit_by, hits_in}
+use Rattle.search_phase.proofs.Sorting.{by_test}
+
+module _ (ask : SearchAsk) (shards : ℕ) (asked : List Asked) where
+  abbrev fetches : List FetchAsk
+  fetches = fetches_of ask (tops_in shards asked)
+
+  fetch_shards : (won : List HitKey) (tops : List ShardTop) → map (λ (f : FetchAsk). f.shard) (map (fetch_of ask won) tops) ≡ map (λ (t : ShardTop). t.shard) tops
+  fetch_shards won [] = refl
+  fetch_shards won (top ∷ tops) = ap (λ (l : List ℕ). top.shard ∷ l) (fetch_shards won tops)
+
+  answer_to-fetch_at : (shard : ℕ) → answer_to fetches (drop shards asked) shard ≡ fetch_at ask shards asked shard
+  answer_to-fetch_at shard =
+      ap (λ (l : List ℕ). lookup (λ other. shard == other) (zip l (drop shards asked)))
+      (fetch_shards (winners_among ask.body (tops_in shards asked)) (won_tops ask.body (tops_in shards asked)))
+
+  failed_by-failed_at : (shard : ℕ) → failed_by fetches shards asked shard ≡ failed_at ask shards asked shard
+  failed_by-failed_at shard =
+      ap (λ (o : Option Asked). option_map (λ failure. record { shard = shard; failure = failure }) (option_or (option_and_then failure_of (slice_get asked shard)) (option_and_then failure_of o)))
+      (answer_to-fetch_at shard)
+
+  find_in_answer : (place : ℕ) (o : Option Reply) → find (λ (hit : Hit). place == hit.place) (hits_in o) ≡ option_and_then (λ reply. find (λ (hit : Hit). place == hit.place) (hits_of reply)) o
+  find_in_answer place None = refl
+  find_in_answer place (Some reply) = refl
+
+  hit_by_answer : (place : ℕ) (o : Option Asked) → option_and_then (λ (a : Asked). find (λ (hit : Hit). place == hit.place) (hits_in a.answer)) o ≡ option_and_then (λ reply. find (λ (hit : Hit). place == hit.place) (hits_of reply)) (option_and_then (λ (a : Asked). a.answer) o)
+  hit_by_answer place None = refl
+  hit_by_answer place (Some a) = find_in_answer place a.answer
+
+  hit_by-hit_in : (key : HitKey) → hit_by fetches (drop shards asked) key ≡ hit_in ask shards asked key
+  hit_by-hit_in key =
+      ap (λ (o : Option Asked). option_and_then (λ (a : Asked). find (λ (hit : Hit). key.place == hit.place) (hits_in a.answer)) o) (answer_to-fetch_at key.shard)
+      ∙ hit_by_answer key.place (fetch_at ask shards asked key.shard)
+
+filter_map-same : {X Y : Type 0} (f g : X → Option Y) → ((x : X) → f x ≡ g x) → (xs : List X) → filter_map f xs ≡ filter_map g xs
+filter_map-same f g e [] = refl
+filter_map-same f g e (x ∷ xs) = let here : f x ≡ g x = e x in let later : filter_map f xs ≡ filter_map g xs = filter_map-same f g e xs in λ i. cons_option (here i) (later i)
+
+pub failed_is : (ask : SearchAsk) (shards : ℕ) (asked : List Asked) → filter_map (failed_by (fetches_of ask (tops_in shards asked)) shards asked) (range_with_len 0 shards) ≡ failed_in ask shards asked
+failed_is ask shards asked = filter_map-same (failed_by (fetches_of ask (tops_in shards asked)) shards asked) (failed_at ask shards asked) (failed_by-failed_at ask shards asked) (range_with_len 0 shards)
+
+pub hits_are : (ask : SearchAsk) (shards : ℕ) (asked : List Asked) (won : List HitKey) → filter_map (hit_by (fetches_of ask (tops_in shards asked)) (drop shards asked)) won ≡ filter_map (hit_in ask shards asked) won
+hits_are ask shards asked won = filter_map-same (hit_by (fetches_of ask (tops_in shards asked)) (drop shards asked)) (hit_in ask shards asked) (hit_by-hit_in ask shards asked) won
+
+-- ---- one element more
+
+pub filter_map_step : {X Y : Type 0} (h : X → Option Y) (xs : List X) (i : ℕ) (x : X) → i < length xs → x ≡ get_or xs i x → filter_map h (take (i + 1) xs) ≡ filter_map h (take i xs) ++ filter_map h (x ∷ [])
+filter_map_step h xs i x l e =
+    ap (filter_map h) (take_more xs i x l ∙ ap (λ y. take i xs ++ y ∷ []) (sym e)) ∙ filter_map-append h (take i xs) (x ∷ [])
+
+range_more : (a n : ℕ) → range_with_len a (n + 1) ≡ range_with_len a n ++ (a + n) ∷ []
+range_more a zero = let e : a + 0 ≡ a = omega arith in rw e refl
+range_more a (suc n) = let e : suc n + 1 ≡ suc (n + 1) = omega arith in let f : a + 1 + n ≡ a + suc n = omega arith in rw (e, range_more (a + 1) n, f) refl
+
+pub filter_map_range_step : {Y : Type 0} (h : ℕ → Option Y) (n : ℕ) → filter_map h (range_with_len 0 (n + 1)) ≡ filter_map h (range_with_len 0 n) ++ filter_map h (n ∷ [])
+filter_map_range_step h n = ap (filter_map h) (range_more 0 n) ∙ filter_map-append h (range_with_len 0 n) ((0 + n) ∷ []) ∙ (let e : 0 + n ≡ n = omega arith in rw e refl)
+
+-- ---- lists that ascend, and places among others
+
+pub ascend_step : (keys : List HitKey) (p : ℕ) (key next : HitKey) → p + 1 < length keys → key ≡ get_or keys p key → next ≡ get_or keys (p + 1) next
+    → ascend (drop p keys) ≡ (is_lt (hit_cmp key next) && ascend (drop (p + 1) keys))
+ascend_step [] p key next l e f = absurd (omega arith)
+ascend_step (k ∷ []) p key next l e f = absurd (omega arith)
+ascend_step (k ∷ n ∷ later) zero key next l e f = let g : key ≡ k = e in let h : next ≡ n = f in rw (g, h) refl
+ascend_step (k ∷ n ∷ later) (suc p) key next l e f =
+    let plus : suc p + 1 ≡ suc (p + 1) = omega arith in
+    rw plus (ascend_step (n ∷ later) p key next (omega arith) e (rw plus at f))
+
+pub ascend_last : (keys : List HitKey) (p : ℕ) → length keys ≤ p + 1 → ascend (drop p keys) ≡ true
+ascend_last [] zero l = refl
+ascend_last [] (suc p) l = refl
+ascend_last (k ∷ []) zero l = refl
+ascend_last (k ∷ []) (suc p) l = ascend_last [] p (omega arith)
+ascend_last (k ∷ n ∷ later) zero l = absurd (omega arith)
+ascend_last (k ∷ n ∷ later) (suc p) l = ascend_last (n ∷ later) p (omega arith)
+
+pub are_among_end : (hits : List Hit) (places : List ℕ) (found i : ℕ) → length places ≤ i → found ≤ length hits
+    → are_among (map (λ (hit : Hit). hit.place) (drop found hits)) (drop i places) ≡ (found == length hits)
+are_among_end hits places found i l f = ap (are_among (map (λ (hit : Hit). hit.place) (drop found hits))) (drop_all i places l) ∙ at_end hits found f
+  where
+    same_suc : (m n : ℕ) → (m == n) ≡ (suc m == suc n)
+    same_suc m n = by_test (m == n)
+        (λ yes. yes ∙ sym (eq-eqb (suc m) (suc n) (ap suc (eqb-true m n yes))))
+        (λ other. other ∙ sym (ne_eqb (suc m) (suc n) (λ e. eqb-false m n other (omega arith))))
+
+    at_end : (hits : List Hit) (found : ℕ) → found ≤ length hits → are_among (map (λ (hit : Hit). hit.place) (drop found hits)) [] ≡ (found == length hits)
+    at_end [] zero f = refl
+    at_end [] (suc n) f = absurd (omega arith)
+    at_end (hit ∷ hits) zero f = sym (ne_eqb 0 (suc (length hits)) (λ e. omega arith))
+    at_end (hit ∷ hits) (suc n) f = at_end hits n (omega arith) ∙ same_suc n (length hits)

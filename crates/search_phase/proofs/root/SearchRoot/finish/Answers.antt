@@ -1,0 +1,40 @@
+use Rattle.std.proofs.Common.{◌≡◌, ◌<◌, ◌^◌, sym, ◌∙◌, ap, true, List, subst}
+use Rattle.std.specs.List.{sum_by}
+use Rattle.std.proofs.lemmas.Result.{IfOk-weaker}
+use Rattle.task_events.specs.declared.request.Request.TheVariants as asks
+use Rattle.task_events.specs.declared.reply.ShardTop.{ShardTop}
+use Rattle.task_events.specs.declared.reply.Reply.{Reply}
+use Rattle.task_events.specs.declared.step.Asked.{Asked}
+use Rattle.task_events.specs.Possible.{can_have}
+use Rattle.task_events.specs.Searches.{tops_in, search_reply}
+use Rattle.search_phase.specs.Searching.{Searching, IsSearching, has_ended, next_step, reply_of}
+use Rattle.search_phase.proofs.AnswerParts.{ended_is_known}
+use Rattle.search_phase.proofs.Plain.{honest_search_is_plain}
+use Rattle.search_phase.proofs.PossibleReply.{total_fits, reply_is_possible}
+use Rattle.search_phase.proofs.root.SearchRoot.finish.Goals as goal
+
+pub unreachable-requires : goal.unreachable-requires
+unreachable-requires c =
+    let s : Searching = record { task = c.self.inside.task; ask = c.self.inside.ask; shards = c.self.inside.shards; asked = c.self.inside.asked.items } in
+    ended_is_known s c.self.inside.fetching _ c.self.invariant (ap (λ s. has_ended (next_step s)) c.self.view_is ∙ c.requires) c.in_default.is
+
+pub answer-requires-clause-total : goal.answer-requires-clause-total
+answer-requires-clause-total c =
+    let s : Searching = record { task = c.self.inside.task; ask = c.self.inside.ask; shards = c.self.inside.shards; asked = c.self.inside.asked.items } in
+    let P : List Asked → Type 0 = λ l. sum_by (λ (t : ShardTop). t.count) (tops_in s.shards l) < 2 ^ 64 in
+    subst P (sym c.as_slice.ensures.value) (total_fits s c.self.invariant.search)
+
+pub returns-clause-plain : goal.returns-clause-plain
+returns-clause-plain c = λ writes honest.
+    let s : Searching = record { task = c.self.inside.task; ask = c.self.inside.ask; shards = c.self.inside.shards; asked = c.self.inside.asked.items } in
+    let sound : IsSearching c.args.self.now = subst IsSearching c.self.view_is c.self.invariant.search in
+    let same : search_reply s.task s.ask s.shards c.as_slice.result.now ≡ reply_of c.args.self.now = ap (search_reply s.task s.ask s.shards) c.as_slice.ensures.value ∙ ap reply_of c.self.view_is in
+    IfOk-weaker c.answer.result _ _ (λ reply e. e ∙ same ∙ honest_search_is_plain writes c.args.self.now sound c.requires honest) c.answer.ensures
+
+pub returns-clause-possible : goal.returns-clause-possible
+returns-clause-possible c =
+    let s : Searching = record { task = c.self.inside.task; ask = c.self.inside.ask; shards = c.self.inside.shards; asked = c.self.inside.asked.items } in
+    let sound : IsSearching c.args.self.now = subst IsSearching c.self.view_is c.self.invariant.search in
+    let same : search_reply s.task s.ask s.shards c.as_slice.result.now ≡ reply_of c.args.self.now = ap (search_reply s.task s.ask s.shards) c.as_slice.ensures.value ∙ ap reply_of c.self.view_is in
+    let P : Reply → Type 0 = λ r. can_have c.args.self.now.shards (asks.Search c.args.self.now.ask) r ≡ true in
+    IfOk-weaker c.answer.result _ _ (λ reply e. subst P (sym (e ∙ same)) (reply_is_possible c.args.self.now sound)) c.answer.ensures

@@ -1,0 +1,14 @@
+use Rattle.std.proofs.Common.{sym, ◌∙◌, ap, length}
+use Rattle.std.proofs.lemmas.Result.{IfOk-weaker}
+use Rattle.search_phase.specs.Searching.{Searching, next_request}
+use Rattle.search_phase.specs.FetchPhase.{request_by}
+use Rattle.search_phase.proofs.Roots.{request_at_place}
+use Rattle.search_phase.proofs.root.SearchRoot.next_request.Goals as goal
+
+pub returns : goal.returns
+returns c =
+    let s : Searching = record { task = c.self.inside.task; ask = c.self.inside.ask; shards = c.self.inside.shards; asked = c.self.inside.asked.items } in
+    IfOk-weaker c.request_at.result _ _
+    (λ request e. e ∙ ap (request_by s.ask s.shards c.self.inside.fetching) (ap length c.as_slice-place.ensures.value)
+    ∙ sym (request_at_place s c.self.inside.fetching _ c.self.invariant (length s.asked)) ∙ ap next_request c.self.view_is)
+    c.request_at.ensures

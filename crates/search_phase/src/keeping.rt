@@ -1,0 +1,83 @@
+//! Keeping the keys that stand first.
+
+ghost use Rattle.std.specs.Prelude.{◌≡◌, ◌+◌, ◌<◌, ◌≤◌, ◌∷◌, ◌++◌, length, take, filter, IsOk, OnOk, OnErr};
+ghost use Rattle.std.specs.BinaryHeap.{IsHeap, heap_items, heap_len, heap_capacity};
+ghost use Rattle.task_events.specs.HitOrder.{hit_cmp, in_hit_order, is_after};
+
+use std::alloc::AllocError;
+use std::collections::BinaryHeap;
+use task_events::HitKey;
+
+/// Keeps a key in place of the last one, where it stands before that one. It takes no memory.
+fn keep_before_last(first: &mut BinaryHeap<HitKey>, key: HitKey) -> Result<(), AllocError>
+    requires { IsHeap hit_cmp (heap_items first.old) }
+    ensures ordered { IsHeap hit_cmp (heap_items first.new) }
+    ensures keys { in_hit_order (heap_items first.new)
+        ≡ take (heap_len first.old) (in_hit_order (key ∷ heap_items first.old)) }
+    ensures len { heap_len first.new ≡ heap_len first.old }
+    ensures room { heap_capacity first.old ≤ heap_capacity first.new }
+    ensures succeeds { IsOk result }
+{
+    let Some(last) = first.peek() else {
+        return Ok(());
+    };
+    if last <= &key {
+        return Ok(());
+    }
+    first.pop();
+    first.push(key)?;
+    Ok(())
+}
+
+/// Keeps a key among at most so many that stand first. It fails only where there is no room for one more.
+fn keep(first: &mut BinaryHeap<HitKey>, most: usize, key: HitKey) -> Result<(), AllocError>
+    requires ordered { IsHeap hit_cmp (heap_items first.old) }
+    requires few { heap_len first.old ≤ most }
+    ensures still_ordered { IsHeap hit_cmp (heap_items first.new) }
+    ensures ok { OnOk result (in_hit_order (heap_items first.new) ≡ take most (in_hit_order (key ∷ heap_items first.old))) }
+    ensures succeeds { (heap_len first.old < most → heap_len first.old < heap_capacity first.old) → IsOk result }
+
+    ensures still_few { heap_len first.new ≤ most }
+    ensures one_more { heap_len first.new ≤ heap_len first.old + 1 }
+    ensures room { heap_capacity first.old ≤ heap_capacity first.new }
+{
+    if first.len() < most {
+        first.push(key)?;
+        return Ok(());
+    }
+    keep_before_last(first, key)
+}
+
+fn is_after(after: &Option<HitKey>, key: &HitKey) -> bool
+    ensures { result ≡ is_after after.now key.now }
+{
+    match after {
+        Some(last) => last < key,
+        None => true,
+    }
+}
+
+/// Keeps those of some keys that stand after a cursor among at most so many that stand first.
+/// Where memory runs out nothing has changed.
+pub(crate) fn keep_all(
+    first: &mut BinaryHeap<HitKey>,
+    most: usize,
+    after: &Option<HitKey>,
+    found: Vec<HitKey>,
+) -> Result<(), AllocError>
+    requires ordered { IsHeap hit_cmp (heap_items first.old) }
+    requires few { length (heap_items first.old) ≤ most }
+    ensures still_ordered { IsHeap hit_cmp (heap_items first.new) }
+    ensures ok { OnOk result (in_hit_order (heap_items first.new)
+        ≡ take most (in_hit_order (heap_items first.old ++ filter (is_after after.now) found.items))) }
+    ensures err { OnErr result (heap_items first.new ≡ heap_items first.old) }
+{
+    let room = found.len().min(most - first.len());
+    first.reserve(room)?;
+    for key in found {
+        if is_after(after, &key) {
+            keep(first, most, key)?;
+        }
+    }
+    Ok(())
+}

@@ -1,0 +1,156 @@
+-- What a search, a query and a fetch do next, by what they have asked for, what was answered, and the turns that they have taken.
+use Rattle.std.specs.Prelude.{ℕ, ◌*◌, List, [], ◌++◌, length, Bool, true, false, ◌&&◌, ◌==◌, nat_lt, nat_le, Option, Some, None, is_some, option_and_then, option_map, map, filter, filter_map, find, take, drop, zip, slice_get, if◌then◌else◌}
+use Rattle.std.specs.List.{list_any, list_all, flat_map, sum_by, last_or, range_with_len}
+use Rattle.std.specs.Option.{option_or}
+use Rattle.std.specs.Map.{lookup}
+use Rattle.query_parse.specs.declared.body.SearchBody.{SearchBody}
+use Rattle.task_ids.specs.declared.task_id.TaskId.{TaskId}
+use Rattle.task_ids.specs.declared.doc.Doc.{Doc}
+use Rattle.task_events.specs.declared.request.HitKey.{HitKey}
+use Rattle.task_events.specs.declared.request.SearchAsk.{SearchAsk}
+use Rattle.task_events.specs.declared.request.ShardAsk.{ShardAsk}
+use Rattle.task_events.specs.declared.request.FetchAsk.{FetchAsk}
+use Rattle.task_events.specs.declared.request.Request.{Request}
+use Rattle.task_events.specs.declared.request.Request.TheVariants.{Query, Fetch}
+use Rattle.task_events.specs.declared.reply.Hit.{Hit}
+use Rattle.task_events.specs.declared.reply.ShardTop.{ShardTop}
+use Rattle.task_events.specs.declared.reply.ShardCount.{ShardCount}
+use Rattle.task_events.specs.declared.reply.FailedShard.{FailedShard}
+use Rattle.task_events.specs.declared.reply.ShardFailure.{ShardFailure}
+use Rattle.task_events.specs.declared.reply.ShardFailure.TheVariants as failures
+use Rattle.task_events.specs.declared.reply.Reply.{Reply}
+use Rattle.task_events.specs.declared.reply.Reply.TheVariants.{Search, Top, Hits, AllFailed, Cancelled, Rejected}
+use Rattle.task_events.specs.declared.step.Asked.{Asked}
+use Rattle.task_events.specs.declared.step.Do.{Do}
+use Rattle.task_events.specs.declared.step.Do.TheVariants.{AskNext, Turn, Wait, Finish}
+use Rattle.task_events.specs.HitOrder.{in_hit_order}
+use Rattle.task_events.specs.Answers.{winners, context_of, shard_top, fetched}
+
+-- ---- what a search asks for
+
+-- the query phase of a search in a shard
+abbrev pub query_of : SearchAsk → ℕ → ShardAsk
+query_of ask shard = record { index = ask.index; shard = shard; body = ask.body; version = None; after = None; slice = ask.slice }
+
+abbrev pub top_of : Reply → Option ShardTop
+top_of (Top top) = Some top
+top_of _ = None
+
+-- the tops among the answers to the queries, by shard
+abbrev pub tops_in : ℕ → List Asked → List ShardTop
+tops_in shards asked = filter_map (λ a. option_and_then top_of a.answer) (take shards asked)
+
+-- the winners among the keys of the tops
+abbrev pub winners_among : SearchBody → List ShardTop → List HitKey
+winners_among body tops = winners body (in_hit_order (flat_map (λ top. top.keys) tops))
+
+abbrev pub has_winner : List HitKey → ShardTop → Bool
+has_winner won top = list_any (λ key. top.shard == key.shard) won
+
+-- the tops with a winner
+abbrev pub won_tops : SearchBody → List ShardTop → List ShardTop
+won_tops body tops = filter (has_winner (winners_among body tops)) tops
+
+-- the fetch phase of a search in a shard: of its winners
+abbrev pub fetch_of : SearchAsk → List HitKey → ShardTop → FetchAsk
+fetch_of ask won top = record { index = ask.index; shard = top.shard; version = top.version; places = map (λ key. key.place) (filter (λ key. top.shard == key.shard) won) }
+
+abbrev pub fetches_of : SearchAsk → List ShardTop → List FetchAsk
+fetches_of ask tops = map (fetch_of ask (winners_among ask.body tops)) (won_tops ask.body tops)
+
+abbrev pub are_answered : List Asked → Bool
+are_answered asked = list_all (λ a. is_some a.answer) asked
+
+-- every shard was asked in the query phase, and all have answered
+abbrev pub has_queried : ℕ → List Asked → Bool
+has_queried shards asked = nat_le shards (length asked) && are_answered (take shards asked)
+
+-- What a search asks for, in order: the query of each shard, and once all are answered the fetch of each shard with a winner.
+abbrev pub requests_of : SearchAsk → ℕ → List Asked → List Request
+requests_of ask shards asked =
+    map (λ shard. Query (query_of ask shard)) (range_with_len 0 shards)
+    ++ (if has_queried shards asked then map Fetch (fetches_of ask (tops_in shards asked)) else [])
+
+-- ---- what a search replies
+
+abbrev pub failure_in : Reply → Option ShardFailure
+failure_in (Cancelled task cancel counts) = Some (failures.Cancelled task cancel)
+failure_in (Rejected node) = Some (failures.Rejected node)
+failure_in _ = None
+
+abbrev pub failure_of : Asked → Option ShardFailure
+failure_of a = option_and_then failure_in a.answer
+
+-- the asks of the fetches, each with its shard
+abbrev pub fetches_in : SearchAsk → ℕ → List Asked → List (ℕ × Asked)
+fetches_in ask shards asked = zip (map (λ top. top.shard) (won_tops ask.body (tops_in shards asked))) (drop shards asked)
+
+abbrev pub fetch_at : SearchAsk → ℕ → List Asked → ℕ → Option Asked
+fetch_at ask shards asked shard = lookup (λ other. shard == other) (fetches_in ask shards asked)
+
+-- why a shard failed: in the query, or else in the fetch
+abbrev pub failure_at : SearchAsk → ℕ → List Asked → ℕ → Option ShardFailure
+failure_at ask shards asked shard = option_or (option_and_then failure_of (slice_get asked shard)) (option_and_then failure_of (fetch_at ask shards asked shard))
+
+abbrev pub failed_at : SearchAsk → ℕ → List Asked → ℕ → Option FailedShard
+failed_at ask shards asked shard = option_map (λ failure. record { shard = shard; failure = failure }) (failure_at ask shards asked shard)
+
+abbrev pub failed_in : SearchAsk → ℕ → List Asked → List FailedShard
+failed_in ask shards asked = filter_map (failed_at ask shards asked) (range_with_len 0 shards)
+
+abbrev pub hits_of : Reply → List Hit
+hits_of (Hits hits) = hits
+hits_of _ = []
+
+-- the document of a winner, where its shard's fetch has it
+abbrev pub hit_in : SearchAsk → ℕ → List Asked → HitKey → Option Hit
+hit_in ask shards asked key = option_and_then (λ reply. find (λ hit. key.place == hit.place) (hits_of reply)) (option_and_then (λ a. a.answer) (fetch_at ask shards asked key.shard))
+
+abbrev pub counted : ShardTop → ShardCount
+counted top = record { shard = top.shard; version = top.version; count = top.count }
+
+-- The reply of a search whose asks are all answered.
+abbrev pub search_reply : TaskId → SearchAsk → ℕ → List Asked → Reply
+search_reply task ask shards asked =
+    let tops = tops_in shards asked in
+    let won = winners_among ask.body tops in
+    let failed = failed_in ask shards asked in
+    if length failed == shards then AllFailed failed
+    else Search (record {
+      context = context_of task ask;
+      shards = map counted tops;
+      failed = failed;
+      total = sum_by (λ top. top.count) tops;
+      hits = filter_map (hit_in ask shards asked) won;
+      last = last_or None won;
+    })
+
+-- ---- next steps
+
+abbrev pub ask_or_end : Option Request → Bool → Reply → Do
+ask_or_end (Some request) answered reply = AskNext request
+ask_or_end None true reply = Finish reply
+ask_or_end None false reply = Wait None
+
+abbrev pub search_step : TaskId → SearchAsk → ℕ → List Asked → Do
+search_step task ask shards asked = ask_or_end (slice_get (requests_of ask shards asked) (length asked)) (are_answered asked) (search_reply task ask shards asked)
+
+-- how many rows or documents a turn of work looks at
+unfoldable pub rows_per_turn : ℕ
+rows_per_turn = 1024
+
+-- work on so much is done after at least one turn, when all was looked at
+abbrev pub is_done : ℕ → ℕ → Bool
+is_done turns much = nat_lt 0 turns && nat_le much (turns * rows_per_turn)
+
+abbrev pub work_or_end : Bool → Reply → Do
+work_or_end false reply = Turn
+work_or_end true reply = Finish reply
+
+-- a query looks at the rows of a version, and ends with its top
+abbrev pub query_step : ShardAsk → ℕ → ℕ → List Doc → Do
+query_step ask version turns writes = work_or_end (is_done turns version) (Top (shard_top ask version writes))
+
+-- a fetch looks up its places, and ends with their documents
+abbrev pub fetch_step : FetchAsk → ℕ → List Doc → Do
+fetch_step ask turns writes = work_or_end (is_done turns (length ask.places)) (Hits (fetched ask writes))

@@ -1,0 +1,208 @@
+//! Copies of requests and replies. Each fails only for want of memory.
+
+ghost use Rattle.std.specs.Prelude.{◌≡◌, IfOk};
+
+use crate::reply::{FailedShard, Hit, Reply, SearchReply, ShardCount, ShardTop};
+use crate::request::{FetchAsk, HitKey, Request, SearchAsk, ShardAsk};
+use std::alloc::AllocError;
+use task_ids::{Boxed, Items};
+
+impl HitKey {
+    /// An equal key.
+    pub fn copy(&self) -> Result<HitKey, AllocError>
+        ensures { IfOk result (λ key. key ≡ self.now) }
+    {
+        Ok(HitKey {
+            sort: self.sort.copy()?,
+            shard: self.shard,
+            place: self.place,
+        })
+    }
+}
+
+fn copy_key(key: &Option<HitKey>) -> Result<Option<HitKey>, AllocError>
+    ensures { IfOk result (λ copy. copy ≡ key.now) }
+{
+    match key {
+        None => Ok(None),
+        Some(key) => Ok(Some(key.copy()?)),
+    }
+}
+
+fn copy_keys(keys: &Items<HitKey>) -> Result<Items<HitKey>, AllocError>
+    ensures { IfOk result (λ copies. copies ≡ keys.now) }
+{
+    let items = keys.as_slice();
+    let mut copies = Vec::with_capacity(keys.allocator(), items.len())?;
+    for item in items {
+        copies.push(item.copy()?)?;
+    }
+    Ok(Items::from_vec(copies))
+}
+
+fn copy_places(places: &Items<u32>) -> Result<Items<u32>, AllocError>
+    ensures { IfOk result (λ copies. copies ≡ places.now) }
+{
+    let copies = Vec::from_slice(places.allocator(), places.as_slice())?;
+    Ok(Items::from_vec(copies))
+}
+
+fn copy_failed(failed: &Items<FailedShard>) -> Result<Items<FailedShard>, AllocError>
+    ensures { IfOk result (λ copies. copies ≡ failed.now) }
+{
+    let copies = Vec::from_slice(failed.allocator(), failed.as_slice())?;
+    Ok(Items::from_vec(copies))
+}
+
+fn copy_counts(counts: &Items<ShardCount>) -> Result<Items<ShardCount>, AllocError>
+    ensures { IfOk result (λ copies. copies ≡ counts.now) }
+{
+    let copies = Vec::from_slice(counts.allocator(), counts.as_slice())?;
+    Ok(Items::from_vec(copies))
+}
+
+impl SearchAsk {
+    /// An equal ask.
+    pub fn copy(&self) -> Result<SearchAsk, AllocError>
+        ensures { IfOk result (λ ask. ask ≡ self.now) }
+    {
+        Ok(SearchAsk {
+            index: self.index.copy()?,
+            body: self.body.copy()?,
+            scroll: self.scroll,
+            slice: self.slice,
+            owner: self.owner,
+        })
+    }
+}
+
+impl ShardAsk {
+    /// An equal ask.
+    pub fn copy(&self) -> Result<ShardAsk, AllocError>
+        ensures { IfOk result (λ ask. ask ≡ self.now) }
+    {
+        Ok(ShardAsk {
+            index: self.index.copy()?,
+            shard: self.shard,
+            body: self.body.copy()?,
+            version: self.version,
+            after: copy_key(&self.after)?,
+            slice: self.slice,
+        })
+    }
+}
+
+impl FetchAsk {
+    /// An equal ask.
+    pub fn copy(&self) -> Result<FetchAsk, AllocError>
+        ensures { IfOk result (λ ask. ask ≡ self.now) }
+    {
+        Ok(FetchAsk {
+            index: self.index.copy()?,
+            shard: self.shard,
+            version: self.version,
+            places: copy_places(&self.places)?,
+        })
+    }
+}
+
+impl Request {
+    /// An equal request.
+    pub fn copy(&self) -> Result<Request, AllocError>
+        ensures { IfOk result (λ request. request ≡ self.now) }
+    {
+        match self {
+            Request::Search(ask) => {
+                Ok(Request::Search(Boxed::new(ask.allocator(), ask.get().copy()?)?))
+            }
+            Request::Query(ask) => {
+                Ok(Request::Query(Boxed::new(ask.allocator(), ask.get().copy()?)?))
+            }
+            Request::Fetch(ask) => {
+                Ok(Request::Fetch(Boxed::new(ask.allocator(), ask.get().copy()?)?))
+            }
+        }
+    }
+}
+
+impl Hit {
+    /// An equal hit.
+    pub fn copy(&self) -> Result<Hit, AllocError>
+        ensures { IfOk result (λ hit. hit ≡ self.now) }
+    {
+        Ok(Hit {
+            index: self.index.copy()?,
+            doc: self.doc.copy()?,
+            place: self.place,
+        })
+    }
+}
+
+/// Equal hits, in the same order.
+pub fn copy_hits(hits: &Items<Hit>) -> Result<Items<Hit>, AllocError>
+    ensures { IfOk result (λ copies. copies ≡ hits.now) }
+{
+    let items = hits.as_slice();
+    let mut copies = Vec::with_capacity(hits.allocator(), items.len())?;
+    for item in items {
+        copies.push(item.copy()?)?;
+    }
+    Ok(Items::from_vec(copies))
+}
+
+impl ShardTop {
+    /// An equal top.
+    pub fn copy(&self) -> Result<ShardTop, AllocError>
+        ensures { IfOk result (λ top. top ≡ self.now) }
+    {
+        Ok(ShardTop {
+            shard: self.shard,
+            version: self.version,
+            count: self.count,
+            keys: copy_keys(&self.keys)?,
+        })
+    }
+}
+
+impl SearchReply {
+    /// An equal answer.
+    pub fn copy(&self) -> Result<SearchReply, AllocError>
+        ensures { IfOk result (λ reply. reply ≡ self.now) }
+    {
+        Ok(SearchReply {
+            context: self.context,
+            shards: copy_counts(&self.shards)?,
+            failed: copy_failed(&self.failed)?,
+            total: self.total,
+            hits: copy_hits(&self.hits)?,
+            last: copy_key(&self.last)?,
+        })
+    }
+}
+
+impl Reply {
+    /// An equal reply.
+    pub fn copy(&self) -> Result<Reply, AllocError>
+        ensures { IfOk result (λ reply. reply ≡ self.now) }
+    {
+        match self {
+            Reply::Search(reply) => Ok(Reply::Search(Boxed::new(
+                reply.allocator(),
+                reply.get().copy()?,
+            )?)),
+            Reply::Top(top) => Ok(Reply::Top(Boxed::new(top.allocator(), top.get().copy()?)?)),
+            Reply::Hits(hits) => Ok(Reply::Hits(copy_hits(hits)?)),
+            Reply::AllFailed(failed) => Ok(Reply::AllFailed(copy_failed(failed)?)),
+            Reply::Cancelled {
+                task,
+                cancel,
+                counts,
+            } => Ok(Reply::Cancelled {
+                task: *task,
+                cancel: *cancel,
+                counts: *counts,
+            }),
+            Reply::Rejected { node } => Ok(Reply::Rejected { node: *node }),
+        }
+    }
+}

@@ -1,0 +1,17 @@
+//! The lines of a script's output: one line of JSON a command, after Elasticsearch's REST replies.
+
+mod cancels;
+mod ends;
+mod errors;
+mod idle;
+mod lines;
+mod moves;
+mod run;
+mod searches;
+mod told;
+mod turns;
+mod write;
+
+pub use idle::Idle;
+pub use lines::print_lines;
+

@@ -1,0 +1,91 @@
+-- What the work of a task does next, and what it is after an ask, an answer and a turn.
+use Rattle.std.specs.Prelude.{◌≡◌, ℕ, ◌+◌, List, Bool, false, ◌&&◌, Option, Some, None, if◌then◌else◌}
+use Rattle.task_ids.specs.declared.task_id.TaskId.{TaskId}
+use Rattle.task_ids.specs.declared.doc.Doc.{Doc}
+use Rattle.task_events.specs.declared.request.Request.{Request}
+use Rattle.task_events.specs.declared.request.Request.TheVariants as asks
+use Rattle.task_events.specs.declared.reply.Hit.{Hit}
+use Rattle.task_events.specs.declared.reply.ShardTop.{ShardTop}
+use Rattle.task_events.specs.declared.reply.Reply.{Reply}
+use Rattle.task_events.specs.declared.step.Do.{Do}
+use Rattle.task_events.specs.declared.step.Do.TheVariants as steps
+use Rattle.task_events.specs.Answers.{shard_top, fetched}
+use Rattle.task_events.specs.Searches.{query_step, fetch_step}
+use Rattle.search_phase.specs.Queries.{QueryState, IsQueried, new_query, version_at, has_ended, queried}
+use Rattle.search_phase.specs.Fetches.{FetchState, IsFetched, new_fetch, has_fetched, fetched_in}
+use Rattle.search_phase.specs.Searching.{new_search, next_step, wants_to_ask, is_above, with_ask, takes, with_answer, AllHonest, plain_reply}
+pub use Rattle.search_phase.specs.Searching.{does_wait}
+use Rattle.task_work.specs.declared.work.Work.{Work}
+use Rattle.task_work.specs.declared.work.Work.TheVariants.{Search, Query, Fetch}
+
+-- the work of a new task, on an index with so many shards
+abbrev pub new_work : TaskId → Request → ℕ → Work
+new_work task (asks.Search ask) shards = Search (new_search task ask shards)
+new_work task (asks.Query ask) shards = Query (new_query ask) None
+new_work task (asks.Fetch ask) shards = Fetch (new_fetch ask) None
+
+-- ---- work on a shard
+
+-- the top of a query that has looked at all rows
+abbrev pub found_top : QueryState → List Doc → Option ShardTop
+found_top q writes = if has_ended q writes then Some (shard_top q.ask (version_at q writes) writes) else None
+
+-- the documents of a fetch that has looked up all places
+abbrev pub found_hits : FetchState → List Doc → Option (List Hit)
+found_hits f writes = if has_fetched f then Some (fetched f.ask writes) else None
+
+-- The work has come so far by turns over a shard with these writes. A search looks at no shard.
+abbrev pub IsWorkOn : Work → List Doc → Type 0
+IsWorkOn (Search s) writes = Unit {0}
+IsWorkOn (Query q top) writes = IsQueried q writes × (top ≡ found_top q writes)
+IsWorkOn (Fetch f hits) writes = IsFetched f writes × (hits ≡ found_hits f writes)
+
+-- what it does next, where it works on a shard with these writes
+abbrev pub next_of : Work → List Doc → Do
+next_of (Search s) writes = next_step s
+next_of (Query q top) writes = query_step q.ask (version_at q writes) q.turns writes
+next_of (Fetch f hits) writes = fetch_step f.ask f.turns writes
+
+abbrev pub query_after : QueryState → List Doc → Work
+query_after q writes = Query q (found_top q writes)
+
+abbrev pub fetch_after : FetchState → List Doc → Work
+fetch_after f writes = Fetch f (found_hits f writes)
+
+-- the work after one more turn over a shard with these writes
+abbrev pub with_turn : Work → List Doc → Work
+with_turn (Search s) writes = Search s
+with_turn (Query q top) writes = query_after (queried q.ask (version_at q writes) (q.turns + 1) writes) writes
+with_turn (Fetch f hits) writes = fetch_after (fetched_in f.ask (f.turns + 1) writes) writes
+
+-- ---- asks and answers
+
+-- it asks for a child next, and this number is above those of all its asks
+abbrev pub can_ask : Work → ℕ → Bool
+can_ask (Search s) ask = wants_to_ask (next_step s) && is_above ask s.asked
+can_ask (Query q top) ask = false
+can_ask (Fetch f hits) ask = false
+
+abbrev pub work_with_ask : Work → ℕ → Work
+work_with_ask (Search s) ask = Search (with_ask s ask)
+work_with_ask (Query q top) ask = Query q top
+work_with_ask (Fetch f hits) ask = Fetch f hits
+
+-- the ask has no answer yet, and the reply is one that its request can have
+abbrev pub work_takes : Work → ℕ → Reply → Bool
+work_takes (Search s) ask reply = takes s ask reply
+work_takes (Query q top) ask reply = false
+work_takes (Fetch f hits) ask reply = false
+
+abbrev pub work_with_answer : Work → ℕ → Reply → Work
+work_with_answer (Search s) ask reply = Search (with_answer s ask reply)
+work_with_answer (Query q top) ask reply = Query q top
+work_with_answer (Fetch f hits) ask reply = Fetch f hits
+
+-- ---- the plain answer
+
+-- where every answer to a search is honest, it ends with the plain answer
+abbrev pub EndsPlainly : Work → Do → Type 0
+EndsPlainly (Search s) step = (writes : ℕ → List Doc) (reply : Reply) → AllHonest writes s → step ≡ steps.Finish reply → reply ≡ plain_reply writes s
+EndsPlainly (Query q top) step = Unit {0}
+EndsPlainly (Fetch f hits) step = Unit {0}

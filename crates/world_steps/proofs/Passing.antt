@@ -1,0 +1,63 @@
+-- Some first moves and one more.
+use Rattle.std.proofs.Common.{◌≡◌, ◌<◌, ℕ, ◌+◌, ◌-◌, List, [], ◌∷◌, ◌++◌, length, refl, sym, ap, subst, ◌∙◌, inl, inr, arith}
+use Rattle.task_ids.specs.declared.cluster.Cluster.{Cluster}
+use Rattle.task_ids.specs.declared.corpus.Corpus.{Corpus}
+use Rattle.task_events.specs.declared.event.Event.{Event}
+use Rattle.script_lang.specs.declared.command.Script.{Script}
+use Rattle.world_steps.specs.Runs.{FirstMoves, Passes, PartlySettles}
+use Rattle.std.specs.BTreeSet.{BTreeSet}
+use Rattle.task_ids.specs.declared.task_id.TaskId.{TaskId}
+use Rattle.world_steps.specs.declared.state.State.{State}
+use Rattle.world_steps.specs.Stored.{AreFew}
+use Rattle.world_steps.specs.Ties.{IsTied, Keeps}
+use Rattle.world_steps.specs.World.{IsPartly, HasReady, HasSettled}
+
+module _ (cluster : Cluster) (corpus : Corpus) (script : Script) where
+  further : (h : List Event) (between : List (List Event)) (m n : List Event) → Passes cluster corpus script h between m → FirstMoves cluster corpus script m n → Passes cluster corpus script h (between ++ n ∷ []) n
+  further h [] m n same moves = (subst (λ x. FirstMoves cluster corpus script x n) (sym same) moves, refl)
+  further h (next ∷ later) m n passes moves = (passes.0, further next later m n passes.1 moves)
+
+  pub one_more : (h m n : List Event) → PartlySettles cluster corpus script h m → FirstMoves cluster corpus script m n → PartlySettles cluster corpus script h n
+  one_more h m n (between, passes) moves = (between ++ n ∷ [], further h between m n passes moves)
+
+  pub partly_more : (h m n : List Event) → PartlySettles cluster corpus script h m → IsPartly (λ g k. FirstMoves cluster corpus script g k) m n → PartlySettles cluster corpus script h n
+  partly_more h m n passes (inl same) = subst (PartlySettles cluster corpus script h) (sym same) passes
+  partly_more h m n passes (inr moves) = one_more h m n passes moves
+
+  -- a first move is one event
+  pub one_longer : (h new : List Event) → FirstMoves cluster corpus script h new → length new ≡ length h + 1
+  one_longer h new (inl (m, e, at, is, same)) = let x = ap length same in omega (arith, x)
+  one_longer h new (inr (none, (t, first, (e, live, next, same)))) = let x = ap length same in omega (arith, x)
+
+-- the measure of settling falls
+pub less_left : (most n m : ℕ) → n < most → m ≡ n + 1 → most - m < most - n
+less_left most n m room longer = omega (arith, room, longer)
+
+-- settling goes on by a first move
+module _ (start now next : State) (ready : BTreeSet TaskId) where
+  moves_from_start : Keeps start now → FirstMoves now.cluster now.corpus.now now.script.now now.history next.history → FirstMoves start.cluster start.corpus.now start.script.now now.history next.history
+  moves_from_start k m =
+      subst (λ x. FirstMoves x start.corpus.now start.script.now now.history next.history) k.cluster
+      (subst (λ x. FirstMoves now.cluster x start.script.now now.history next.history) k.corpus
+      (subst (λ x. FirstMoves now.cluster now.corpus.now x now.history next.history) k.script m))
+
+  pub settled_on : (after : BTreeSet TaskId) → HasSettled start now ready → IsTied next → HasReady next after → Keeps now next → FirstMoves now.cluster now.corpus.now now.script.now now.history next.history → HasSettled start next after
+  settled_on after s tied known keeps moved = record {
+    tied = tied;
+    shards = record {
+      shards_are = keeps.shards ∙ s.shards.shards_are ∙ sym (λ i. record { corpus = keeps.corpus i; shards = (keeps.cluster i).shards });
+      few = subst (λ c. AreFew c.lines next.cluster.shards) (sym keeps.corpus) (subst (λ c. AreFew now.corpus.now.lines c.shards) (sym keeps.cluster) s.shards.few);
+    };
+    known = known;
+    keeps = record {
+      cluster = keeps.cluster ∙ s.keeps.cluster;
+      corpus = keeps.corpus ∙ s.keeps.corpus;
+      shards = keeps.shards ∙ s.keeps.shards;
+      script = keeps.script ∙ s.keeps.script;
+    };
+    passes = one_more start.cluster start.corpus.now start.script.now start.history now.history next.history s.passes (moves_from_start s.keeps moved);
+  }
+
+  pub partly_on : HasSettled start now ready → IsPartly (λ h new. FirstMoves now.cluster now.corpus.now now.script.now h new) now.history next.history → PartlySettles start.cluster start.corpus.now start.script.now start.history next.history
+  partly_on s (inl same) = subst (PartlySettles start.cluster start.corpus.now start.script.now start.history) (sym same) s.passes
+  partly_on s (inr moved) = one_more start.cluster start.corpus.now start.script.now start.history now.history next.history s.passes (moves_from_start s.keeps moved)

@@ -1,0 +1,107 @@
+-- What a live task does next is what its work says, where nothing was cancelled.
+use Rattle.std.proofs.Common.{◌≡◌, ℕ, true, false, ◌&&◌, not, List, length, Option, Some, None, refl, sym, ap, ◌∙◌}
+use Rattle.std.specs.Prelude.{is_some, option_map, option_and_then, unwrap_or}
+use Rattle.task_ids.specs.declared.task_id.TaskId.{TaskId}
+use Rattle.task_ids.specs.declared.cluster.Cluster.{Cluster}
+use Rattle.task_ids.specs.declared.corpus.Corpus.{Corpus}
+use Rattle.task_ids.specs.declared.doc.Doc.{Doc}
+use Rattle.task_table.specs.Table.{Table}
+use Rattle.task_events.specs.declared.request.Request.{Request}
+use Rattle.task_events.specs.declared.request.Request.TheVariants.{Search, Query, Fetch}
+use Rattle.task_events.specs.declared.step.Asked.{Asked}
+use Rattle.task_events.specs.declared.step.Do.{Do}
+use Rattle.task_events.specs.declared.step.Do.TheVariants.{AskNext, Turn, Wait, Finish}
+use Rattle.task_events.specs.declared.event.Event.{Event}
+use Rattle.task_events.specs.Searches.{search_step, query_step, fetch_step}
+use Rattle.task_events.specs.Tasks.{is_live, is_new}
+use Rattle.task_events.specs.Steps.{event_of, planned_step, first_step, asked_by, turns_of, request_of}
+use Rattle.task_events.specs.Bans.{ban_over}
+use Rattle.search_phase.specs.Queries.{version_at}
+use Rattle.task_work.specs.declared.work.Work.{Work}
+use Rattle.task_work.specs.declared.work.Work.TheVariants as works
+use Rattle.task_work.specs.Works.{IsWorkOn, next_of, does_wait}
+use Rattle.script_lang.specs.declared.command.Script.{Script}
+use Rattle.world_steps.specs.declared.flight.Sent.{Sent}
+use Rattle.world_steps.specs.declared.running.Running.{Running}
+use Rattle.world_steps.specs.Facts.{awaited_by, requested_by}
+use Rattle.world_steps.specs.Roots.{root_request}
+use Rattle.world_steps.specs.Runs as runs
+use Rattle.world_steps.specs.Ties.{Ties, WorksFor, DoesNext, own_writes, written}
+use Rattle.world_steps.proofs.Calm.{unmarked}
+use Rattle.world_steps.proofs.StepsAfter.{kept_running, is_kept}
+
+-- the plan of a task, if it was asked for something
+abbrev pub plan_of : Cluster → Corpus → TaskId → List Event → Option Request → Option Do
+plan_of cluster corpus t h request = option_map (λ r. planned_step cluster corpus t r h) request
+
+-- the work of a task follows its plan
+follows : (cluster : Cluster) (corpus : Corpus) (t : TaskId) (h : List Event) (request : Option Request) (work : Work)
+    → WorksFor cluster corpus t (asked_by t h) (requested_by t h) (awaited_by t h) (turns_of t h) request work
+    → plan_of cluster corpus t h request ≡ Some (next_of work (own_writes cluster corpus request))
+follows cluster corpus t h (Some (Search ask)) (works.Search s) w = ap (λ x. Some (search_step x.task x.ask x.shards x.asked)) (sym w.state_is)
+follows cluster corpus t h (Some (Query ask)) (works.Query q top) w =
+    let writes = written cluster corpus ask.index ask.shard in
+    ap (λ x. Some (query_step x (unwrap_or ask.version (length writes)) (turns_of t h) writes)) (sym w.ask_is)
+    ∙ ap (λ x. Some (query_step q.ask x (turns_of t h) writes)) (sym w.version_is)
+    ∙ ap (λ x. Some (query_step q.ask (version_at q writes) x writes)) (sym w.turns_are)
+follows cluster corpus t h (Some (Fetch ask)) (works.Fetch f hits) w =
+    let writes = written cluster corpus ask.index ask.shard in
+    ap (λ x. Some (fetch_step x (turns_of t h) writes)) (sym w.ask_is) ∙ ap (λ x. Some (fetch_step f.ask x writes)) (sym w.turns_are)
+follows cluster corpus t h None work w = absurd w
+follows cluster corpus t h (Some (Search ask)) (works.Query q top) w = absurd w
+follows cluster corpus t h (Some (Search ask)) (works.Fetch f hits) w = absurd w
+follows cluster corpus t h (Some (Query ask)) (works.Search s) w = absurd w
+follows cluster corpus t h (Some (Query ask)) (works.Fetch f hits) w = absurd w
+follows cluster corpus t h (Some (Fetch ask)) (works.Search s) w = absurd w
+follows cluster corpus t h (Some (Fetch ask)) (works.Query q top) w = absurd w
+
+-- the work is on the writes that it looks at
+on_writes : (cluster : Cluster) (corpus : Corpus) (t : TaskId) (asked : List Asked) (requests : List Request) (awaited : List (Option ℕ)) (turns : ℕ) (request : Option Request) (work : Work)
+    → WorksFor cluster corpus t asked requests awaited turns request work → IsWorkOn work (own_writes cluster corpus request)
+on_writes cluster corpus t asked requests awaited turns (Some (Search ask)) (works.Search s) w = tt
+on_writes cluster corpus t asked requests awaited turns (Some (Query ask)) (works.Query q top) w = w.on
+on_writes cluster corpus t asked requests awaited turns (Some (Fetch ask)) (works.Fetch f hits) w = w.on
+on_writes cluster corpus t asked requests awaited turns None work w = absurd w
+on_writes cluster corpus t asked requests awaited turns (Some (Search ask)) (works.Query q top) w = absurd w
+on_writes cluster corpus t asked requests awaited turns (Some (Search ask)) (works.Fetch f hits) w = absurd w
+on_writes cluster corpus t asked requests awaited turns (Some (Query ask)) (works.Search s) w = absurd w
+on_writes cluster corpus t asked requests awaited turns (Some (Query ask)) (works.Fetch f hits) w = absurd w
+on_writes cluster corpus t asked requests awaited turns (Some (Fetch ask)) (works.Search s) w = absurd w
+on_writes cluster corpus t asked requests awaited turns (Some (Fetch ask)) (works.Query q top) w = absurd w
+
+acts : (cluster : Cluster) (t : TaskId) (h : List Event) (d : Do) → is_some (event_of cluster t h d) ≡ not (does_wait d)
+acts cluster t h (AskNext request) = refl
+acts cluster t h Turn = refl
+acts cluster t h (Wait due) = refl
+acts cluster t h (Finish reply) = refl
+
+module _ (cluster : Cluster) (corpus : Corpus) (script : Script) (h : List Event) (tasks : TaskId → Option Running) (tables : List Table) (flight : List Sent) (ties : Ties cluster corpus script h tasks tables flight) where
+  -- the writes that the work of a task looks at
+  abbrev pub writes_at : TaskId → List Doc
+  writes_at t = own_writes cluster corpus (request_of (root_request script) t h)
+
+  pub next_new : (t : TaskId) → is_new t h ≡ true → runs.next_of cluster corpus script t h ≡ Some (first_step t (ban_over t h))
+  next_new t n = rw n refl
+
+  pub next_old : (t : TaskId) → is_live t h ≡ true → is_new t h ≡ false → (r : Running) → tasks t ≡ Some r → runs.next_of cluster corpus script t h ≡ event_of cluster t h (next_of r.work (writes_at t))
+  next_old t l n r e =
+      rw n (rw (unmarked h ties.calm t) (ap (λ o. option_and_then (event_of cluster t h) o)
+      (follows cluster corpus t h (request_of (root_request script) t h) r.work (kept_running cluster corpus script h tasks tables flight ties t l r e).works)))
+
+  pub acts_new : (t : TaskId) → is_live t h ≡ true → is_new t h ≡ true → (is_live t h && is_some (runs.next_of cluster corpus script t h)) ≡ true
+  acts_new t l n = rw l (ap is_some (next_new t n))
+
+  pub acts_old : (t : TaskId) → is_live t h ≡ true → is_new t h ≡ false → (r : Running) → tasks t ≡ Some r
+      → (is_live t h && is_some (runs.next_of cluster corpus script t h)) ≡ not (does_wait (next_of r.work (writes_at t)))
+  acts_old t l n r e = rw l (ap is_some (next_old t l n r e) ∙ acts cluster t h (next_of r.work (writes_at t)))
+
+  pub works_on : (t : TaskId) → is_live t h ≡ true → (r : Running) → tasks t ≡ Some r → IsWorkOn r.work (writes_at t)
+  works_on t l r e = on_writes cluster corpus t _ _ _ _ (request_of (root_request script) t h) r.work (kept_running cluster corpus script h tasks tables flight ties t l r e).works
+
+  -- what the kept work does next is what the task does next
+  pub does : (t : TaskId) → is_live t h ≡ true → is_new t h ≡ false → (step : Do) → DoesNext (tasks t) step → runs.next_of cluster corpus script t h ≡ event_of cluster t h step
+  does t l n step d = by_kept (tasks t) refl
+    where
+      by_kept : (o : Option Running) → tasks t ≡ o → runs.next_of cluster corpus script t h ≡ event_of cluster t h step
+      by_kept None e = absurd (is_kept cluster corpus script h tasks tables flight ties t l e)
+      by_kept (Some r) e = next_old t l n r e ∙ ap (event_of cluster t h) ((rw e at d) (writes_at t) (works_on t l r e))

@@ -1,0 +1,82 @@
+-- The tables fit the past after a command has begun, and after its root has come to its node.
+use Rattle.std.proofs.Common.{◌≡◌, ◌+◌, ◌≤◌, ℕ, true, false, List, ◌∷◌, Option, Some, None, refl, sym, ap, ◌∙◌, arith}
+use Rattle.task_ids.specs.declared.task_id.TaskId.{TaskId}
+use Rattle.task_ids.specs.declared.task_info.NewTask.{NewTask}
+use Rattle.task_ids.specs.declared.cluster.Cluster.{Cluster}
+use Rattle.task_ids.specs.declared.corpus.Corpus.{Corpus}
+use Rattle.task_ids.specs.declared.doc.Doc.{Doc}
+use Rattle.task_table.specs.Table.{Table}
+use Rattle.task_work.specs.Works.{IsWorkOn}
+use Rattle.script_lang.specs.declared.command.Script.{Script}
+use Rattle.task_events.specs.declared.request.Request.{Request}
+use Rattle.task_events.specs.declared.event.Event.{Event}
+use Rattle.task_events.specs.declared.event.Event.TheVariants.{Begin, Root, RootRejected}
+use Rattle.task_events.specs.Same.{same_task}
+use Rattle.task_events.specs.Tasks.{live_on}
+use Rattle.task_events.specs.Cancels.{last_command, beginning}
+use Rattle.task_events.specs.Allowed.{TakesSlot}
+use Rattle.world_steps.specs.declared.flight.Sent.{Sent}
+use Rattle.world_steps.specs.declared.running.Running.{Running}
+use Rattle.world_steps.specs.Facts.{Facts, facts_of}
+use Rattle.world_steps.specs.Moves.{IsStart}
+use Rattle.world_steps.specs.Roots.{root_request}
+use Rattle.world_steps.specs.Ties.{Ties}
+use Rattle.world_steps.proofs.Calm.{no_mark_awaited}
+use Rattle.world_steps.proofs.FactsAfter.{at_root}
+use Rattle.world_steps.proofs.FlightAfter.{all_stay}
+use Rattle.world_steps.proofs.Kept.{kept_after, kept_same}
+use Rattle.world_steps.proofs.Listed.{listed_same}
+use Rattle.world_steps.proofs.Started.{started, first, runs_first}
+use Rattle.world_steps.proofs.Tables.{IsPutOn, put_node, put_takes, put_listed}
+use Rattle.world_steps.proofs.Unborn.{blank, unborn}
+
+module _ (cluster : Cluster) (corpus : Corpus) (script : Script) (h : List Event) (tasks : TaskId → Option Running) (tables : List Table) (flight : List Sent) (ties : Ties cluster corpus script h tasks tables flight) (command : ℕ) where
+  pub after_begin : last_command h + 1 ≡ command → Ties cluster corpus script (Begin command ∷ h) tasks tables flight
+  after_begin next = record {
+    lawful = (sym next, ties.lawful, no_mark_awaited h ties.calm);
+    calm = ties.calm;
+    kept = kept_same cluster corpus (root_request script) (Begin command) h tasks refl ties.kept;
+    listed = λ place. listed_same cluster (Begin command) h (λ n. refl) refl place _ (ties.listed place);
+    sent = all_stay (Begin command) h flight _ ties.sent;
+    good = ties.good;
+  }
+
+  module _ (node : ℕ) (begun : beginning h ≡ Some command) (low : 1 ≤ node) (high : node ≤ cluster.nodes) where
+    -- no slot is free
+    pub after_root_rejected : cluster.slots ≤ live_on node h → Ties cluster corpus script (RootRejected command node ∷ h) tasks tables flight
+    after_root_rejected full = record {
+      lawful = (record { begins = begun; low = low; high = high; full = full }, ties.lawful, no_mark_awaited h ties.calm);
+      calm = ties.calm;
+      kept = kept_same cluster corpus (root_request script) (RootRejected command node) h tasks refl ties.kept;
+      listed = λ place. listed_same cluster (RootRejected command node) h (λ n. refl) refl place _ (ties.listed place);
+      sent = all_stay (RootRejected command node) h flight _ ties.sent;
+      good = ties.good;
+    }
+
+    -- the root takes a slot
+    module _ (t : TaskId) (task : NewTask) (after : List Table) (put : IsPutOn tables node t task after) where
+      takes : TakesSlot cluster t h
+      takes = put_takes cluster h tables ties.listed node low high t task after put ties.lawful
+
+      node_is : t.node ≡ node
+      node_is = put_node cluster h tables ties.listed node low high t task after put
+
+      pub starts_root : IsStart cluster h command node true (Root command t)
+      starts_root = (takes, node_is, refl)
+
+      pub after_root : (request : Request) (running : Running) (kept : TaskId → Option Running) → root_request script command ≡ Some request → running ≡ first t None false request cluster.shards → ((writes : List Doc) → IsWorkOn running.work writes)
+          → kept t ≡ Some running → ((q : TaskId) → same_task t q ≡ false → kept q ≡ tasks q)
+          → Ties cluster corpus script (Root command t ∷ h) kept after flight
+      after_root request running kept asked is on here others = record {
+        lawful = (record { begins = begun; in_cluster = rw node_is high; takes = takes }, ties.lawful, no_mark_awaited h ties.calm);
+        calm = ties.calm;
+        kept = kept_after cluster corpus (root_request script) t (Root command t) h tasks kept refl ties.kept (rw here (runs_first cluster corpus t None false request _ running facts is on)) others;
+        listed = put_listed cluster h tables ties.listed node low high t task after put (Root command t) (record { last = λ n. refl; live = refl });
+        sent = all_stay (Root command t) h flight _ ties.sent;
+        good = ties.good;
+      }
+        where
+          facts : facts_of (root_request script) t (Root command t ∷ h) ≡ started None false request
+          facts =
+              let none = unborn cluster t (root_request script) h ties.lawful (let next = takes.next in omega arith) in
+              at_root (root_request script) t h command ∙ ap (λ (f : Facts). record f { live = true; request = root_request script command }) none ∙ ap (λ (o : Option Request). record blank { live = true; request = o }) asked

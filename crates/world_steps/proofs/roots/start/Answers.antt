@@ -1,0 +1,67 @@
+use Rattle.std.proofs.Common.{◌≡◌, ◌∙◌, ◌∷◌, Option, Some, None, Err, refl, ap, sym, subst, cond, false}
+use Rattle.std.specs.BTreeMap.{is_at}
+use Rattle.task_ids.specs.declared.task_id.TaskId.{TaskId}
+use Rattle.task_ids.specs.TaskIdOrder.{task_id_cmp}
+use Rattle.task_table.specs.Answer.{refused_token}
+use Rattle.task_table.specs.declared.ended.PutError.TheVariants.{Full, NumbersSpent}
+use Rattle.child_track.specs.Token.{Token}
+use Rattle.task_events.specs.declared.event.Event.TheVariants.{Root, RootRejected}
+use Rattle.task_events.specs.declared.request.SearchAsk.{SearchAsk}
+use Rattle.task_events.specs.declared.request.Request.TheVariants.{Search}
+use Rattle.world_steps.specs.declared.running.Running.{Running}
+use Rattle.world_steps.specs.Ties.{task_at}
+use Rattle.world_steps.proofs.Kept.{at_changed, off_changed}
+use Rattle.world_steps.proofs.RootsAfter.{starts_root, after_root, after_root_rejected}
+use Rattle.world_steps.proofs.SameTies.{same_ties}
+use Rattle.world_steps.proofs.Started.{first}
+use Rattle.world_steps.proofs.Tables.{IsPutOn, node_has_table, no_slot, no_number}
+use Rattle.world_steps.proofs.roots.start.Goals as goal
+
+pub put_on-requires-clause-high : goal.put_on-requires-clause-high
+put_on-requires-clause-high c =
+    let s = c.args.state.now in
+    node_has_table s.cluster s.history s.tables.items c.requires.tied.listed c.args.node c.requires.low c.requires.high
+
+pub returns-in-Ok-put_on-clause-started : goal.returns-in-Ok-put_on-clause-started
+returns-in-Ok-put_on-clause-started c =
+    let s = c.args.state.now in
+    let t = c.in-Ok-put_on.ticket.id in
+    let put : IsPutOn s.tables.items c.args.node t c.new_task-root.result c.put_on.new.tables.items = record { id = c.in-Ok-put_on.ensures.id; row = c.in-Ok-put_on.ensures.row; free = c.in-Ok-put_on.ensures.free } in
+    let happened : c.keep.new.history ≡ Root c.args.command t ∷ s.history = cc (c.in_ok-keep-in-Ok-put_on.ensures.happened, c.id-task.ensures) in
+    (Root c.args.command t, starts_root s.cluster s.corpus.now s.script.now s.history (task_at s.tasks) s.tables.items s.flight c.requires.tied c.args.command c.args.node c.requires.begun c.requires.low c.requires.high t _ _ put, happened)
+
+pub returns-in-Ok-put_on-clause-tied : goal.returns-in-Ok-put_on-clause-tied
+returns-in-Ok-put_on-clause-tied c =
+    let s = c.args.state.now in
+    let t = c.in-Ok-put_on.ticket.id in
+    let running = c.in_ok-running-in-Ok-put_on.running in
+    let put : IsPutOn s.tables.items c.args.node t c.new_task-root.result c.put_on.new.tables.items = record { id = c.in-Ok-put_on.ensures.id; row = c.in-Ok-put_on.ensures.row; free = c.in-Ok-put_on.ensures.free } in
+    let happened : c.keep.new.history ≡ Root c.args.command t ∷ s.history = cc (c.in_ok-keep-in-Ok-put_on.ensures.happened, c.id-task.ensures) in
+    let asked = c.requires.asked ∙ ap (λ (x : SearchAsk). Some (Search x)) (sym c.in-Ok.ensures.ok) in
+    let is : running ≡ first t None false (Search c.in-Ok.search) s.cluster.shards = c.in_ok-running-in-Ok-put_on.ensures.running
+    ∙ ap (λ (o : Option Token). first t o false (Search c.in-Ok.search) s.cluster.shards) c.in-Ok-put_on.ensures.token in
+    let changed = subst (λ (k : TaskId). (q : TaskId) → task_at c.keep.new.tasks q ≡ cond (is_at (task_id_cmp k) q) (Some running) (task_at s.tasks q)) (ap (λ (r : Running). r.ticket.id) is) c.in_ok-keep-in-Ok-put_on.ensures.kept in
+    same_ties s.cluster s.corpus.now s.script.now (task_at c.keep.new.tasks) _ _ _ _ _ _ happened refl refl
+    (after_root s.cluster s.corpus.now s.script.now s.history (task_at s.tasks) s.tables.items s.flight c.requires.tied c.args.command c.args.node c.requires.begun c.requires.low c.requires.high t _ _ put
+    (Search c.in-Ok.search) running (task_at c.keep.new.tasks) asked is c.in_ok-running-in-Ok-put_on.ensures.begun (at_changed t (Some running) (task_at s.tasks) _ changed) (off_changed t (Some running) (task_at s.tasks) _ changed))
+
+pub returns-in-Err-Full-clause-started : goal.returns-in-Err-Full-clause-started
+returns-in-Err-Full-clause-started c =
+    let s = c.args.state.now in
+    let back = ap refused_token (sym c.in-Err-Full.field-0-is) ∙ c.in-Err-Full.ensures.given_back in
+    let full = no_slot s.cluster s.history s.tables.items c.requires.tied.listed c.args.node c.requires.low c.requires.high c.requires.tied.lawful (λ table e. c.in-Err-Full.ensures.full table e (ap Err (c.in-Err-Full.field-0-is ∙ ap Full back))) in
+    (RootRejected c.args.command c.args.node, (full, refl, refl), c.in_ok-append-in-Err-Full.ensures.ok)
+
+pub returns-in-Err-Full-clause-tied : goal.returns-in-Err-Full-clause-tied
+returns-in-Err-Full-clause-tied c =
+    let s = c.args.state.now in
+    let back = ap refused_token (sym c.in-Err-Full.field-0-is) ∙ c.in-Err-Full.ensures.given_back in
+    let full = no_slot s.cluster s.history s.tables.items c.requires.tied.listed c.args.node c.requires.low c.requires.high c.requires.tied.lawful (λ table e. c.in-Err-Full.ensures.full table e (ap Err (c.in-Err-Full.field-0-is ∙ ap Full back))) in
+    same_ties s.cluster s.corpus.now s.script.now (task_at s.tasks) _ _ _ _ _ _ c.in_ok-append-in-Err-Full.ensures.ok c.in-Err-Full.ensures.err refl
+    (after_root_rejected s.cluster s.corpus.now s.script.now s.history (task_at s.tasks) s.tables.items s.flight c.requires.tied c.args.command c.args.node c.requires.begun c.requires.low c.requires.high full)
+
+pub returns-in-Err-NumbersSpent-clause-spent : goal.returns-in-Err-NumbersSpent-clause-spent
+returns-in-Err-NumbersSpent-clause-spent c = λ _.
+    let s = c.args.state.now in
+    let back = ap refused_token (sym c.in-Err-NumbersSpent.field-0-is) ∙ c.in-Err-NumbersSpent.ensures.given_back in
+    no_number s.cluster s.history s.tables.items c.requires.tied.listed c.args.node c.requires.low c.requires.high c.requires.tied.lawful (λ table e. c.in-Err-NumbersSpent.ensures.spent table e (ap Err (c.in-Err-NumbersSpent.field-0-is ∙ ap NumbersSpent back)))

@@ -1,0 +1,9 @@
+pub mod Asking
+pub mod Facts
+pub mod Flights
+pub mod Moves
+pub mod Roots
+pub mod Runs
+pub mod Stored
+pub mod Ties
+pub mod World

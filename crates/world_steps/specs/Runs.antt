@@ -1,0 +1,67 @@
+-- The run of a script: what each command appends to the past, and the closing drain.
+use Rattle.std.specs.Prelude.{◌≡◌, ◌≢◌, ℕ, Bool, true, List, [], ◌∷◌, ◌⊎◌, Option, Some, None, false}
+use Rattle.std.specs.List.{list_any}
+use Rattle.std.specs.Str.{bytes_eq}
+use Rattle.task_ids.specs.declared.task_id.TaskId.{TaskId}
+use Rattle.task_ids.specs.declared.cluster.Cluster.{Cluster}
+use Rattle.task_ids.specs.declared.corpus.Corpus.{Corpus}
+use Rattle.task_ids.specs.TaskIdOrder.{task_id_cmp}
+use Rattle.std.specs.Ordering.{is_le}
+use Rattle.task_events.specs.declared.event.Event.{Event}
+use Rattle.task_events.specs.Tasks.{is_live}
+use Rattle.task_events.specs.Messages.{in_flight}
+use Rattle.task_events.specs.Steps.{next_step}
+use Rattle.script_lang.specs.declared.command.Script.{Script}
+use Rattle.world_steps.specs.declared.acting.Stepped.{Stepped}
+use Rattle.world_steps.specs.declared.acting.Stepped.TheVariants.{Done, Waiting, NotRunning}
+use Rattle.world_steps.specs.Roots.{root_request}
+use Rattle.world_steps.specs.Moves.{Delivers}
+
+-- some document is of this index
+abbrev pub is_known : Corpus → List ℕ → Bool
+is_known corpus index = list_any (λ line. bytes_eq index line.index) corpus.lines
+
+module _ (cluster : Cluster) (corpus : Corpus) (script : Script) where
+  -- what a live task does next, and nothing where it waits
+  abbrev pub next_of : TaskId → List Event → Option Event
+  next_of t h = next_step cluster corpus (root_request script) t h
+
+  -- the past after a step of a task
+  abbrev pub Steps : TaskId → List Event → List Event → Type 0
+  Steps t h new = (e : Event) × (is_live t h ≡ true) × (next_of t h ≡ Some e) × (new ≡ e ∷ h)
+
+  -- what a step of a task answers, and the past after it
+  abbrev pub AnswersStep : TaskId → List Event → Stepped → List Event → Type 0
+  AnswersStep t h Done new = Steps t h new
+  AnswersStep t h Waiting new = (is_live t h ≡ true) × (next_of t h ≡ None) × (new ≡ h)
+  AnswersStep t h NotRunning new = (is_live t h ≡ false) × (new ≡ h)
+
+  -- a live task that does not wait
+  abbrev pub IsReady : TaskId → List Event → Type 0
+  IsReady t h = (is_live t h ≡ true) × (next_of t h ≢ None)
+
+  -- the lowest of them
+  abbrev pub IsFirstReady : TaskId → List Event → Type 0
+  IsFirstReady t h = IsReady t h × ((u : TaskId) → IsReady u h → is_le (task_id_cmp t u) ≡ true)
+
+  -- The move that settling makes next: the oldest message is delivered, or where none is in flight the first ready task makes its step.
+  abbrev pub FirstMoves : List Event → List Event → Type 0
+  FirstMoves h new = Delivers cluster h 0 new ⊎ ((in_flight h ≡ []) × ((t : TaskId) × IsFirstReady t h × Steps t h new))
+
+  -- Nothing is in flight, and every live task waits.
+  pub record IsSettled (h : List Event) : Type 0 where
+    pub nothing_in_flight : in_flight h ≡ []
+    pub all_wait : (t : TaskId) → is_live t h ≡ true → next_of t h ≡ None
+
+  -- the past after some first moves, through these pasts
+  abbrev pub Passes : List Event → List (List Event) → List Event → Type 0
+  Passes h [] new = h ≡ new
+  Passes h (next ∷ later) new = FirstMoves h next × Passes next later new
+
+  -- the past after as many first moves as there are
+  abbrev pub Settles : List Event → List Event → Type 0
+  Settles h new = IsSettled new × ((between : List (List Event)) × Passes h between new)
+
+  -- some first moves, and perhaps one more
+  abbrev pub PartlySettles : List Event → List Event → Type 0
+  PartlySettles h new = (between : List (List Event)) × Passes h between new

@@ -1,0 +1,75 @@
+//! The messages in flight.
+
+ghost use Rattle.std.specs.Prelude.{◌≡◌, ◌∷◌, [], ◌++◌, ◌<◌, ◌↔◌, length, remove, slice_get, IsSome, IfSome, IfErr, OnOk, OnErr, OnSome, IfNone};
+ghost use Rattle.world_steps.specs.Flights.{is_request_entry};
+
+use child_track::{AskToken, Receipt};
+use std::alloc::{AllocFailed, Global};
+use std::collections::VecDeque;
+use std::marker::Model;
+
+/// A message that was sent, by the place in the history of the event that sent it. What it says stands there.
+#[derive(Debug)]
+pub(crate) enum Sent {
+    /// The request of an ask, with the right to answer it, to a node.
+    Request { token: AskToken, to: u32, at: usize },
+    /// The answer to an ask, with the receipt of the child that ended or of the rejection.
+    Answer { receipt: Receipt, at: usize },
+}
+
+/// The messages in flight, in the order of their sending. Any of them can be taken out; near either end that costs
+/// no more than its distance from there.
+#[derive(Debug)]
+pub(crate) struct Flight {
+    queue: VecDeque<Sent>,
+}
+
+impl Model for Flight {
+    ghost use Rattle.std.specs.Prelude.{List};
+    ghost use Rattle.world_steps.specs.declared.flight.Sent.{Sent};
+
+    ghost Value = { List Sent };
+
+    ghost view = { λ a. a.queue.items };
+}
+
+impl Flight {
+    pub(crate) fn new(alloc: Global) -> Flight
+        ensures { result ≡ [] }
+    {
+        Flight {
+            queue: VecDeque::new(alloc),
+        }
+    }
+
+    pub(crate) fn len(&self) -> usize
+        ensures { result ≡ length self.now }
+    {
+        self.queue.len()
+    }
+
+    /// Sends a message after all others. Where memory runs out it comes back.
+    pub(crate) fn send(&mut self, sent: Sent) -> Result<(), AllocFailed<Sent>>
+        ensures ok { OnOk result (self.new ≡ self.old ++ sent ∷ []) }
+        ensures err { OnErr result (self.new ≡ self.old) }
+        ensures given_back { IfErr result (λ failed. failed.value ≡ sent) }
+    {
+        self.queue.push_back(sent)
+    }
+
+    /// Whether the message of this place is a request, if there is one.
+    pub(crate) fn is_request(&self, nth: usize) -> bool
+        ensures { result ≡ is_request_entry (slice_get self.now nth) }
+    {
+        matches!(self.queue.get(nth), Some(Sent::Request { .. }))
+    }
+
+    /// Takes the message of this place out, counted from 0. There is none exactly past the end.
+    pub(crate) fn take(&mut self, nth: usize) -> Option<Sent>
+        ensures taken { result ≡ slice_get self.old nth }
+        ensures rest { OnSome result (self.new ≡ remove self.old nth) }
+        ensures none { IfNone result (self.new ≡ self.old) }
+    {
+        self.queue.remove(nth)
+    }
+}

@@ -1,0 +1,24 @@
+//! The serial world: the nodes of a cluster, their tasks and the messages between them, one event at a time.
+#![tactic(auto)]
+
+mod acting;
+mod answers;
+mod append;
+mod asks;
+mod ends;
+mod flight;
+mod moving;
+mod ready;
+mod requests;
+mod roots;
+mod running;
+mod sending;
+mod shards;
+mod starting;
+mod state;
+mod steps;
+mod turns;
+mod world;
+
+pub use acting::Stepped;
+pub use world::{Delivered, World};

@@ -1,0 +1,178 @@
+ghost use Rattle.std.specs.Prelude.{◌≡◌, ◌≤◌, [], length, Ok, Err, Some, None, OnOk, OnErr, IfOk, IfErr, IfSome, ℕ};
+ghost use Rattle.task_events.specs.Lawful.{Lawful};
+ghost use Rattle.task_events.specs.Messages.{in_flight};
+ghost use Rattle.world_steps.specs.Moves.{Delivers, StopsDelivery, StopsStep};
+ghost use Rattle.world_steps.specs.Runs.{Steps, AnswersStep, Settles, PartlySettles};
+ghost use Rattle.world_steps.specs.World.{IsPartly, tables_from};
+
+use crate::acting::Stepped;
+use crate::flight::Flight;
+use crate::moving;
+use crate::shards::Shards;
+use crate::state::State;
+use script_lang::Script;
+use std::alloc::{AllocError, Global};
+use std::collections::{BTreeMap, BTreeSet};
+use std::marker::Model;
+use task_events::{History, Stop};
+use task_ids::{Cluster, Corpus, TaskId};
+use task_table::TaskTable;
+
+/// The serial world: a cluster of nodes that runs a script, one event at a time.
+pub struct World<'a> {
+    state: State<'a>,
+    /// The live tasks that do not wait.
+    ready: BTreeSet<TaskId>,
+    stopped: Option<Stop>,
+}
+
+impl<'a> Model for World<'a> {
+    ghost use Rattle.world_steps.specs.World.{WorldView, view_of, IsWorld};
+    ghost use Rattle.std.specs.Coded.{codes};
+    ghost use Rattle.task_ids.specs.contracts.corpus.Corpus as corpus;
+    ghost use Rattle.script_lang.specs.contracts.command.Script as script;
+    ghost use Rattle.task_events.specs.contracts.event.Event as event;
+
+    ghost Value = { WorldView };
+
+    ghost coded = { Prim.hlevel (codes, corpus.the_row.coded, script.the_row.coded, event.the_row.coded) };
+
+    ghost view = { λ w. view_of w.state w.stopped };
+
+    ghost invariant = { λ w. IsWorld w.state w.ready w.stopped };
+}
+
+/// What came of a delivery.
+#[derive(Clone, Copy, Debug, PartialEq, Eq)]
+pub enum Delivered {
+    /// The message was delivered.
+    Done,
+    /// There is no message at that place; so many are in flight.
+    NoSuch(u64),
+}
+
+/// The table of each node of a cluster, on which nothing runs yet.
+fn new_tables(alloc: Global, cluster: &Cluster) -> Result<Vec<TaskTable>, AllocError>
+    ensures { IfOk result (λ tables. tables.items ≡ tables_from 0 cluster.now.nodes cluster.now.slots) }
+{
+    let mut tables = Vec::with_capacity(alloc, cluster.nodes as usize)?;
+    for place in 0..cluster.nodes {
+        tables.push(TaskTable::new(alloc, place + 1, cluster.slots)?)?;
+    }
+    Ok(tables)
+}
+
+impl<'a> World<'a> {
+    /// A world in which nothing has happened yet. It copies the documents into their shards, and reads the script where
+    /// it stands. It fails only for want of memory.
+    pub fn new(
+        alloc: Global,
+        cluster: Cluster,
+        corpus: &'a Corpus,
+        script: &'a Script,
+    ) -> Result<World<'a>, AllocError>
+        ensures { IfOk result (λ world. world ≡ record { cluster = cluster; corpus = corpus.now; script = script.now; past = []; stopped = None }) }
+    {
+        let shards = Shards::new(alloc, corpus, cluster.shards)?;
+        let tables = new_tables(alloc, &cluster)?;
+        let state = State {
+            alloc,
+            cluster,
+            corpus,
+            shards,
+            script,
+            history: History::new(alloc),
+            tasks: BTreeMap::new(alloc),
+            tables,
+            flight: Flight::new(alloc),
+        };
+        Ok(World {
+            state,
+            ready: BTreeSet::new(alloc),
+            stopped: None,
+        })
+    }
+
+    /// What has happened so far.
+    pub fn history(&self) -> &History
+        ensures past { result.now ≡ self.now.past }
+        ensures lawful { Lawful self.now.cluster self.now.past }
+    {
+        &self.state.history
+    }
+
+    /// Delivers the message of this place among those in flight, from 0.
+    ///
+    /// Once it has come to an early end, the world answers that for ever and keeps its past.
+    pub fn deliver(&mut self, nth: u64) -> Result<Delivered, Stop>
+        ensures done { result ≡ Ok Delivered.Done → Delivers self.old.cluster self.old.past nth self.new.past }
+        ensures no_such { (n : ℕ) → result ≡ Ok (Delivered.NoSuch n) → (n ≡ length (in_flight self.old.past)) × (n ≤ nth) × (self.new.past ≡ self.old.past) }
+        ensures err { OnErr result (IsPartly (λ h new. Delivers self.old.cluster h nth new) self.old.past self.new.past) }
+        ensures stop { IfErr result (λ stop. self.new.stopped ≡ Some stop) }
+        ensures stopped { IfSome self.old.stopped (λ stop. (result ≡ Err stop) × (self.new.past ≡ self.old.past)) }
+        ensures cause { IfErr result (λ stop. self.old.stopped ≡ None → StopsDelivery self.old.cluster self.old.past nth stop) }
+        ensures keeps { self.new ≡ record self.old { past = self.new.past; stopped = self.new.stopped } }
+    {
+        if let Some(stop) = self.stopped {
+            return Err(stop);
+        }
+        let in_flight = self.state.flight.len() as u64;
+        if nth >= in_flight {
+            return Ok(Delivered::NoSuch(in_flight));
+        }
+        match moving::deliver_there(&mut self.state, &mut self.ready, nth as usize) {
+            Ok(()) => Ok(Delivered::Done),
+            Err(stop) => {
+                self.stopped = Some(stop);
+                Err(stop)
+            }
+        }
+    }
+
+    /// A task makes its next step.
+    ///
+    /// Once it has come to an early end, the world answers that for ever and keeps its past.
+    pub fn step(&mut self, task: TaskId) -> Result<Stepped, Stop>
+        ensures stepped { IfOk result (λ stepped. AnswersStep self.old.cluster self.old.corpus self.old.script task self.old.past stepped self.new.past) }
+        ensures err { OnErr result (IsPartly (λ h new. Steps self.old.cluster self.old.corpus self.old.script task h new) self.old.past self.new.past) }
+        ensures stop { IfErr result (λ stop. self.new.stopped ≡ Some stop) }
+        ensures stopped { IfSome self.old.stopped (λ stop. (result ≡ Err stop) × (self.new.past ≡ self.old.past)) }
+        ensures cause { IfErr result (λ stop. self.old.stopped ≡ None → StopsStep self.old.past stop) }
+        ensures keeps { self.new ≡ record self.old { past = self.new.past; stopped = self.new.stopped } }
+    {
+        if let Some(stop) = self.stopped {
+            return Err(stop);
+        }
+        match moving::step_there(&mut self.state, &mut self.ready, task) {
+            Ok(stepped) => Ok(stepped),
+            Err(stop) => {
+                self.stopped = Some(stop);
+                Err(stop)
+            }
+        }
+    }
+
+    /// Makes first moves for as long as there are any: the oldest message is delivered, or where none is in flight the
+    /// lowest task that does not wait makes its step.
+    ///
+    /// Once it has come to an early end, the world answers that for ever and keeps its past.
+    pub fn settle(&mut self) -> Result<(), Stop>
+        ensures settled { OnOk result (Settles self.old.cluster self.old.corpus self.old.script self.old.past self.new.past) }
+        ensures err { OnErr result (PartlySettles self.old.cluster self.old.corpus self.old.script self.old.past self.new.past) }
+        ensures stop { IfErr result (λ stop. self.new.stopped ≡ Some stop) }
+        ensures stopped { IfSome self.old.stopped (λ stop. (result ≡ Err stop) × (self.new.past ≡ self.old.past)) }
+        ensures cause { IfErr result (λ stop. self.old.stopped ≡ None → StopsDelivery self.old.cluster self.new.past 0 stop) }
+        ensures keeps { self.new ≡ record self.old { past = self.new.past; stopped = self.new.stopped } }
+    {
+        if let Some(stop) = self.stopped {
+            return Err(stop);
+        }
+        match moving::settle(&mut self.state, &mut self.ready) {
+            Ok(()) => Ok(()),
+            Err(stop) => {
+                self.stopped = Some(stop);
+                Err(stop)
+            }
+        }
+    }
+}
