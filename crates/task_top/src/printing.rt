@@ -14,4 +14,3 @@ mod write;
 
 pub use idle::Idle;
 pub use lines::print_lines;
-
