@@ -4,6 +4,7 @@ pub mod Flights
 pub mod Moves
 pub mod Roots
 pub mod Runs
+pub mod Scripts
 pub mod Stored
 pub mod Ties
 pub mod World

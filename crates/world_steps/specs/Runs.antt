@@ -1,7 +1,5 @@
--- The run of a script: what each command appends to the past, and the closing drain.
+-- Steps, first moves, and settling: what they append to the past.
 use Rattle.std.specs.Prelude.{◌≡◌, ◌≢◌, ℕ, Bool, true, List, [], ◌∷◌, ◌⊎◌, Option, Some, None, false}
-use Rattle.std.specs.List.{list_any}
-use Rattle.std.specs.Str.{bytes_eq}
 use Rattle.task_ids.specs.declared.task_id.TaskId.{TaskId}
 use Rattle.task_ids.specs.declared.cluster.Cluster.{Cluster}
 use Rattle.task_ids.specs.declared.corpus.Corpus.{Corpus}
@@ -16,10 +14,6 @@ use Rattle.world_steps.specs.declared.acting.Stepped.{Stepped}
 use Rattle.world_steps.specs.declared.acting.Stepped.TheVariants.{Done, Waiting, NotRunning}
 use Rattle.world_steps.specs.Roots.{root_request}
 use Rattle.world_steps.specs.Moves.{Delivers}
-
--- some document is of this index
-abbrev pub is_known : Corpus → List ℕ → Bool
-is_known corpus index = list_any (λ line. bytes_eq index line.index) corpus.lines
 
 module _ (cluster : Cluster) (corpus : Corpus) (script : Script) where
   -- what a live task does next, and nothing where it waits

@@ -10,44 +10,21 @@ ghost use Rattle.world_steps.specs.Moves.{Delivers};
 ghost use Rattle.world_steps.specs.Ties.{IsTied, Keeps};
 
 use crate::append::append;
-use crate::flight::{Flight, Sent};
+use crate::flight::Flight;
 use crate::running::Running;
 use crate::state::State;
 use child_track::Receipt;
 use task_events::{Counts, Event, History, Reply, Stop};
 
-/// An answer that was in flight: its receipt, and the place in the history of the event that sent it.
-struct Arrived {
-    receipt: Receipt,
-    at: usize,
-}
-
-/// What an answer says.
-fn told_by(sent: Sent) -> Arrived
-    requires { is_answer_entry (Some sent) ≡ true }
-    ensures { sent ≡ Sent.Answer result.receipt result.at }
-{
-    match sent {
-        Sent::Answer { receipt, at } => Arrived { receipt, at },
-        Sent::Request {
-            token,
-            to: _,
-            at: _,
-        } => {
-            let _ = token.reject();
-            unreachable!()
-        }
-    }
-}
-
-/// Takes the answer of this place out of the messages in flight.
-fn take_answer(flight: &mut Flight, nth: usize) -> Arrived
+/// Takes the answer of this place out of the messages in flight: its receipt, and the place in the history of the event
+/// that sent it.
+fn take_answer(flight: &mut Flight, nth: usize) -> (Receipt, usize)
     requires { is_answer_entry (slice_get flight.old nth) ≡ true }
-    ensures taken { slice_get flight.old nth ≡ Some (Sent.Answer result.receipt result.at) }
+    ensures taken { slice_get flight.old nth ≡ Some (Sent.Answer result.0 result.1) }
     ensures rest { flight.new ≡ remove flight.old nth }
 {
     match flight.take(nth) {
-        Some(sent) => told_by(sent),
+        Some(sent) => sent.into_answer(),
         None => unreachable!(),
     }
 }
@@ -129,7 +106,7 @@ pub(crate) fn deliver_answer(state: &mut State<'_>, nth: usize) -> Result<(), St
     ensures numbers { result ≡ Err Stop.NumbersSpent → ⊥ }
     ensures room { OnOk result (length state.old.history < MAX_EVENTS) }
 {
-    let Arrived { receipt, at } = take_answer(&mut state.flight, nth);
+    let (receipt, at) = take_answer(&mut state.flight, nth);
     let Some(parent) = receipt.parent() else {
         unreachable!()
     };

@@ -26,12 +26,7 @@ fn end_in(table: &mut TaskTable, running: Running) -> Receipt
     ensures receipt { result ≡ sealed running.track running.ticket.token }
     ensures row { table.new ≡ without_task table.old running.ticket.id.number }
 {
-    let Running {
-        ticket,
-        track,
-        work: _work,
-        is_new: _,
-    } = running;
+    let (ticket, track) = running.into_parts();
     let ended = table.end(ticket, track);
     ended.receipt
 }

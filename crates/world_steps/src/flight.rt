@@ -1,7 +1,7 @@
 //! The messages in flight.
 
-ghost use Rattle.std.specs.Prelude.{◌≡◌, ◌∷◌, [], ◌++◌, ◌<◌, ◌↔◌, length, remove, slice_get, IsSome, IfSome, IfErr, OnOk, OnErr, OnSome, IfNone};
-ghost use Rattle.world_steps.specs.Flights.{is_request_entry};
+ghost use Rattle.std.specs.Prelude.{◌≡◌, true, Some, ◌∷◌, [], ◌++◌, ◌<◌, ◌↔◌, length, remove, slice_get, IsSome, IfSome, IfErr, OnOk, OnErr, OnSome, IfNone};
+ghost use Rattle.world_steps.specs.Flights.{is_request_entry, is_answer_entry};
 
 use child_track::{AskToken, Receipt};
 use std::alloc::{AllocFailed, Global};
@@ -17,9 +17,49 @@ pub(crate) enum Sent {
     Answer { receipt: Receipt, at: usize },
 }
 
+impl Sent {
+    /// The right to answer a request, its node, and the place in the history of its ask.
+    pub(crate) fn into_request(self) -> (AskToken, u32, usize)
+        requires { is_request_entry (Some self) ≡ true }
+        ensures { self ≡ Sent.Request result.0 result.1 result.2 }
+    {
+        match self {
+            Sent::Request { token, to, at } => (token, to, at),
+            Sent::Answer { .. } => unreachable!(),
+        }
+    }
+
+    /// The receipt of an answer, and the place in the history of the event that sent it.
+    pub(crate) fn into_answer(self) -> (Receipt, usize)
+        requires { is_answer_entry (Some self) ≡ true }
+        ensures { self ≡ Sent.Answer result.0 result.1 }
+    {
+        match self {
+            Sent::Answer { receipt, at } => (receipt, at),
+            Sent::Request { .. } => unreachable!(),
+        }
+    }
+}
+
+/// A message that is not delivered is given up.
+impl Drop for Sent {
+    fn drop(self) {
+        match self {
+            Sent::Request {
+                token,
+                to: _,
+                at: _,
+            } => {
+                let _receipt = token.reject();
+            }
+            Sent::Answer { receipt: _, at: _ } => {}
+        }
+    }
+}
+
 /// The messages in flight, in the order of their sending. Any of them can be taken out; near either end that costs
 /// no more than its distance from there.
-#[derive(Debug)]
+#[derive(Debug, Drop)]
 pub(crate) struct Flight {
     queue: VecDeque<Sent>,
 }

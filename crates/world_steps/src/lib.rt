@@ -5,6 +5,7 @@ mod acting;
 mod answers;
 mod append;
 mod asks;
+mod commands;
 mod ends;
 mod flight;
 mod moving;

@@ -22,8 +22,8 @@ fn take_request(flight: &mut Flight, nth: usize) -> (AskToken, u32, usize)
     ensures rest { flight.new ≡ remove flight.old nth }
 {
     match flight.take(nth) {
-        Some(Sent::Request { token, to, at }) => (token, to, at),
-        Some(Sent::Answer { .. }) | None => unreachable!(),
+        Some(sent) => sent.into_request(),
+        None => unreachable!(),
     }
 }
 

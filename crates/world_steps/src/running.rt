@@ -1,3 +1,5 @@
+ghost use Rattle.std.specs.Prelude.{◌≡◌};
+
 use child_track::ChildTrack;
 use task_table::Ticket;
 use task_work::Work;
@@ -9,4 +11,32 @@ pub(crate) struct Running {
     pub(crate) work: Work,
     /// It was put and has not passed.
     pub(crate) is_new: bool,
+}
+
+impl Running {
+    /// What the end of the task takes: its right to end, and what it has asked for.
+    pub(crate) fn into_parts(self) -> (Ticket, ChildTrack)
+        ensures { (result.0 ≡ self.ticket) × (result.1 ≡ self.track) }
+    {
+        let Running {
+            ticket,
+            track,
+            work: _work,
+            is_new: _,
+        } = self;
+        (ticket, track)
+    }
+}
+
+/// A task that is kept no more is given up: it makes no receipt.
+impl Drop for Running {
+    fn drop(self) {
+        let Running {
+            ticket,
+            track: _track,
+            work: _work,
+            is_new: _,
+        } = self;
+        ticket.give_up();
+    }
 }

@@ -110,17 +110,6 @@ pub(crate) fn with_work(
     }
 }
 
-/// Gives a task up that is kept no more. It makes no receipt.
-pub(crate) fn give_up(running: Running) {
-    let Running {
-        ticket,
-        track: _track,
-        work: _work,
-        is_new: _,
-    } = running;
-    ticket.give_up();
-}
-
 /// Keeps a new task, and then notes the event with which it starts.
 pub(crate) fn keep(
     history: &mut History,
@@ -138,12 +127,8 @@ pub(crate) fn keep(
 {
     let task = running.ticket.id();
     match tasks.insert(task, running) {
-        Ok(None) => (),
-        Ok(Some(replaced)) => give_up(replaced),
-        Err(failed) => {
-            give_up(failed.value.1);
-            return Err(Stop::Memory);
-        }
+        Ok(_) => (),
+        Err(_) => return Err(Stop::Memory),
     }
     append(history, event)
 }

@@ -9,6 +9,7 @@ use task_ids::{Cluster, Corpus, TaskId};
 use task_table::TaskTable;
 
 /// What the world knows: what has happened, and the tables that say of it what the next step needs.
+#[derive(Drop)]
 pub(crate) struct State<'a> {
     pub(crate) alloc: Global,
     pub(crate) cluster: Cluster,

@@ -1,11 +1,16 @@
-ghost use Rattle.std.specs.Prelude.{◌≡◌, ◌≤◌, [], length, Ok, Err, Some, None, OnOk, OnErr, IfOk, IfErr, IfSome, ℕ};
+ghost use Rattle.std.specs.Prelude.{◌≡◌, ◌≤◌, ◌+◌, [], length, Ok, Err, Some, None, OnOk, OnErr, IfOk, IfErr, IfSome, ℕ};
 ghost use Rattle.task_events.specs.Lawful.{Lawful};
+ghost use Rattle.task_events.specs.Cancels.{last_command};
+ghost use Rattle.task_events.specs.Laws.{IsDrained};
 ghost use Rattle.task_events.specs.Messages.{in_flight};
+ghost use Rattle.task_events.specs.Tasks.{is_live};
 ghost use Rattle.world_steps.specs.Moves.{Delivers, StopsDelivery, StopsStep};
 ghost use Rattle.world_steps.specs.Runs.{Steps, AnswersStep, Settles, PartlySettles};
+ghost use Rattle.world_steps.specs.Scripts.{CanRun, Commands, PartlyCommands, Drains, PartlyDrains, IsTurn, closing, StopsRun};
 ghost use Rattle.world_steps.specs.World.{IsPartly, tables_from};
 
 use crate::acting::Stepped;
+use crate::commands;
 use crate::flight::Flight;
 use crate::moving;
 use crate::shards::Shards;
@@ -19,6 +24,7 @@ use task_ids::{Cluster, Corpus, TaskId};
 use task_table::TaskTable;
 
 /// The serial world: a cluster of nodes that runs a script, one event at a time.
+#[derive(Drop)]
 pub struct World<'a> {
     state: State<'a>,
     /// The live tasks that do not wait.
@@ -71,6 +77,7 @@ impl<'a> World<'a> {
         corpus: &'a Corpus,
         script: &'a Script,
     ) -> Result<World<'a>, AllocError>
+        requires { CanRun cluster.now.nodes script.now.commands }
         ensures { IfOk result (λ world. world ≡ record { cluster = cluster; corpus = corpus.now; script = script.now; past = []; stopped = None }) }
     {
         let shards = Shards::new(alloc, corpus, cluster.shards)?;
@@ -99,6 +106,89 @@ impl<'a> World<'a> {
         ensures lawful { Lawful self.now.cluster self.now.past }
     {
         &self.state.history
+    }
+
+    /// How many messages are in flight. The world has not come to an early end.
+    pub fn in_flight(&self) -> u64
+        requires { self.now.stopped ≡ None }
+        ensures { result ≡ length (in_flight self.now.past) }
+    {
+        self.state.flight.len() as u64
+    }
+
+    /// Whether a task is live. The world has not come to an early end.
+    pub fn is_live(&self, task: TaskId) -> bool
+        requires { self.now.stopped ≡ None }
+        ensures { result ≡ is_live task self.now.past }
+    {
+        self.state.tasks.get(&task).is_some()
+    }
+
+    /// Gives the history away. What is live or in flight is given up.
+    pub fn finish(self) -> History
+        ensures past { result ≡ self.past }
+        ensures lawful { Lawful self.cluster self.past }
+    {
+        self.state.history
+    }
+
+    /// Begins a command of the script, the next in order, and does what it says. Commands are numbered from 1.
+    ///
+    /// A search starts at its node, or is rejected there, where its body has no fault and some document is of its index;
+    /// a `deliver`, a `step` and a `settle` make their moves where there are such; `history` makes none.
+    ///
+    /// Once it has come to an early end, the world answers that for ever and keeps its past, which is that of a first part
+    /// of the command.
+    pub fn command(&mut self, k: u32) -> Result<(), Stop>
+        requires next { last_command self.old.past + 1 ≡ k }
+        requires there { k ≤ length self.old.script.commands }
+        ensures done { OnOk result (Commands self.old.cluster self.old.corpus self.old.script k self.old.past self.new.past) }
+        ensures turn { OnOk result (IsTurn k self.old.past self.new.past) }
+        ensures number { OnOk result (last_command self.new.past ≡ k) }
+        ensures goes_on { OnOk result (self.new.stopped ≡ None) }
+        ensures err { OnErr result (PartlyCommands self.old.cluster self.old.corpus self.old.script k self.old.past self.new.past) }
+        ensures stop { IfErr result (λ stop. self.new.stopped ≡ Some stop) }
+        ensures stopped { IfSome self.old.stopped (λ stop. (result ≡ Err stop) × (self.new.past ≡ self.old.past)) }
+        ensures cause { IfErr result (λ stop. self.old.stopped ≡ None → StopsRun self.old.cluster self.new.past stop) }
+        ensures keeps { self.new ≡ record self.old { past = self.new.past; stopped = self.new.stopped } }
+    {
+        if let Some(stop) = self.stopped {
+            return Err(stop);
+        }
+        match commands::command(&mut self.state, &mut self.ready, k) {
+            Ok(()) => Ok(()),
+            Err(stop) => {
+                self.stopped = Some(stop);
+                Err(stop)
+            }
+        }
+    }
+
+    /// Settles once all commands have begun, which is the last that happens. Nothing is live or in flight after that.
+    ///
+    /// Once it has come to an early end, the world answers that for ever and keeps its past.
+    pub fn drain(&mut self) -> Result<(), Stop>
+        requires last { last_command self.old.past ≡ length self.old.script.commands }
+        requires few { length self.old.script.commands ≤ 65535 }
+        ensures drained { OnOk result (Drains self.old.cluster self.old.corpus self.old.script self.old.past self.new.past) }
+        ensures over { OnOk result (IsDrained self.new.past) }
+        ensures turn { OnOk result (IsTurn (closing self.old.script) self.old.past self.new.past) }
+        ensures err { OnErr result (PartlyDrains self.old.cluster self.old.corpus self.old.script self.old.past self.new.past) }
+        ensures stop { IfErr result (λ stop. self.new.stopped ≡ Some stop) }
+        ensures stopped { IfSome self.old.stopped (λ stop. (result ≡ Err stop) × (self.new.past ≡ self.old.past)) }
+        ensures cause { IfErr result (λ stop. self.old.stopped ≡ None → StopsRun self.old.cluster self.new.past stop) }
+        ensures keeps { self.new ≡ record self.old { past = self.new.past; stopped = self.new.stopped } }
+    {
+        if let Some(stop) = self.stopped {
+            return Err(stop);
+        }
+        match commands::drain(&mut self.state, &mut self.ready) {
+            Ok(()) => Ok(()),
+            Err(stop) => {
+                self.stopped = Some(stop);
+                Err(stop)
+            }
+        }
     }
 
     /// Delivers the message of this place among those in flight, from 0.

@@ -1,0 +1,115 @@
+-- The run of a script: command by command, and then the closing drain.
+use Rattle.std.specs.Prelude.{◌≡◌, ℕ, zero, suc, ◌+◌, ◌≤◌, Bool, true, false, ◌&&◌, List, [], ◌∷◌, ◌++◌, ◌⊎◌, length, slice_get, is_some, Some, ⊤}
+use Rattle.std.specs.List.{list_any}
+use Rattle.serde_json.specs.Data.{Data}
+use Rattle.query_parse.specs.Bodies.{body_at}
+use Rattle.task_ids.specs.declared.cluster.Cluster.{Cluster}
+use Rattle.task_ids.specs.declared.corpus.Corpus.{Corpus}
+use Rattle.task_events.specs.declared.event.Event.{Event}
+use Rattle.task_events.specs.declared.event.Event.TheVariants.{Begin}
+use Rattle.task_events.specs.declared.history.TheConstants.{MAX_EVENTS}
+use Rattle.task_events.specs.declared.stop.Stop.{Stop}
+use Rattle.task_events.specs.declared.stop.Stop.TheVariants.{HistoryFull, NumbersSpent, Memory}
+use Rattle.task_events.specs.Messages.{in_flight}
+use Rattle.task_events.specs.Turns.{is_begin}
+use Rattle.script_lang.specs.declared.command.Command.{Command}
+use Rattle.script_lang.specs.declared.command.Command.TheVariants.{Search, Cancel, Deliver, Step, ListStep, Settle, History}
+use Rattle.script_lang.specs.declared.command.Script.{Script}
+use Rattle.world_steps.specs.declared.acting.Stepped.{Stepped}
+use Rattle.world_steps.specs.Moves.{Delivers, Starts, NodeLacksNumber}
+use Rattle.world_steps.specs.Roots.{body_or_none, command_at}
+use Rattle.world_steps.specs.Stored.{has_index}
+use Rattle.world_steps.specs.Runs.{AnswersStep, Settles, PartlySettles}
+
+-- A command has begun, and some events came since, with none of which another began.
+abbrev pub IsTurn : ℕ → List Event → List Event → Type 0
+IsTurn k h new = (events : List Event) × (new ≡ events ++ Begin k ∷ h) × (list_any is_begin events ≡ false)
+
+-- ---- the scripts that run
+
+-- a command that the world can do: a search starts on a node of the cluster; cancels and listings are not built yet
+abbrev pub CanDo : ℕ → Command → Type 0
+CanDo nodes (Search index node body) = (1 ≤ node) × (node ≤ nodes)
+CanDo nodes (Cancel target reason wait) = ⊥
+CanDo nodes (Deliver nth) = ⊤
+CanDo nodes (Step task) = ⊤
+CanDo nodes (ListStep node parent) = ⊥
+CanDo nodes Settle = ⊤
+CanDo nodes History = ⊤
+
+-- the world can do each command
+abbrev pub CanRun : ℕ → List Command → Type 0
+CanRun nodes [] = ⊤
+CanRun nodes (command ∷ more) = CanDo nodes command × CanRun nodes more
+
+-- the number with which the closing drain begins
+abbrev pub closing : Script → ℕ
+closing script = length script.commands + 1
+
+module _ (cluster : Cluster) (corpus : Corpus) (script : Script) where
+  -- ---- one command
+
+  -- the body of a search has no fault, and some document is of its index
+  abbrev pub can_start : List ℕ → Data → Bool
+  can_start index body = is_some (body_or_none (body_at false 0 body)) && has_index corpus.lines index
+
+  -- a search that can start comes to its node; else nothing happens
+  abbrev pub StartsWhere : Bool → ℕ → ℕ → List Event → List Event → Type 0
+  StartsWhere true k node h new = (started : Bool) × Starts cluster h k node started new
+  StartsWhere false k node h new = new ≡ h
+
+  -- the message of this place is delivered; where there is none, nothing happens
+  abbrev pub DeliversWhere : ℕ → List Event → List Event → Type 0
+  DeliversWhere nth h new = Delivers cluster h nth new ⊎ ((length (in_flight h) ≤ nth) × (new ≡ h))
+
+  -- what a command with this number appends after its beginning
+  abbrev pub Does : ℕ → Command → List Event → List Event → Type 0
+  Does k (Search index node body) h new = StartsWhere (can_start index body) k node h new
+  Does k (Cancel target reason wait) h new = ⊥
+  Does k (Deliver nth) h new = DeliversWhere nth h new
+  Does k (Step task) h new = (stepped : Stepped) × AnswersStep cluster corpus script task h stepped new
+  Does k (ListStep node parent) h new = ⊥
+  Does k Settle h new = Settles cluster corpus script h new
+  Does k History h new = new ≡ h
+
+  -- a first part of that
+  abbrev pub PartlyDoes : ℕ → Command → List Event → List Event → Type 0
+  PartlyDoes k Settle h new = PartlySettles cluster corpus script h new
+  PartlyDoes k command h new = (new ≡ h) ⊎ Does k command h new
+
+  -- the past after the command of this number, and after a first part of it
+  abbrev pub Commands : ℕ → List Event → List Event → Type 0
+  Commands k h new = (command : Command) × (command_at script k ≡ Some command) × Does k command (Begin k ∷ h) new
+
+  abbrev pub PartlyCommands : ℕ → List Event → List Event → Type 0
+  PartlyCommands k h new = (new ≡ h) ⊎ ((command : Command) × (command_at script k ≡ Some command) × PartlyDoes k command (Begin k ∷ h) new)
+
+  -- ---- the whole run
+
+  -- the past after the closing drain, and after a first part of it
+  abbrev pub Drains : List Event → List Event → Type 0
+  Drains h new = Settles cluster corpus script (Begin (closing script) ∷ h) new
+
+  abbrev pub PartlyDrains : List Event → List Event → Type 0
+  PartlyDrains h new = (new ≡ h) ⊎ PartlySettles cluster corpus script (Begin (closing script) ∷ h) new
+
+  -- the past after the first commands, so many
+  abbrev pub HasRun : ℕ → List Event → Type 0
+  HasRun zero h = h ≡ []
+  HasRun (suc n) h = (before : List Event) × HasRun n before × Commands (suc n) before h
+
+  -- The run of the script: all its commands, and the closing drain.
+  abbrev pub IsRun : List Event → Type 0
+  IsRun h = (before : List Event) × HasRun (length script.commands) before × Drains before h
+
+  -- a first part of the run: some commands and a part of the next, or all commands and a part of the closing drain
+  abbrev pub IsRunSoFar : List Event → Type 0
+  IsRunSoFar h =
+      ((n : ℕ) × (before : List Event) × HasRun n before × PartlyCommands (suc n) before h)
+      ⊎ ((before : List Event) × HasRun (length script.commands) before × PartlyDrains before h)
+
+-- Why a run comes to an early end: one more event does not fit, or a node with a free slot has no number left, or memory ran out.
+abbrev pub StopsRun : Cluster → List Event → Stop → Type 0
+StopsRun cluster h HistoryFull = length h ≡ MAX_EVENTS
+StopsRun cluster h NumbersSpent = (node : ℕ) × NodeLacksNumber cluster h node
+StopsRun cluster h Memory = ⊤
