@@ -9,10 +9,10 @@ pub mod LastLemmas
 pub mod LawfulRun
 pub mod LineLemmas
 pub mod LinesLemmas
+pub mod OptionLemmas
 pub mod PrintLemmas
 pub mod ReadingLaws
 pub mod RunLemmas
 pub mod TopLemmas
 pub mod TurnLemmas
 pub mod WholeLemmas
-pub mod WordLemmas

@@ -7,6 +7,7 @@ pub mod Kept
 pub mod Lines
 pub mod Looked
 pub mod Parts
+pub mod Options
 pub mod Plan
 pub mod Search
 pub mod Status

@@ -1,18 +1,22 @@
--- The command lines that are accepted so far.
-use Rattle.std.specs.Prelude.{◌≡◌, ℕ, List, [], ◌∷◌, codes}
+-- The command lines that are accepted.
+use Rattle.std.specs.Prelude.{◌≡◌, ℕ, List, [], ◌∷◌, codes, if◌then◌else◌, Option, None}
+use Rattle.std.specs.Str.{bytes_eq}
 use Rattle.task_ids.specs.declared.cluster.Cluster.{Cluster}
 use Rattle.task_top.specs.declared.plans.Plan.{Plan}
 use Rattle.task_top.specs.declared.plans.Plan.TheVariants.{Sim}
+use Rattle.task_top.specs.Options.{Size, size_of, size_asked}
 
--- `sim --nodes 1 --shards 1`
-abbrev pub small_sim_words : List (List ℕ)
-small_sim_words = codes "sim" ∷ codes "--nodes" ∷ codes "1" ∷ codes "--shards" ∷ codes "1" ∷ []
+-- the size of the cluster that a plan is for
+abbrev pub plan_size : Plan → Size
+plan_size (Sim cluster) = size_of cluster
+
+-- the size that a call of `sim` asks for: the word, and options after it
+abbrev pub sim_of : List (List ℕ) → Option Size
+sim_of [] = None
+sim_of (command ∷ options) = if bytes_eq command (codes "sim") then size_asked options else None
 
 -- one node, one shard an index, and the default of 256 slots a node
 pub record IsSmall (cluster : Cluster) : Type 0 where
   pub nodes : cluster.nodes ≡ 1
   pub shards : cluster.shards ≡ 1
   pub slots : cluster.slots ≡ 256
-
-abbrev pub IsSmallSim : Plan → Type 0
-IsSmallSim (Sim cluster) = IsSmall cluster

@@ -7,6 +7,7 @@ mod json_line;
 mod kept;
 mod laws;
 mod lines;
+mod options;
 mod plans;
 mod print;
 pub mod printing;

@@ -1,6 +1,7 @@
 ghost use Rattle.std.specs.Prelude.{◌<◌};
 
 mod hostile;
+mod words;
 
 use crate::{Kept, Status, sim_top};
 use es_io::{MemSink, MemSource};

@@ -1,5 +1,5 @@
 use super::{bytes_of, sim, sim_text, with_source};
-use crate::{Plan, Status, plan};
+use crate::Status;
 use std::alloc::Global;
 use std::test::Fail;
 use task_ids::Cause;
@@ -96,30 +96,6 @@ fn shows_each_status(rt: HostRuntime) -> Result<(), Fail> {
     ] {
         assert_eq!(rt; status.exit_code(), code, "at {text}");
         assert_eq!(rt; status.to_string(rt.alloc())?.as_str(), text);
-    }
-    Ok(())
-}
-
-#[test]
-fn plans_the_five_words_alone(rt: HostRuntime) -> Result<(), Fail> {
-    for (line, is_planned) in [
-        ("sim --nodes 1 --shards 1", true),
-        ("sim --nodes 1 --shards 2", false),
-        ("sim --shards 1 --nodes 1", false),
-        ("run --nodes 1 --shards 1", false),
-        ("sim --nodes 1 --shards 1 --slots", false),
-        ("sim", false),
-    ] {
-        let mut words = Vec::new(rt.alloc());
-        for word in line.split(' ') {
-            words.push(String::from_str(rt.alloc(), word)?)?;
-        }
-        let planned = plan(words.as_slice());
-        assert_eq!(rt;
-            matches!(planned, Ok(Plan::Sim(_))),
-            is_planned,
-            "at {line}"
-        );
     }
     Ok(())
 }
