@@ -1,15 +1,10 @@
 -- The lines that are printed: one JSON object a command, compact, its keys in byte order, and a newline.
-use Rattle.std.specs.Prelude.{ℕ, ◌-◌, List, [], ◌∷◌, ◌++◌, Option, Some, None, length, map, codes}
+use Rattle.std.specs.Prelude.{ℕ, ◌-◌, List, [], ◌∷◌, ◌++◌, length, map, codes}
 use Rattle.serde_json.specs.Data.{Data, number, unsigned, string, array, object, Members, no_members, member}
 use Rattle.serde_json.specs.View.{items_of}
 use Rattle.serde_json.specs.Written.{compact_text}
-use Rattle.task_events.specs.declared.event.Event.{Event}
 use Rattle.task_events.specs.declared.reply.Hit.{Hit}
-use Rattle.task_events.specs.declared.reply.Reply.{Reply}
-use Rattle.task_events.specs.declared.reply.Reply.TheVariants.{Search}
-use Rattle.task_events.specs.declared.request.SearchAsk.{SearchAsk}
 use Rattle.task_events.specs.declared.reply.SearchReply.{SearchReply}
-use Rattle.task_events.specs.Replies.{reply_to}
 
 abbrev members : List (List ℕ × Data) → Members
 members [] = no_members
@@ -42,13 +37,3 @@ search_json shards reply = object_of ((codes "_shards", shards_json shards (leng
 -- the line of a command that was answered
 abbrev pub reply_line : ℕ → Data → List ℕ
 reply_line command reply = compact_text (object_of ((codes "command", count command) ∷ (codes "reply", reply) ∷ [])) ++ 10 ∷ []
-
--- The line of a search, where an index has so many shards. So far a search's root can only end with its answer.
-abbrev pub search_line : ℕ → ℕ → Option Reply → List ℕ
-search_line shards command (Some (Search reply)) = reply_line command (search_json shards reply)
-search_line shards command _ = []
-
--- the lines of a script of at most one search, after a history
-abbrev pub printed : ℕ → Option SearchAsk → List Event → List ℕ
-printed shards None history = []
-printed shards (Some ask) history = search_line shards 1 (reply_to 1 history)
