@@ -1,11 +1,11 @@
 -- The tables fit the past after an answer has come, where they are changed as it says.
 use Rattle.std.proofs.Common.{◌≡◌, ◌≤◌, ◌<◌, ℕ, zero, suc, ◌+◌, ◌-◌, Bool, true, false, cond, List, [], ◌∷◌, length, map, take, get_or, Option, Some, None, refl, sym, ap, subst, ◌∙◌, arith}
-use Rattle.std.specs.Prelude.{◌==◌, ◌&&◌, is_some, IsSome, not, nat_lt, find, zip, slice_get, slice_set, remove, option_map, option_and_then}
-use Rattle.std.specs.List.{list_all, range_with_len}
+use Rattle.std.specs.Prelude.{◌==◌, ◌&&◌, is_some, IsSome, not, find, zip, slice_get, slice_set, remove, option_map, option_and_then}
+use Rattle.std.specs.List.{range_with_len}
 use Rattle.std.specs.Option.{option_map_or}
 use Rattle.std.proofs.lemmas.Bool.{eqb-true, eq-eqb}
 use Rattle.std.proofs.lemmas.Bool.Decides.{nat_tests}
-use Rattle.std.proofs.lemmas.List.{length-map, length-take}
+use Rattle.std.proofs.lemmas.List.{length-map}
 use Rattle.std.proofs.lemmas.Option.{slice_get_within}
 use Rattle.task_ids.specs.declared.task_id.TaskId.{TaskId}
 use Rattle.task_ids.specs.declared.cluster.Cluster.{Cluster}
@@ -38,7 +38,7 @@ use Rattle.task_laws.proofs.Bans.{ban_facts}
 use Rattle.task_laws.proofs.Once.{once_each}
 use Rattle.task_laws.proofs.Places.{at_place}
 use Rattle.task_laws.proofs.Content.{told}
-use Rattle.search_phase.specs.Searching.{Searching, IsSearching, AreRising, takes, answered_by, with_answer}
+use Rattle.search_phase.specs.Searching.{Searching, IsSearching, takes, answered_by, with_answer}
 use Rattle.search_phase.proofs.Answered.{IsAwaited, EachAnswer-answer, request_stays}
 use Rattle.search_phase.proofs.Lookups.{slice_get-take}
 use Rattle.task_work.specs.declared.work.Work.{Work}
@@ -60,23 +60,11 @@ use Rattle.world_steps.proofs.FactsAfter.{at_answered}
 use Rattle.world_steps.proofs.FlightAfter.{all_stay}
 use Rattle.world_steps.proofs.Kept.{kept_after}
 use Rattle.world_steps.proofs.Listed.{listed_same}
+use Rattle.world_steps.proofs.Numbered.{is_searching}
 use Rattle.world_steps.proofs.Requested.{awaited_at, awaited_counted, requested_at, requested_counted}
 use Rattle.world_steps.proofs.StepsAfter.{kept_running}
 
 -- ---- the asks of a search, which are numbered on from b
-
-later_numbers : (b n : ℕ) (asked : List Asked) → map (λ a. a.ask) asked ≡ range_with_len b (length asked) → n < b → list_all (λ a. nat_lt n a.ask) asked ≡ true
-later_numbers b n [] e l = refl
-later_numbers b n (a ∷ asked) e l =
-    let here : a.ask ≡ b = cc in
-    let low : nat_lt n a.ask ≡ true = grind (arith, nat_tests) in
-    rw low (later_numbers (b + 1) n asked (cc) (omega arith))
-
-rising : (b : ℕ) (asked : List Asked) → map (λ a. a.ask) asked ≡ range_with_len b (length asked) → AreRising asked
-rising b [] e = tt
-rising b (a ∷ asked) e =
-    let here : a.ask ≡ b = cc in
-    (later_numbers (b + 1) a.ask asked (cc) (omega arith), rising (b + 1) asked (cc))
 
 number_at : (b : ℕ) (asked : List Asked) (i : ℕ) (a : Asked) → map (λ a. a.ask) asked ≡ range_with_len b (length asked) → slice_get asked i ≡ Some a → a.ask ≡ b + i
 number_at b [] i a e g = absurd (cc)
@@ -204,15 +192,8 @@ module _ (cluster : Cluster) (corpus : Corpus) (t : TaskId) (ask : SearchAsk) (a
     no_answer : is_some the_ask.0.answer ≡ false
     no_answer = answered_at asked open_asks i the_ask.0 x.answered the_ask.1 unanswered
 
-    is_searching : IsSearching state
-    is_searching = record {
-      shards_in_range = cluster.shards_in_range;
-      numbers = rising 1 asked x.numbered;
-      in_order =
-          let e : length (take (length asked) (requests_of ask cluster.shards asked)) ≡ length asked = sym (ap length x.planned) ∙ x.as_many in
-          omega (arith, length-take (length asked) (requests_of ask cluster.shards asked));
-      possible = λ place a request reply at asks answered. (x.good place a request reply at asks answered).0;
-    }
+    searching : IsSearching state
+    searching = is_searching cluster corpus t ask asked requests open_asks x
 
     is_awaited : IsAwaited state (1 + i) r i the_ask.0
     is_awaited = record { at = the_ask.1; asks_for = in_plan; number = number_at 1 asked i the_ask.0 x.numbered the_ask.1; open_yet = no_answer }
@@ -231,11 +212,11 @@ module _ (cluster : Cluster) (corpus : Corpus) (t : TaskId) (ask : SearchAsk) (a
           numbered = same_numbers (1 + i) reply asked ∙ x.numbered ∙ ap (range_with_len 1) (sym as_long);
           planned =
               x.planned
-              ∙ take_alike (length asked) (requests_of ask cluster.shards asked) (requests_of ask cluster.shards later) (λ j l. sym (request_stays state (1 + i) reply r i the_ask.0 is_searching is_awaited j l))
+              ∙ take_alike (length asked) (requests_of ask cluster.shards asked) (requests_of ask cluster.shards later) (λ j l. sym (request_stays state (1 + i) reply r i the_ask.0 searching is_awaited j l))
               ∙ ap (λ n. take n (requests_of ask cluster.shards later)) (sym as_long);
           as_many = x.as_many ∙ sym as_long;
           answered = noted 1 reply asked open_asks i x.numbered x.answered;
-          good = EachAnswer-answer state (1 + i) reply r i the_ask.0 is_searching is_awaited (IsGoodReply cluster corpus) x.good good;
+          good = EachAnswer-answer state (1 + i) reply r i the_ask.0 searching is_awaited (IsGoodReply cluster corpus) x.good good;
         }
 
 -- the work is a search that waits for this
@@ -374,4 +355,5 @@ module _ (cluster : Cluster) (corpus : Corpus) (script : Script) (h : List Event
           listed = λ place. listed_same cluster (Answered t receipt.ask) h (λ m. refl) refl place _ (ties.listed place);
           sent = rw taken_away.1 (all_stay (Answered t receipt.ask) h (remove flight nth) (remove (in_flight h) nth) (pairs_left (message_of h) flight (in_flight h) nth ties.sent));
           good = rw taken_away.1 (all_left (IsGood cluster corpus h) (in_flight h) nth ties.good);
+          plain = ties.plain;
         }

@@ -273,6 +273,7 @@ module _ (cluster : Cluster) (corpus : Corpus) (script : Script) (h : List Event
           ∙ (λ i. all_stay (Ask t (last_ask t h + 1) n request) h flight (in_flight h) ties.sent i ++ newest i ∷ [])
           ∙ sym (map-append Some (in_flight h) (a_request t (last_ask t h + 1) n request ∷ []));
       good = all_push (IsGood cluster corpus (Ask t (last_ask t h + 1) n request ∷ h)) (in_flight h) (a_request t (last_ask t h + 1) n request) (good_on cluster corpus t (last_ask t h + 1) n request h ties.lawful (omega arith) (in_flight h) (told cluster h ties.lawful) ties.good) tt;
+      plain = ties.plain;
     }
       where
         newest : message_of (Ask t (last_ask t h + 1) n request ∷ h) (sent.Request token n (length h)) ≡ Some (a_request t (last_ask t h + 1) n request)

@@ -28,4 +28,5 @@ nothing_yet cluster corpus script tasks tables none are = record {
   listed = λ place. subst (λ ts. IsTableAt cluster place [] (slice_get ts place)) (sym are) (subst (λ p. IsTableAt cluster p [] (slice_get (tables_from 0 cluster.nodes cluster.slots) place)) (from_zero place) (table_at cluster 0 cluster.nodes place (from_zero cluster.nodes)));
   sent = refl;
   good = tt;
+  plain = tt;
 }

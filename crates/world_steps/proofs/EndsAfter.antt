@@ -47,6 +47,7 @@ use Rattle.world_steps.proofs.EndsListed.{end_listed, node_tells}
 use Rattle.world_steps.proofs.FactsAfter.{at_end}
 use Rattle.world_steps.proofs.FlightAfter.{all_stay, event_newest}
 use Rattle.world_steps.proofs.Kept.{kept_after}
+use Rattle.world_steps.proofs.PlainEnds.{replies_plainly}
 use Rattle.world_steps.proofs.Requested.{awaited_at, requested_at}
 use Rattle.world_steps.proofs.StepsAfter.{kept_running, is_kept}
 use Rattle.world_steps.proofs.TurnsAfter.{is_on}
@@ -161,8 +162,8 @@ module _ (cluster : Cluster) (corpus : Corpus) (script : Script) (h : List Event
       record {
         goes_on = record { live = live; passed = passed };
         answered = none_unanswered cluster t h ties.lawful all_come;
-        cancelled = plain.0 ∙ sym (ap (option_map (λ c. (t, c))) (unmarked h ties.calm t));
-        no_rejection = plain.1;
+        cancelled = untouched.0 ∙ sym (ap (option_map (λ c. (t, c))) (unmarked h ties.calm t));
+        no_rejection = untouched.1;
       },
       ties.lawful,
       no_mark_awaited h ties.calm,
@@ -175,10 +176,11 @@ module _ (cluster : Cluster) (corpus : Corpus) (script : Script) (h : List Event
         ∙ ap (λ ms. map Some (in_flight h) ++ ms) (answer_at h t reply (parent_of t h) (ask_of t h) r.track receipt (sealed_is ∙ ap (sealed r.track) runs.token))
         ∙ sym (map-append Some (in_flight h) (answer_from (parent_of t h) (ask_of t h) reply)) ∙ ap (map Some) (sym flight_after);
     good = subst (AllByRecursion (IsGood cluster corpus (End t reply ∷ h))) (sym flight_after) (all_good (parent_of t h) refl);
+    plain = (replies_plainly cluster corpus t _ _ _ _ _ r.work _ reply runs.works step, ties.plain);
   }
     where
-      plain : (cancellation_in reply ≡ None) × (is_rejection reply ≡ false)
-      plain = ends_plainly r.work (looked_at (record { corpus = corpus; shards = cluster.shards }) r.work) reply step
+      untouched : (cancellation_in reply ≡ None) × (is_rejection reply ≡ false)
+      untouched = ends_plainly r.work (looked_at (record { corpus = corpus; shards = cluster.shards }) r.work) reply step
 
   pub in_cluster : t.node ≤ cluster.nodes
   in_cluster = (reach_facts cluster h ties.lawful).live_in t live

@@ -37,7 +37,7 @@ work_ends : (b : Bool) (reply end : Reply) → work_or_end b reply ≡ Finish en
 work_ends true reply end e = cc
 work_ends false reply end e = absurd (cc)
 
-search_ends : (o : Option Request) (b : Bool) (reply end : Reply) → ask_or_end o b reply ≡ Finish end → (b ≡ true) × (end ≡ reply)
+pub search_ends : (o : Option Request) (b : Bool) (reply end : Reply) → ask_or_end o b reply ≡ Finish end → (b ≡ true) × (end ≡ reply)
 search_ends None true reply end e = (refl, cc)
 search_ends None false reply end e = absurd (cc)
 search_ends (Some r) b reply end e = absurd (cc)
@@ -84,7 +84,7 @@ module _ (cluster : Cluster) (corpus : Corpus) (few : AreFew corpus.lines cluste
   none_left (Some r) w writes end a e = absurd a
 
   query_good : (ask : ShardAsk) (v : ℕ) → v ≡ unwrap_or ask.version (length (written cluster corpus ask.index ask.shard)) → IsGoodReply cluster corpus (asks.Query ask) (Top (shard_top ask v (written cluster corpus ask.index ask.shard)))
-  query_good ask v e = (tops_possible ask v (written cluster corpus ask.index ask.shard) (version_asked ask.version v _ e) (few ask.index ask.shard), refl)
+  query_good ask v e = (tops_possible ask v (written cluster corpus ask.index ask.shard) (version_asked ask.version v _ e) (few ask.index ask.shard), refl, e)
 
   pub ends_well : (r : Request) (w : Work) (end : Reply) → IsPart r → WorksFor cluster corpus t asked requests awaited turns (Some r) w → next_of w (looked_at (stored_of cluster corpus) w) ≡ Finish end → IsGoodReply cluster corpus r end
   ends_well (asks.Search ask) w end p a e = absurd p
@@ -99,7 +99,7 @@ module _ (cluster : Cluster) (corpus : Corpus) (few : AreFew corpus.lines cluste
       let writes = looked_at (stored_of cluster corpus) (works.Fetch f hits) in
       let same : writes ≡ written cluster corpus ask.index ask.shard = ap (λ k. written cluster corpus k.index k.shard) a.ask_is in
       let hits_are : fetched f.ask writes ≡ fetched ask (written cluster corpus ask.index ask.shard) = ap (λ k. fetched k writes) a.ask_is ∙ ap (fetched ask) same in
-      subst (IsGoodReply cluster corpus (asks.Fetch ask)) (sym (work_ends _ _ end e ∙ ap Hits hits_are)) (hits_possible ask (written cluster corpus ask.index ask.shard), refl)
+      subst (IsGoodReply cluster corpus (asks.Fetch ask)) (sym (work_ends _ _ end e ∙ ap Hits hits_are)) (hits_possible ask (written cluster corpus ask.index ask.shard), refl, tt)
   ends_well r w end p a e = absurd a
 
   -- ---- what a live parent asks for

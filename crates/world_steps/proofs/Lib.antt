@@ -1,4 +1,5 @@
 pub mod Answered
+pub mod Answering
 pub mod AnswersAfter
 pub mod Arrivals
 pub mod AsksAfter
@@ -15,7 +16,9 @@ pub mod FirstReady
 pub mod FlightAfter
 pub mod Kept
 pub mod Listed
+pub mod Numbered
 pub mod Passing
+pub mod PlainEnds
 pub mod Plans
 pub mod PossibleHits
 pub mod PossibleTops

@@ -11,7 +11,6 @@ use Rattle.child_track.specs.Token.{Token}
 use Rattle.task_table.specs.Table.{Table}
 use Rattle.task_work.specs.Works.{IsWorkOn}
 use Rattle.script_lang.specs.declared.command.Script.{Script}
-use Rattle.search_phase.specs.Searching.{IsHonest}
 use Rattle.task_events.specs.declared.request.Request.{Request as Asked}
 use Rattle.task_events.specs.declared.request.Request.TheVariants as asks
 use Rattle.task_events.specs.declared.reply.Reply.TheVariants.{Rejected}
@@ -20,7 +19,6 @@ use Rattle.task_events.specs.declared.event.Event.TheVariants.{Put, Reject}
 use Rattle.task_events.specs.Same.{same_task}
 use Rattle.task_events.specs.Tasks.{live_on}
 use Rattle.task_events.specs.Asks.{request_of_ask}
-use Rattle.task_events.specs.Possible.{can_have}
 use Rattle.task_events.specs.Allowed.{TakesSlot}
 use Rattle.task_events.specs.Messages.{Message, in_flight}
 use Rattle.task_events.specs.Messages.Message.{Request, Answer}
@@ -31,7 +29,7 @@ use Rattle.world_steps.specs.Facts.{Facts, facts_of}
 use Rattle.world_steps.specs.Flights.{message_of, reply_in}
 use Rattle.world_steps.specs.Moves.{Delivers}
 use Rattle.world_steps.specs.Roots.{root_request}
-use Rattle.world_steps.specs.Ties.{Ties, IsGood, writes_for}
+use Rattle.world_steps.specs.Ties.{Ties, IsGood, IsGoodReply}
 use Rattle.world_steps.proofs.Arrivals.{Arrives}
 use Rattle.world_steps.proofs.Calm.{no_mark_awaited}
 use Rattle.world_steps.proofs.FactsAfter.{at_put}
@@ -44,10 +42,10 @@ use Rattle.world_steps.proofs.Tables.{IsPutOn, put_node, put_takes, put_listed}
 use Rattle.world_steps.proofs.Unborn.{blank, unborn}
 
 -- a rejection is an answer that each request can have
-good_rejection : (shards n : ℕ) (writes : ℕ → List Doc) (r : Asked) → (can_have shards r (Rejected n) ≡ true) × IsHonest writes r (Rejected n)
-good_rejection shards n writes (asks.Search ask) = (refl, tt)
-good_rejection shards n writes (asks.Query ask) = (refl, tt)
-good_rejection shards n writes (asks.Fetch ask) = (refl, tt)
+good_rejection : (cluster : Cluster) (corpus : Corpus) (n : ℕ) (r : Asked) → IsGoodReply cluster corpus r (Rejected n)
+good_rejection cluster corpus n (asks.Search ask) = (refl, tt, tt)
+good_rejection cluster corpus n (asks.Query ask) = (refl, tt, tt)
+good_rejection cluster corpus n (asks.Fetch ask) = (refl, tt, tt)
 
 -- the answer to a request that is rejected by an event at this place
 abbrev pub rejected : Token → ℕ → Sent
@@ -72,6 +70,7 @@ module _ (cluster : Cluster) (corpus : Corpus) (script : Script) (h : List Event
       listed = put_listed cluster h tables ties.listed to arrives.low arrives.high t task after put event (record { last = λ n. refl; live = refl });
       sent = all_stay event h (remove flight nth) (remove (in_flight h) nth) (pairs_left (message_of h) flight (in_flight h) nth ties.sent) ∙ ap (map Some) (sym arrives.taken);
       good = rw arrives.taken (all_left (IsGood cluster corpus h) (in_flight h) nth ties.good);
+      plain = ties.plain;
     }
       where
         event : Event
@@ -103,7 +102,8 @@ module _ (cluster : Cluster) (corpus : Corpus) (script : Script) (h : List Event
       listed = λ place. listed_same cluster event h (λ n. refl) refl place _ (ties.listed place);
       sent = map-append (message_of (event ∷ h)) (remove flight nth) (answer ∷ []) ∙ ap (λ ms. ms ++ message_of (event ∷ h) answer ∷ []) others ∙ ap (λ m. map Some (remove (in_flight h) nth) ++ m ∷ []) this
           ∙ sym (map-append Some (remove (in_flight h) nth) (said ∷ [])) ∙ ap (λ ms. map Some (ms ++ said ∷ [])) (sym arrives.taken);
-      good = rw arrives.taken (all_push (IsGood cluster corpus (event ∷ h)) (remove (in_flight h) nth) said (all_left (IsGood cluster corpus h) (in_flight h) nth ties.good) (λ r e. good_rejection cluster.shards to (writes_for cluster corpus r) r));
+      good = rw arrives.taken (all_push (IsGood cluster corpus (event ∷ h)) (remove (in_flight h) nth) said (all_left (IsGood cluster corpus h) (in_flight h) nth ties.good) (λ r e. good_rejection cluster corpus to r));
+      plain = ties.plain;
     }
       where
         event : Event

@@ -39,6 +39,7 @@ module _ (cluster : Cluster) (corpus : Corpus) (script : Script) (h : List Event
     listed = λ place. listed_same cluster (Begin command) h (λ n. refl) refl place _ (ties.listed place);
     sent = all_stay (Begin command) h flight _ ties.sent;
     good = ties.good;
+    plain = ties.plain;
   }
 
   module _ (node : ℕ) (begun : beginning h ≡ Some command) (low : 1 ≤ node) (high : node ≤ cluster.nodes) where
@@ -51,6 +52,7 @@ module _ (cluster : Cluster) (corpus : Corpus) (script : Script) (h : List Event
       listed = λ place. listed_same cluster (RootRejected command node) h (λ n. refl) refl place _ (ties.listed place);
       sent = all_stay (RootRejected command node) h flight _ ties.sent;
       good = ties.good;
+      plain = ties.plain;
     }
 
     -- the root takes a slot
@@ -74,6 +76,7 @@ module _ (cluster : Cluster) (corpus : Corpus) (script : Script) (h : List Event
         listed = put_listed cluster h tables ties.listed node low high t task after put (Root command t) (record { last = λ n. refl; live = refl });
         sent = all_stay (Root command t) h flight _ ties.sent;
         good = ties.good;
+        plain = ties.plain;
       }
         where
           facts : facts_of (root_request script) t (Root command t ∷ h) ≡ started None false request

@@ -40,6 +40,7 @@ module _ (cluster : Cluster) (corpus : Corpus) (script : Script) (h : List Event
     listed = λ place. listed_same cluster (Pass t) h (λ n. refl) refl place _ (ties.listed place);
     sent = all_stay (Pass t) h flight _ ties.sent;
     good = ties.good;
+    plain = ties.plain;
   }
     where
       passed : Runs cluster corpus t (facts_of (root_request script) t h) r → Runs cluster corpus t (record (facts_of (root_request script) t h) { new = false }) (record r { is_new = false })

@@ -109,6 +109,7 @@ module _ (cluster : Cluster) (corpus : Corpus) (script : Script) (h : List Event
     listed = λ place. listed_same cluster (worked t) h (λ n. refl) refl place _ (ties.listed place);
     sent = all_stay (worked t) h flight _ ties.sent;
     good = ties.good;
+    plain = ties.plain;
   }
     where
       further : Runs cluster corpus t (facts_of (root_request script) t h) r → Runs cluster corpus t (record (facts_of (root_request script) t h) { turns = 1 + turns_of t h }) (record r { work = w })

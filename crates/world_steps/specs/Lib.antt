@@ -2,6 +2,7 @@ pub mod Asking
 pub mod Facts
 pub mod Flights
 pub mod Moves
+pub mod Plain
 pub mod Roots
 pub mod Runs
 pub mod Scripts

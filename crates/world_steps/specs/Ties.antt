@@ -24,6 +24,7 @@ use Rattle.task_events.specs.declared.request.ShardAsk.{ShardAsk}
 use Rattle.task_events.specs.declared.request.FetchAsk.{FetchAsk}
 use Rattle.task_events.specs.declared.reply.ShardTop.{ShardTop}
 use Rattle.task_events.specs.declared.reply.Reply.{Reply}
+use Rattle.task_events.specs.declared.reply.Reply.TheVariants.{Top}
 use Rattle.task_events.specs.declared.reply.Hit.{Hit}
 use Rattle.task_events.specs.Documents.{writes_of}
 use Rattle.task_events.specs.declared.step.Asked.{Asked}
@@ -42,6 +43,7 @@ use Rattle.world_steps.specs.Roots.{root_request}
 use Rattle.world_steps.specs.declared.flight.Sent.{Sent}
 use Rattle.world_steps.specs.Facts.{Facts, facts_of, token_from, track_from}
 use Rattle.world_steps.specs.Flights.{message_of}
+use Rattle.world_steps.specs.Plain.{AnswersPlainly}
 
 -- the writes of a shard of an index
 abbrev pub written : Cluster → Corpus → List ℕ → ℕ → List Doc
@@ -73,9 +75,14 @@ writes_for cluster corpus (Search ask) shard = written cluster corpus ask.index 
 writes_for cluster corpus (Query ask) shard = written cluster corpus ask.index shard
 writes_for cluster corpus (Fetch ask) shard = written cluster corpus ask.index shard
 
--- a reply that a request can have, and that says what its shard's writes say
+-- a query is answered at the version that it names, or else at the newest of its shard
+abbrev pub IsCurrent : Cluster → Corpus → Request → Reply → Type 0
+IsCurrent cluster corpus (Query ask) (Top top) = top.version ≡ unwrap_or ask.version (length (written cluster corpus ask.index ask.shard))
+IsCurrent cluster corpus r reply = ⊤
+
+-- a reply that a request can have, and that says what its shard's writes say at the version that is due
 abbrev pub IsGoodReply : Cluster → Corpus → Request → Reply → Type 0
-IsGoodReply cluster corpus r reply = (can_have cluster.shards r reply ≡ true) × IsHonest (writes_for cluster corpus r) r reply
+IsGoodReply cluster corpus r reply = (can_have cluster.shards r reply ≡ true) × IsHonest (writes_for cluster corpus r) r reply × IsCurrent cluster corpus r reply
 
 -- A search has made the first of its requests, and knows the answers that have come. Its asks are numbered from 1.
 pub record SearchesFor (cluster : Cluster) (corpus : Corpus) (t : TaskId) (ask : SearchAsk) (asked : List Asked) (requests : List Request) (awaited : List (Option ℕ)) (s : Searching) : Type 0 where
@@ -144,6 +151,7 @@ pub record Ties (cluster : Cluster) (corpus : Corpus) (script : Script) (h : Lis
   pub listed : (place : ℕ) → IsTableAt cluster place h (slice_get tables place)
   pub sent : map (message_of h) flight ≡ map Some (in_flight h)
   pub good : AllByRecursion (IsGood cluster corpus h) (in_flight h)
+  pub plain : AnswersPlainly cluster corpus script h
 
 -- the kept task of an id
 abbrev pub task_at : BTreeMap TaskId Running → TaskId → Option Running

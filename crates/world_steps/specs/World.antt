@@ -18,6 +18,7 @@ use Rattle.world_steps.specs.declared.acting.Stepped.{Stepped}
 use Rattle.world_steps.specs.declared.acting.Stepped.TheVariants.{Done, Waiting, NotRunning}
 use Rattle.task_table.specs.Table.{Table, new_table}
 use Rattle.world_steps.specs.declared.state.State.{State}
+use Rattle.world_steps.specs.Plain.{AnswersPlainly}
 use Rattle.world_steps.specs.Runs.{next_of, PartlySettles}
 use Rattle.world_steps.specs.Scripts.{CanRun}
 use Rattle.world_steps.specs.Ties.{IsTied, HasShards, Keeps}
@@ -63,10 +64,15 @@ pub record GoesOn (s : State) (ready : BTreeSet TaskId) : Type 0 where
   pub ready_known : HasReady s ready
   pub can_run : CanRun s.cluster.nodes s.script.now.commands
 
+-- The past is lawful, and each search that has ended replied with the plain answer.
+pub record KeepsLaws (s : State) : Type 0 where
+  pub lawful : Lawful s.cluster s.history
+  pub plain : AnswersPlainly s.cluster s.corpus.now s.script.now s.history
+
 -- A world that came to an early end keeps its past.
 abbrev pub IsWorld : State → BTreeSet TaskId → Option Stop → Type 0
 IsWorld s ready None = GoesOn s ready
-IsWorld s ready (Some stop) = Lawful s.cluster s.history
+IsWorld s ready (Some stop) = KeepsLaws s
 
 -- The past is as it was, or the move happened.
 abbrev pub IsPartly : (List Event → List Event → Type 0) → List Event → List Event → Type 0

@@ -4,11 +4,10 @@ ghost use Rattle.std.specs.Prelude.{◌≡◌, ◌∷◌, ◌+◌, ◌≤◌, le
 ghost use Rattle.query_parse.specs.Bodies.{body_at};
 ghost use Rattle.task_events.specs.Cancels.{last_command, beginning};
 ghost use Rattle.task_events.specs.Laws.{IsDrained};
-ghost use Rattle.task_events.specs.Lawful.{Lawful};
 ghost use Rattle.world_steps.specs.Roots.{body_or_none, command_at, whole_ask};
 ghost use Rattle.world_steps.specs.Scripts.{CanDo, CanRun, can_start, StartsWhere, DeliversWhere, Does, PartlyDoes, Commands, PartlyCommands, Drains, PartlyDrains, StopsRun};
 ghost use Rattle.world_steps.specs.Ties.{IsTied, Keeps, HasShards};
-ghost use Rattle.world_steps.specs.World.{HasReady, IsPartly};
+ghost use Rattle.world_steps.specs.World.{HasReady, IsPartly, KeepsLaws};
 
 use crate::moving::{deliver_there, settle, step_there};
 use crate::ready::refresh;
@@ -71,7 +70,7 @@ fn search(
     ensures known { OnOk result (HasReady state.new ready.new) }
     ensures keeps { Keeps state.old state.new }
     ensures err { OnErr result (IsPartly (StartsWhere state.old.cluster (can_start state.old.corpus.now index.now body.now) number node) state.old.history state.new.history) }
-    ensures lawful { Lawful state.new.cluster state.new.history }
+    ensures laws { KeepsLaws state.new }
     ensures stop { IfErr result (λ stop. StopsRun state.old.cluster state.new.history stop) }
 {
     let Some(body) = body_of(state.alloc, body)? else {
@@ -97,7 +96,7 @@ fn deliver(state: &mut State<'_>, ready: &mut BTreeSet<TaskId>, nth: u64) -> Res
     ensures known { OnOk result (HasReady state.new ready.new) }
     ensures keeps { Keeps state.old state.new }
     ensures err { OnErr result (IsPartly (DeliversWhere state.old.cluster nth) state.old.history state.new.history) }
-    ensures lawful { Lawful state.new.cluster state.new.history }
+    ensures laws { KeepsLaws state.new }
     ensures stop { IfErr result (λ stop. StopsRun state.old.cluster state.new.history stop) }
 {
     if nth >= state.flight.len() as u64 {
@@ -124,7 +123,7 @@ fn act_on(
     ensures known { OnOk result (HasReady state.new ready.new) }
     ensures keeps { Keeps state.old state.new }
     ensures err { OnErr result (PartlyDoes state.old.cluster state.old.corpus.now state.old.script.now number command.now state.old.history state.new.history) }
-    ensures lawful { Lawful state.new.cluster state.new.history }
+    ensures laws { KeepsLaws state.new }
     ensures stop { IfErr result (λ stop. StopsRun state.old.cluster state.new.history stop) }
 {
     match command {
@@ -150,7 +149,7 @@ fn begin_there(state: &mut State<'_>, ready: &mut BTreeSet<TaskId>, number: u32)
     ensures known { OnOk result (HasReady state.new ready.new) }
     ensures keeps { Keeps state.old state.new }
     ensures err { OnErr result (IsPartly (λ h new. new ≡ Event.Begin number ∷ h) state.old.history state.new.history) }
-    ensures lawful { Lawful state.new.cluster state.new.history }
+    ensures laws { KeepsLaws state.new }
     ensures stop { IfErr result (λ stop. StopsRun state.old.cluster state.new.history stop) }
 {
     begin(state, number)?;
@@ -174,7 +173,7 @@ pub(crate) fn command(
     ensures known { OnOk result (HasReady state.new ready.new) }
     ensures keeps { Keeps state.old state.new }
     ensures err { OnErr result (PartlyCommands state.old.cluster state.old.corpus.now state.old.script.now k state.old.history state.new.history) }
-    ensures lawful { Lawful state.new.cluster state.new.history }
+    ensures laws { KeepsLaws state.new }
     ensures stop { IfErr result (λ stop. StopsRun state.old.cluster state.new.history stop) }
 {
     match begin_there(state, ready, k) {
@@ -204,7 +203,7 @@ pub(crate) fn drain(state: &mut State<'_>, ready: &mut BTreeSet<TaskId>) -> Resu
     ensures known { OnOk result (HasReady state.new ready.new) }
     ensures keeps { Keeps state.old state.new }
     ensures err { OnErr result (PartlyDrains state.old.cluster state.old.corpus.now state.old.script.now state.old.history state.new.history) }
-    ensures lawful { Lawful state.new.cluster state.new.history }
+    ensures laws { KeepsLaws state.new }
     ensures stop { IfErr result (λ stop. StopsRun state.old.cluster state.new.history stop) }
 {
     let closing = state.script.commands.as_slice().len() as u32 + 1;

@@ -2,11 +2,10 @@
 
 ghost use Rattle.std.specs.Prelude.{◌≡◌, ◌<◌, length, true, false, Ok, OnOk, OnErr, IfOk, IfErr};
 ghost use Rattle.task_events.specs.declared.history.TheConstants.{MAX_EVENTS};
-ghost use Rattle.task_events.specs.Lawful.{Lawful};
 ghost use Rattle.world_steps.specs.Moves.{Delivers, StopsDelivery, StopsStep};
 ghost use Rattle.world_steps.specs.Runs.{Steps, AnswersStep, FirstMoves, IsSettled, Settles, PartlySettles};
 ghost use Rattle.world_steps.specs.Ties.{IsTied, Keeps, HasShards};
-ghost use Rattle.world_steps.specs.World.{HasReady, HasRoom, IsPartly, IsWhole};
+ghost use Rattle.world_steps.specs.World.{HasReady, HasRoom, IsPartly, IsWhole, KeepsLaws};
 
 use crate::acting::{Stepped, act};
 use crate::answers::deliver_answer;
@@ -51,7 +50,7 @@ pub(crate) fn deliver_there(
     ensures keeps { Keeps state.old state.new }
     ensures err { OnErr result (IsPartly (λ h new. Delivers state.old.cluster h nth new) state.old.history state.new.history) }
     ensures whole { IfErr result (λ stop. IsWhole stop state.old.history state.new.history) }
-    ensures lawful { Lawful state.new.cluster state.new.history }
+    ensures laws { KeepsLaws state.new }
     ensures stop { IfErr result (λ stop. StopsDelivery state.old.cluster state.old.history nth stop) }
 {
     deliver_one(state, nth)?;
@@ -75,7 +74,7 @@ pub(crate) fn step_there(
     ensures keeps { Keeps state.old state.new }
     ensures err { OnErr result (IsPartly (λ h new. Steps state.old.cluster state.old.corpus.now state.old.script.now task h new) state.old.history state.new.history) }
     ensures whole { IfErr result (λ stop. IsWhole stop state.old.history state.new.history) }
-    ensures lawful { Lawful state.new.cluster state.new.history }
+    ensures laws { KeepsLaws state.new }
     ensures stop { IfErr result (λ stop. StopsStep state.old.history stop) }
 {
     let stepped = act(state, task)?;
@@ -99,7 +98,7 @@ pub(crate) fn move_first(state: &mut State<'_>, ready: &mut BTreeSet<TaskId>) ->
     ensures keeps { Keeps state.old state.new }
     ensures err { OnErr result (IsPartly (λ h new. FirstMoves state.old.cluster state.old.corpus.now state.old.script.now h new) state.old.history state.new.history) }
     ensures whole { IfErr result (λ stop. IsWhole stop state.old.history state.new.history) }
-    ensures lawful { Lawful state.new.cluster state.new.history }
+    ensures laws { KeepsLaws state.new }
     ensures stop { IfErr result (λ stop. StopsDelivery state.old.cluster state.old.history 0 stop) }
 {
     if state.flight.len() > 0 {
@@ -125,7 +124,7 @@ pub(crate) fn settle(state: &mut State<'_>, ready: &mut BTreeSet<TaskId>) -> Res
     ensures known { OnOk result (HasReady state.new ready.new) }
     ensures keeps { Keeps state.old state.new }
     ensures err { OnErr result (PartlySettles state.old.cluster state.old.corpus.now state.old.script.now state.old.history state.new.history) }
-    ensures lawful { Lawful state.new.cluster state.new.history }
+    ensures laws { KeepsLaws state.new }
     ensures stop { IfErr result (λ stop. StopsDelivery state.old.cluster state.new.history 0 stop) }
 {
     loop {

@@ -5,6 +5,7 @@ ghost use Rattle.task_events.specs.Laws.{IsDrained};
 ghost use Rattle.task_events.specs.Messages.{in_flight};
 ghost use Rattle.task_events.specs.Tasks.{is_live};
 ghost use Rattle.world_steps.specs.Moves.{Delivers, StopsDelivery, StopsStep};
+ghost use Rattle.world_steps.specs.Plain.{AnswersPlainly};
 ghost use Rattle.world_steps.specs.Runs.{Steps, AnswersStep, Settles, PartlySettles};
 ghost use Rattle.world_steps.specs.Scripts.{CanRun, Commands, PartlyCommands, Drains, PartlyDrains, IsTurn, closing, StopsRun};
 ghost use Rattle.world_steps.specs.World.{IsPartly, tables_from};
@@ -103,6 +104,7 @@ impl<'a> World<'a> {
     pub fn history(&self) -> &History
         ensures past { result.now ≡ self.now.past }
         ensures lawful { Lawful self.now.cluster self.now.past }
+        ensures plain { AnswersPlainly self.now.cluster self.now.corpus self.now.script self.now.past }
     {
         &self.state.history
     }
@@ -127,6 +129,7 @@ impl<'a> World<'a> {
     pub fn finish(self) -> History
         ensures past { result ≡ self.entry.past }
         ensures lawful { Lawful self.entry.cluster self.entry.past }
+        ensures plain { AnswersPlainly self.entry.cluster self.entry.corpus self.entry.script self.entry.past }
     {
         self.state.history
     }
