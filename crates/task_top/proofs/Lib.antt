@@ -1,7 +1,9 @@
 pub mod EndLemmas
 pub mod FoundLemmas
 pub mod KnownLemmas
+pub mod NumberLemmas
 pub mod PrintLemmas
+pub mod ReadingLaws
 pub mod TurnLemmas
 pub mod WholeLemmas
 pub mod WordLemmas

@@ -37,4 +37,4 @@ pub record EndsEarly (cluster : Cluster) (corpus : Corpus) (script : Script) (pa
 pub record EndsWhole (cluster : Cluster) (corpus : Corpus) (script : Script) (past : List Event) (found : List (Option Idle)) : Type 0 where
   pub ran : IsRun cluster corpus script past
   pub drained : IsDrained past
-  pub found : IsFound script.commands past found
+  pub tells : IsFound script.commands past found
