@@ -3,6 +3,7 @@ pub mod FoundLemmas
 pub mod KnownLemmas
 pub mod NumberLemmas
 pub mod PrintLemmas
+pub mod ProgressLemmas
 pub mod ReadingLaws
 pub mod TurnLemmas
 pub mod WholeLemmas

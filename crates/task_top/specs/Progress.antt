@@ -26,7 +26,7 @@ pub record HasCome (script : Script) (n : ℕ) (found : List (Option Idle)) (wor
   pub begun_so_many : begun world.past ≡ n
   pub last : last_command world.past ≡ n
   pub noted : length found ≡ n
-  pub notes : NotesAll world.script.commands world.past n found
+  pub notes : NotesAll script.commands world.past n found
 
 -- A run came to an early end with this past.
 pub record EndsEarly (cluster : Cluster) (corpus : Corpus) (script : Script) (past : List Event) (stop : Stop) : Type 0 where
