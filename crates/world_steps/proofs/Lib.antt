@@ -5,6 +5,7 @@ pub mod AsksAfter
 pub mod ByPlace
 pub mod Calm
 pub mod Children
+pub mod Commanded
 pub mod Empty
 pub mod EndsAfter
 pub mod EndsGood
@@ -21,11 +22,13 @@ pub mod PossibleTops
 pub mod Readiness
 pub mod Requested
 pub mod RequestsAfter
+pub mod Resting
 pub mod RootsAfter
 pub mod SameTies
 pub mod Started
 pub mod StepsAfter
 pub mod StoredShards
 pub mod Tables
+pub mod Turning
 pub mod TurnsAfter
 pub mod Unborn

@@ -1,5 +1,6 @@
 -- The tables fit the past after a step of a task, where they are changed as it says.
 use Rattle.std.proofs.Common.{◌≡◌, true, false, List, ◌∷◌, Option, Some, None, refl}
+use Rattle.std.specs.Prelude.{is_some}
 use Rattle.task_ids.specs.declared.task_id.TaskId.{TaskId}
 use Rattle.task_ids.specs.declared.cluster.Cluster.{Cluster}
 use Rattle.task_ids.specs.declared.corpus.Corpus.{Corpus}
@@ -50,3 +51,10 @@ module _ (cluster : Cluster) (corpus : Corpus) (script : Script) (h : List Event
 
   pub gone_of : (t : TaskId) → tasks t ≡ None → is_live t h ≡ false
   gone_of t e = rw e at (ties.kept t)
+
+  pub kept_where_live : (t : TaskId) → is_some (tasks t) ≡ is_live t h
+  kept_where_live t = by_kept (tasks t) refl
+    where
+      by_kept : (o : Option Running) → tasks t ≡ o → is_some (tasks t) ≡ is_live t h
+      by_kept None e = rw (e, gone_of t e) refl
+      by_kept (Some r) e = rw (e, (runs_of t r e).live) refl

@@ -46,27 +46,27 @@ CanRun nodes (command ∷ more) = CanDo nodes command × CanRun nodes more
 abbrev pub closing : Script → ℕ
 closing script = length script.commands + 1
 
+-- ---- one command
+
+-- the body of a search has no fault, and some document is of its index
+abbrev pub can_start : Corpus → List ℕ → Data → Bool
+can_start corpus index body = is_some (body_or_none (body_at false 0 body)) && has_index corpus.lines index
+
+-- a search that can start comes to its node; else nothing happens
+abbrev pub StartsWhere : Cluster → Bool → ℕ → ℕ → List Event → List Event → Type 0
+StartsWhere cluster true k node h new = (started : Bool) × Starts cluster h k node started new
+StartsWhere cluster false k node h new = new ≡ h
+
+-- the message of this place is delivered; where there is none, nothing happens
+abbrev pub DeliversWhere : Cluster → ℕ → List Event → List Event → Type 0
+DeliversWhere cluster nth h new = Delivers cluster h nth new ⊎ ((length (in_flight h) ≤ nth) × (new ≡ h))
+
 module _ (cluster : Cluster) (corpus : Corpus) (script : Script) where
-  -- ---- one command
-
-  -- the body of a search has no fault, and some document is of its index
-  abbrev pub can_start : List ℕ → Data → Bool
-  can_start index body = is_some (body_or_none (body_at false 0 body)) && has_index corpus.lines index
-
-  -- a search that can start comes to its node; else nothing happens
-  abbrev pub StartsWhere : Bool → ℕ → ℕ → List Event → List Event → Type 0
-  StartsWhere true k node h new = (started : Bool) × Starts cluster h k node started new
-  StartsWhere false k node h new = new ≡ h
-
-  -- the message of this place is delivered; where there is none, nothing happens
-  abbrev pub DeliversWhere : ℕ → List Event → List Event → Type 0
-  DeliversWhere nth h new = Delivers cluster h nth new ⊎ ((length (in_flight h) ≤ nth) × (new ≡ h))
-
   -- what a command with this number appends after its beginning
   abbrev pub Does : ℕ → Command → List Event → List Event → Type 0
-  Does k (Search index node body) h new = StartsWhere (can_start index body) k node h new
+  Does k (Search index node body) h new = StartsWhere cluster (can_start corpus index body) k node h new
   Does k (Cancel target reason wait) h new = ⊥
-  Does k (Deliver nth) h new = DeliversWhere nth h new
+  Does k (Deliver nth) h new = DeliversWhere cluster nth h new
   Does k (Step task) h new = (stepped : Stepped) × AnswersStep cluster corpus script task h stepped new
   Does k (ListStep node parent) h new = ⊥
   Does k Settle h new = Settles cluster corpus script h new

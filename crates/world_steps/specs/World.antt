@@ -19,6 +19,7 @@ use Rattle.world_steps.specs.declared.acting.Stepped.TheVariants.{Done, Waiting,
 use Rattle.task_table.specs.Table.{Table, new_table}
 use Rattle.world_steps.specs.declared.state.State.{State}
 use Rattle.world_steps.specs.Runs.{next_of, PartlySettles}
+use Rattle.world_steps.specs.Scripts.{CanRun}
 use Rattle.world_steps.specs.Ties.{IsTied, HasShards, Keeps}
 
 -- the cluster, the documents and the script, what has happened, and why it came to an early end
@@ -55,11 +56,12 @@ past_before (e ∷ h) = h
 abbrev pub HadReady : State → BTreeSet TaskId → Type 0
 HadReady s ready = (t : TaskId) → contains task_id_cmp ready t ≡ is_ready s.cluster s.corpus.now s.script.now (past_before s.history) t
 
--- Where the world goes on, its tables say of the past what they should, and it knows which tasks wait.
+-- Where the world goes on, its tables say of the past what they should, it knows which tasks wait, and it can do each command.
 pub record GoesOn (s : State) (ready : BTreeSet TaskId) : Type 0 where
   pub tied : IsTied s
   pub shards : HasShards s
   pub ready_known : HasReady s ready
+  pub can_run : CanRun s.cluster.nodes s.script.now.commands
 
 -- A world that came to an early end keeps its past.
 abbrev pub IsWorld : State → BTreeSet TaskId → Option Stop → Type 0

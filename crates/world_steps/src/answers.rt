@@ -5,6 +5,7 @@ ghost use Rattle.child_track.specs.Track.{Answers};
 ghost use Rattle.task_events.specs.declared.history.TheConstants.{MAX_EVENTS};
 ghost use Rattle.task_work.specs.Works.{work_takes};
 ghost use Rattle.world_steps.specs.Asking.{running_with_answer};
+ghost use Rattle.world_steps.specs.declared.flight.Sent.TheVariants.{Answer};
 ghost use Rattle.world_steps.specs.Flights.{event_at, reply_in, is_answer_entry};
 ghost use Rattle.world_steps.specs.Moves.{Delivers};
 ghost use Rattle.world_steps.specs.Ties.{IsTied, Keeps};
@@ -20,7 +21,7 @@ use task_events::{Counts, Event, History, Reply, Stop};
 /// that sent it.
 fn take_answer(flight: &mut Flight, nth: usize) -> (Receipt, usize)
     requires { is_answer_entry (slice_get flight.old nth) ≡ true }
-    ensures taken { slice_get flight.old nth ≡ Some (Sent.Answer result.0 result.1) }
+    ensures taken { slice_get flight.old nth ≡ Some (Answer result.0 result.1) }
     ensures rest { flight.new ≡ remove flight.old nth }
 {
     match flight.take(nth) {

@@ -1,38 +1,219 @@
 //! What commands do, and the closing drain.
 
-ghost use Rattle.std.specs.Prelude.{◌≡◌, OnOk, IfErr};
+ghost use Rattle.std.specs.Prelude.{◌≡◌, ◌∷◌, ◌+◌, ◌≤◌, length, false, Some, IfOk, OnOk, OnErr, IfErr};
+ghost use Rattle.query_parse.specs.Bodies.{body_at};
+ghost use Rattle.task_events.specs.Cancels.{last_command, beginning};
+ghost use Rattle.task_events.specs.Laws.{IsDrained};
 ghost use Rattle.task_events.specs.Lawful.{Lawful};
-ghost use Rattle.world_steps.specs.Ties.{IsTied, Keeps};
+ghost use Rattle.world_steps.specs.Roots.{body_or_none, command_at, whole_ask};
+ghost use Rattle.world_steps.specs.Scripts.{CanDo, CanRun, can_start, StartsWhere, DeliversWhere, Does, PartlyDoes, Commands, PartlyCommands, Drains, PartlyDrains, StopsRun};
+ghost use Rattle.world_steps.specs.Ties.{IsTied, Keeps, HasShards};
+ghost use Rattle.world_steps.specs.World.{HasReady, IsPartly};
 
+use crate::moving::{deliver_there, settle, step_there};
+use crate::ready::refresh;
+use crate::roots::{begin, start};
 use crate::state::State;
+use query_parse::{BodyError, SearchBody, read_body};
+use script_lang::Command;
+use std::alloc::Global;
 use std::collections::BTreeSet;
-use task_events::Stop;
-use task_ids::TaskId;
+use task_events::{Event, SearchAsk, Stop};
+use task_ids::{DocSource, TaskId, Text};
+
+/// The body of a search, unless it has a fault.
+fn body_of(alloc: Global, body: &DocSource) -> Result<Option<SearchBody>, Stop>
+    ensures body { IfOk result (λ found. found ≡ body_or_none (body_at false 0 body.now)) }
+    ensures memory { IfErr result (λ stop. stop ≡ Stop.Memory) }
+{
+    match read_body(alloc, body.as_value(), false, 0) {
+        Ok(body) => Ok(Some(body)),
+        Err(BodyError::Memory) => Err(Stop::Memory),
+        Err(_) => Ok(None),
+    }
+}
+
+/// The search of all documents of an index that match, which opens no context.
+fn whole_ask(index: &Text, body: SearchBody) -> Result<SearchAsk, Stop>
+    ensures ask { IfOk result (λ ask. ask ≡ whole_ask index.now body) }
+    ensures memory { IfErr result (λ stop. stop ≡ Stop.Memory) }
+{
+    let Ok(index) = index.copy() else {
+        return Err(Stop::Memory);
+    };
+    Ok(SearchAsk {
+        index,
+        body,
+        scroll: None,
+        slice: None,
+        owner: None,
+    })
+}
+
+/// A search that has begun comes to its node, where its body has no fault and some document is of its index.
+fn search(
+    state: &mut State<'_>,
+    ready: &mut BTreeSet<TaskId>,
+    number: u32,
+    index: &Text,
+    node: u32,
+    body: &DocSource,
+) -> Result<(), Stop>
+    requires tied { IsTied state.old }
+    requires shards { HasShards state.old }
+    requires known { HasReady state.old ready.old }
+    requires begun { beginning state.old.history ≡ Some number }
+    requires there { command_at state.old.script.now number ≡ Some (Command.Search index.now node body.now) }
+    requires low { 1 ≤ node }
+    requires high { node ≤ state.old.cluster.nodes }
+    ensures done { OnOk result (StartsWhere state.old.cluster (can_start state.old.corpus.now index.now body.now) number node state.old.history state.new.history) }
+    ensures tied { OnOk result (IsTied state.new) }
+    ensures known { OnOk result (HasReady state.new ready.new) }
+    ensures keeps { Keeps state.old state.new }
+    ensures err { OnErr result (IsPartly (StartsWhere state.old.cluster (can_start state.old.corpus.now index.now body.now) number node) state.old.history state.new.history) }
+    ensures lawful { Lawful state.new.cluster state.new.history }
+    ensures stop { IfErr result (λ stop. StopsRun state.old.cluster state.new.history stop) }
+{
+    let Some(body) = body_of(state.alloc, body)? else {
+        return Ok(());
+    };
+    if !state.shards.has(index.as_str()) {
+        return Ok(());
+    }
+    let ask = whole_ask(index, body)?;
+    start(state, number, node, ask)?;
+    match refresh(state, ready) {
+        Ok(()) => Ok(()),
+        Err(stop) => Err(stop),
+    }
+}
+
+/// Delivers the message of this place among those in flight, if there is one.
+fn deliver(state: &mut State<'_>, ready: &mut BTreeSet<TaskId>, nth: u64) -> Result<(), Stop>
+    requires tied { IsTied state.old }
+    requires known { HasReady state.old ready.old }
+    ensures done { OnOk result (DeliversWhere state.old.cluster nth state.old.history state.new.history) }
+    ensures tied { OnOk result (IsTied state.new) }
+    ensures known { OnOk result (HasReady state.new ready.new) }
+    ensures keeps { Keeps state.old state.new }
+    ensures err { OnErr result (IsPartly (DeliversWhere state.old.cluster nth) state.old.history state.new.history) }
+    ensures lawful { Lawful state.new.cluster state.new.history }
+    ensures stop { IfErr result (λ stop. StopsRun state.old.cluster state.new.history stop) }
+{
+    if nth >= state.flight.len() as u64 {
+        return Ok(());
+    }
+    deliver_there(state, ready, nth as usize)
+}
+
+/// Does what a command says that has begun.
+fn act_on(
+    state: &mut State<'_>,
+    ready: &mut BTreeSet<TaskId>,
+    number: u32,
+    command: &Command,
+) -> Result<(), Stop>
+    requires tied { IsTied state.old }
+    requires shards { HasShards state.old }
+    requires known { HasReady state.old ready.old }
+    requires begun { beginning state.old.history ≡ Some number }
+    requires there { command_at state.old.script.now number ≡ Some command.now }
+    requires can { CanDo state.old.cluster.nodes command.now }
+    ensures done { OnOk result (Does state.old.cluster state.old.corpus.now state.old.script.now number command.now state.old.history state.new.history) }
+    ensures tied { OnOk result (IsTied state.new) }
+    ensures known { OnOk result (HasReady state.new ready.new) }
+    ensures keeps { Keeps state.old state.new }
+    ensures err { OnErr result (PartlyDoes state.old.cluster state.old.corpus.now state.old.script.now number command.now state.old.history state.new.history) }
+    ensures lawful { Lawful state.new.cluster state.new.history }
+    ensures stop { IfErr result (λ stop. StopsRun state.old.cluster state.new.history stop) }
+{
+    match command {
+        Command::Search { index, node, body } => search(state, ready, number, index, *node, body),
+        Command::Deliver { nth } => deliver(state, ready, *nth),
+        Command::Step { task } => {
+            step_there(state, ready, *task)?;
+            Ok(())
+        }
+        Command::Settle => settle(state, ready),
+        Command::History => Ok(()),
+        Command::Cancel { .. } | Command::ListStep { .. } => unreachable!(),
+    }
+}
+
+/// A command begins, and it is known which tasks do not wait.
+fn begin_there(state: &mut State<'_>, ready: &mut BTreeSet<TaskId>, number: u32) -> Result<(), Stop>
+    requires tied { IsTied state.old }
+    requires known { HasReady state.old ready.old }
+    requires next { last_command state.old.history + 1 ≡ number }
+    ensures happened { OnOk result (state.new.history ≡ Event.Begin number ∷ state.old.history) }
+    ensures tied { OnOk result (IsTied state.new) }
+    ensures known { OnOk result (HasReady state.new ready.new) }
+    ensures keeps { Keeps state.old state.new }
+    ensures err { OnErr result (IsPartly (λ h new. new ≡ Event.Begin number ∷ h) state.old.history state.new.history) }
+    ensures lawful { Lawful state.new.cluster state.new.history }
+    ensures stop { IfErr result (λ stop. StopsRun state.old.cluster state.new.history stop) }
+{
+    begin(state, number)?;
+    refresh(state, ready)
+}
 
 /// Begins the command of this number and does what it says.
 pub(crate) fn command(
     state: &mut State<'_>,
-    _ready: &mut BTreeSet<TaskId>,
-    _k: u32,
+    ready: &mut BTreeSet<TaskId>,
+    k: u32,
 ) -> Result<(), Stop>
     requires tied { IsTied state.old }
-    ensures lawful { Lawful state.new.cluster state.new.history }
+    requires shards { HasShards state.old }
+    requires known { HasReady state.old ready.old }
+    requires can { CanRun state.old.cluster.nodes state.old.script.now.commands }
+    requires next { last_command state.old.history + 1 ≡ k }
+    requires there { k ≤ length state.old.script.now.commands }
+    ensures done { OnOk result (Commands state.old.cluster state.old.corpus.now state.old.script.now k state.old.history state.new.history) }
+    ensures tied { OnOk result (IsTied state.new) }
+    ensures known { OnOk result (HasReady state.new ready.new) }
     ensures keeps { Keeps state.old state.new }
-    ensures same { state.new.history ≡ state.old.history }
-    ensures no { OnOk result ⊥ }
-    ensures err { IfErr result (λ stop. stop ≡ Stop.Memory) }
+    ensures err { OnErr result (PartlyCommands state.old.cluster state.old.corpus.now state.old.script.now k state.old.history state.new.history) }
+    ensures lawful { Lawful state.new.cluster state.new.history }
+    ensures stop { IfErr result (λ stop. StopsRun state.old.cluster state.new.history stop) }
 {
-    Err(Stop::Memory)
+    match begin_there(state, ready, k) {
+        Ok(()) => {}
+        Err(stop) => return Err(stop),
+    }
+    let script = state.script;
+    let Some(command) = script.commands.as_slice().get(k as usize - 1) else {
+        unreachable!()
+    };
+    match act_on(state, ready, k, command) {
+        Ok(()) => Ok(()),
+        Err(stop) => Err(stop),
+    }
 }
 
 /// Begins the closing drain and settles.
-pub(crate) fn drain(state: &mut State<'_>, _ready: &mut BTreeSet<TaskId>) -> Result<(), Stop>
+pub(crate) fn drain(state: &mut State<'_>, ready: &mut BTreeSet<TaskId>) -> Result<(), Stop>
     requires tied { IsTied state.old }
-    ensures lawful { Lawful state.new.cluster state.new.history }
+    requires shards { HasShards state.old }
+    requires known { HasReady state.old ready.old }
+    requires last { last_command state.old.history ≡ length state.old.script.now.commands }
+    requires few { length state.old.script.now.commands ≤ 65535 }
+    ensures drained { OnOk result (Drains state.old.cluster state.old.corpus.now state.old.script.now state.old.history state.new.history) }
+    ensures over { OnOk result (IsDrained state.new.history) }
+    ensures tied { OnOk result (IsTied state.new) }
+    ensures known { OnOk result (HasReady state.new ready.new) }
     ensures keeps { Keeps state.old state.new }
-    ensures same { state.new.history ≡ state.old.history }
-    ensures no { OnOk result ⊥ }
-    ensures err { IfErr result (λ stop. stop ≡ Stop.Memory) }
+    ensures err { OnErr result (PartlyDrains state.old.cluster state.old.corpus.now state.old.script.now state.old.history state.new.history) }
+    ensures lawful { Lawful state.new.cluster state.new.history }
+    ensures stop { IfErr result (λ stop. StopsRun state.old.cluster state.new.history stop) }
 {
-    Err(Stop::Memory)
+    let closing = state.script.commands.as_slice().len() as u32 + 1;
+    match begin_there(state, ready, closing) {
+        Ok(()) => {}
+        Err(stop) => return Err(stop),
+    }
+    match settle(state, ready) {
+        Ok(()) => Ok(()),
+        Err(stop) => Err(stop),
+    }
 }

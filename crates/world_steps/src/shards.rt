@@ -5,7 +5,7 @@ ghost use Rattle.std.specs.List.{range_with_len};
 ghost use Rattle.std.specs.HashMap.{get_by_text};
 ghost use Rattle.task_ids.specs.declared.corpus.CorpusLine.{CorpusLine};
 ghost use Rattle.task_events.specs.Documents.{writes_of};
-ghost use Rattle.world_steps.specs.Stored.{AreFew, AreShards};
+ghost use Rattle.world_steps.specs.Stored.{AreFew, AreShards, has_index};
 
 use shard_docs::{Shard, shard_of};
 use std::alloc::{AllocError, Global};
@@ -87,6 +87,13 @@ impl<'a> Shards<'a> {
         ensures { result.now ≡ [] }
     {
         &self.empty
+    }
+
+    /// Whether some document is of the index.
+    pub(crate) fn has(&self, index: &str) -> bool
+        ensures { result ≡ has_index self.now.corpus.lines index.now }
+    {
+        self.by_index.get(index).is_some()
     }
 
     /// The shard of an index, from 0: the documents of the index that it has. It is empty where there is no such.

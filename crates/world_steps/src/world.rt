@@ -10,11 +10,10 @@ ghost use Rattle.world_steps.specs.Scripts.{CanRun, Commands, PartlyCommands, Dr
 ghost use Rattle.world_steps.specs.World.{IsPartly, tables_from};
 
 use crate::acting::Stepped;
-use crate::commands;
 use crate::flight::Flight;
-use crate::moving;
 use crate::shards::Shards;
 use crate::state::State;
+use crate::{commands, moving};
 use script_lang::Script;
 use std::alloc::{AllocError, Global};
 use std::collections::{BTreeMap, BTreeSet};
@@ -77,7 +76,7 @@ impl<'a> World<'a> {
         corpus: &'a Corpus,
         script: &'a Script,
     ) -> Result<World<'a>, AllocError>
-        requires { CanRun cluster.now.nodes script.now.commands }
+        requires { CanRun cluster.nodes script.now.commands }
         ensures { IfOk result (λ world. world ≡ record { cluster = cluster; corpus = corpus.now; script = script.now; past = []; stopped = None }) }
     {
         let shards = Shards::new(alloc, corpus, cluster.shards)?;
@@ -126,8 +125,8 @@ impl<'a> World<'a> {
 
     /// Gives the history away. What is live or in flight is given up.
     pub fn finish(self) -> History
-        ensures past { result ≡ self.past }
-        ensures lawful { Lawful self.cluster self.past }
+        ensures past { result ≡ self.entry.past }
+        ensures lawful { Lawful self.entry.cluster self.entry.past }
     {
         self.state.history
     }

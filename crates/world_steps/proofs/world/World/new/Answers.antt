@@ -12,4 +12,5 @@ invariant_of-result c = record {
   tied = rw c.new-2.ensures (rw c.new-4.ensures (nothing_yet c.args.cluster c.args.corpus.now c.args.script.now (task_at c.new-3.result) c.in_ok-tables.tables.items (λ t. ap (lookup (is_at (task_id_cmp t))) c.new-3.ensures.empty) c.in_ok-tables.ensures));
   shards = record { shards_are = c.in_ok-shards.ensures.ok; few = c.in_ok-shards.ensures.few };
   ready_known = λ t. rw c.new-2.ensures (ap (list_any (is_at (task_id_cmp t))) c.new-5.ensures.empty);
+  can_run = c.requires;
 }

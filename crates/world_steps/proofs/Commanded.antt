@@ -1,0 +1,119 @@
+-- Why commands come to an early end, and what they can do.
+use Rattle.std.proofs.Common.{◌≡◌, ◌≤◌, ◌<◌, ◌-◌, ℕ, zero, suc, Bool, true, false, List, [], ◌∷◌, length, get_or, Option, Some, None, refl, sym, ap, subst, ◌∙◌, inl, inr, arith}
+use Rattle.std.specs.Prelude.{slice_get, is_some, ◌&&◌}
+use Rattle.serde_json.specs.Data.{Data}
+use Rattle.query_parse.specs.declared.body.SearchBody.{SearchBody}
+use Rattle.query_parse.specs.Bodies.{body_at}
+use Rattle.search_phase.proofs.Requests.{slice_get_none}
+use Rattle.task_ids.specs.declared.cluster.Cluster.{Cluster}
+use Rattle.task_ids.specs.declared.corpus.Corpus.{Corpus}
+use Rattle.task_events.specs.declared.event.Event.{Event}
+use Rattle.task_events.specs.declared.event.Event.TheVariants.{Begin}
+use Rattle.task_events.specs.declared.stop.Stop.{Stop}
+use Rattle.task_events.specs.declared.stop.Stop.TheVariants.{HistoryFull, NumbersSpent, Memory}
+use Rattle.task_events.specs.Messages.{Message}
+use Rattle.task_events.specs.Messages.Message.{Request, Answer, Ban, Ack, Unban}
+use Rattle.script_lang.specs.declared.command.Command.{Command}
+use Rattle.script_lang.specs.declared.command.Command.TheVariants.{Search, Cancel, Deliver, Step, ListStep, Settle, History}
+use Rattle.script_lang.specs.declared.command.Script.{Script}
+use Rattle.world_steps.specs.Moves.{Starts, NodeLacksNumber, LacksNumber, StopsDelivery, StopsStep}
+use Rattle.world_steps.specs.Stored.{has_index}
+use Rattle.world_steps.specs.Roots.{body_or_none, command_at}
+use Rattle.world_steps.specs.Scripts.{CanDo, CanRun, can_start, StartsWhere, PartlyDoes, PartlyCommands, StopsRun}
+use Rattle.world_steps.specs.World.{IsWhole, IsPartly}
+
+lacking : (cluster : Cluster) (h : List Event) (m : Message) → LacksNumber cluster h m → (node : ℕ) × NodeLacksNumber cluster h node
+lacking cluster h (Request p k n r) l = (n, l)
+lacking cluster h (Answer p k reply) l = absurd l
+lacking cluster h (Ban p c n) l = absurd l
+lacking cluster h (Ack p n) l = absurd l
+lacking cluster h (Unban p n) l = absurd l
+
+-- a move that did not happen, and one that would be next
+pub delivery_stops : (cluster : Cluster) (h new : List Event) (nth : ℕ) (stop : Stop) → StopsDelivery cluster h nth stop → IsWhole stop h new → StopsRun cluster new stop
+delivery_stops cluster h new nth HistoryFull full same = ap length same ∙ full
+delivery_stops cluster h new nth NumbersSpent (m, at, lacks) same = subst (λ x. (node : ℕ) × NodeLacksNumber cluster x node) (sym same) (lacking cluster h m lacks)
+delivery_stops cluster h new nth Memory any whole = tt
+
+pub step_stops : (cluster : Cluster) (h new : List Event) (stop : Stop) → StopsStep h stop → IsWhole stop h new → StopsRun cluster new stop
+step_stops cluster h new HistoryFull full same = ap length same ∙ full
+step_stops cluster h new NumbersSpent never same = absurd never
+step_stops cluster h new Memory any whole = tt
+
+pub move_stops : (cluster : Cluster) (h : List Event) (nth : ℕ) (stop : Stop) → StopsDelivery cluster h nth stop → StopsRun cluster h stop
+move_stops cluster h nth HistoryFull full = full
+move_stops cluster h nth NumbersSpent (m, at, lacks) = lacking cluster h m lacks
+move_stops cluster h nth Memory any = tt
+
+-- each command of a script that can run can be done
+pub can_do : (nodes : ℕ) (commands : List Command) → CanRun nodes commands → (place : ℕ) (command : Command) → slice_get commands place ≡ Some command → CanDo nodes command
+can_do nodes [] all place command at = absurd (cc)
+can_do nodes (first ∷ more) all zero command at = let same : first ≡ command = cc in subst (CanDo nodes) same all.0
+can_do nodes (first ∷ more) all (suc place) command at = can_do nodes more all.1 place command at
+
+-- a command that has done nothing yet has done a part
+pub nothing_done : (cluster : Cluster) (corpus : Corpus) (script : Script) (k : ℕ) (command : Command) (h new : List Event) → new ≡ h → PartlyDoes cluster corpus script k command h new
+nothing_done cluster corpus script k (Search index node body) h new same = inl same
+nothing_done cluster corpus script k (Cancel target reason wait) h new same = inl same
+nothing_done cluster corpus script k (Deliver nth) h new same = inl same
+nothing_done cluster corpus script k (Step task) h new same = inl same
+nothing_done cluster corpus script k (ListStep node parent) h new same = inl same
+nothing_done cluster corpus script k Settle h new same = ([], sym same)
+nothing_done cluster corpus script k History h new same = inl same
+
+-- the command of a number
+pub at_number : (script : Script) (k : ℕ) (command : Command) → 1 ≤ k → slice_get script.commands (k - 1) ≡ Some command → command_at script k ≡ Some command
+at_number script zero command low at = absurd (omega arith)
+at_number script (suc n) command low at = let same : suc n - 1 ≡ n = omega arith in rw same at at
+
+-- a number that is not above the number of commands has one
+pub command_there : (script : Script) (k : ℕ) → 1 ≤ k → k ≤ length script.commands → (command : Command) × (command_at script k ≡ Some command)
+command_there script zero low high = absurd (omega arith)
+command_there script (suc n) low high = by_place (slice_get script.commands n) refl
+  where
+    by_place : (o : Option Command) → slice_get script.commands n ≡ o → (command : Command) × (slice_get script.commands n ≡ Some command)
+    by_place (Some command) at = (command, at)
+    by_place None at = absurd (let past = slice_get_none script.commands n at in omega arith)
+
+-- what a command has done so far
+pub partly_begun : (cluster : Cluster) (corpus : Corpus) (script : Script) (k : ℕ) → 1 ≤ k → k ≤ length script.commands
+    → (h new : List Event) → IsPartly (λ h new. new ≡ Begin k ∷ h) h new → PartlyCommands cluster corpus script k h new
+partly_begun cluster corpus script k low high h new (inl same) = inl same
+partly_begun cluster corpus script k low high h new (inr begun) =
+    let there = command_there script k low high in
+    inr (there.0, there.1, nothing_done cluster corpus script k there.0 (Begin k ∷ h) new begun)
+
+-- ---- a search
+
+false_and : (a b : Bool) → b ≡ false → (a && b) ≡ false
+false_and true b e = e
+false_and false b e = refl
+
+none_starts : (a b : Bool) → a ≡ false → (a && b) ≡ false
+none_starts a b e = rw e refl
+
+both_hold : {found : SearchBody} {o : Option SearchBody} {b : Bool} → o ≡ Some found → b ≡ true → (is_some o && b) ≡ true
+both_hold good known = rw (good, known) refl
+
+module _ (cluster : Cluster) (corpus : Corpus) (index : List ℕ) (body : Data) (k node : ℕ) where
+  abbrev Where : List Event → List Event → Type 0
+  Where h new = StartsWhere cluster (can_start corpus index body) k node h new
+
+  pub bad_body : (h : List Event) → body_or_none (body_at false 0 body) ≡ None → Where h h
+  bad_body h bad = subst (λ b. StartsWhere cluster b k node h h) (sym (none_starts (is_some (body_or_none (body_at false 0 body))) (has_index corpus.lines index) (ap is_some bad))) refl
+
+  pub unknown_index : (h : List Event) → has_index corpus.lines index ≡ false → Where h h
+  unknown_index h unknown = subst (λ b. StartsWhere cluster b k node h h) (sym (false_and (is_some (body_or_none (body_at false 0 body))) (has_index corpus.lines index) unknown)) refl
+
+  pub comes : (found : SearchBody) (h new : List Event) → body_or_none (body_at false 0 body) ≡ Some found → has_index corpus.lines index ≡ true → (started : Bool) → Starts cluster h k node started new → Where h new
+  comes found h new good known started s = subst (λ b. StartsWhere cluster b k node h new) (sym (both_hold good known)) (started, s)
+
+-- ---- what stays as a command begins
+
+pub from_get_or : (commands : List Command) (place : ℕ) (command : Command) → place < length commands → ((other : Command) → command ≡ get_or commands place other) → slice_get commands place ≡ Some command
+from_get_or [] place command low e = absurd (omega arith)
+from_get_or (first ∷ more) zero command low e = ap Some (sym (e first))
+from_get_or (first ∷ more) (suc place) command low e = from_get_or more place command (omega arith) e
+
+pub carried : (P : Cluster → Corpus → Script → List Event → Type 0) (c d : Cluster) (x y : Corpus) (s t : Script) (h g : List Event) → c ≡ d → x ≡ y → s ≡ t → h ≡ g → P c x s h → P d y t g
+carried P c d x y s t h g cs xs ss hs p = subst (λ a. P a y t g) cs (subst (λ a. P c a t g) xs (subst (λ a. P c x a g) ss (subst (λ a. P c x s a) hs p)))

@@ -1,0 +1,142 @@
+-- Where it has settled, nothing is live.
+use Rattle.std.proofs.Common.{◌≡◌, ◌≢◌, ℕ, zero, suc, ◌+◌, Bool, true, false, not, List, [], ◌∷◌, map, get_or, Option, Some, None, refl, sym, ap, ◌∙◌, arith}
+use Rattle.std.specs.Prelude.{is_some, ◌==◌}
+use Rattle.std.specs.List.{list_any}
+use Rattle.task_ids.specs.declared.task_id.TaskId.{TaskId}
+use Rattle.task_ids.specs.declared.cluster.Cluster.{Cluster}
+use Rattle.task_ids.specs.declared.corpus.Corpus.{Corpus}
+use Rattle.task_ids.specs.declared.doc.Doc.{Doc}
+use Rattle.task_table.specs.Table.{Table}
+use Rattle.task_events.specs.declared.event.Event.{Event}
+use Rattle.task_events.specs.declared.event.Event.TheVariants.{Begin, Root, RootRejected, Ask, Put, Reject, Pass, NotFound, Listed, Acked, BanGone, Work, Write, Answered, End, AnswerPlaced, AnswerDone, Tick}
+use Rattle.task_events.specs.declared.request.Request.{Request}
+use Rattle.task_events.specs.declared.request.Request.TheVariants as asks
+use Rattle.task_events.specs.declared.reply.Reply.{Reply}
+use Rattle.task_events.specs.declared.step.Asked.{Asked}
+use Rattle.task_events.specs.declared.step.Do.{Do}
+use Rattle.task_events.specs.declared.step.Do.TheVariants.{AskNext, Turn, Wait, Finish}
+use Rattle.task_events.specs.Asks.{unanswered}
+use Rattle.task_events.specs.Bans.{mark_of, listing_is_open}
+use Rattle.task_events.specs.Laws.{IsAtRest, IsLeaf, IsDrained}
+use Rattle.task_events.specs.Searches.{are_answered, ask_or_end, work_or_end}
+use Rattle.task_events.specs.Steps.{request_of, event_of}
+use Rattle.task_events.specs.Tasks.{is_live, is_new}
+use Rattle.task_laws.proofs.Pending.{is_pending}
+use Rattle.task_laws.proofs.Rest.{leaf}
+use Rattle.task_laws.proofs.Same.{same_tests}
+use Rattle.task_work.specs.declared.work.Work.{Work as Doing}
+use Rattle.task_work.specs.declared.work.Work.TheVariants as works
+use Rattle.task_work.specs.Works.{next_of, does_wait}
+use Rattle.script_lang.specs.declared.command.Script.{Script}
+use Rattle.world_steps.specs.declared.flight.Sent.{Sent}
+use Rattle.world_steps.specs.declared.running.Running.{Running}
+use Rattle.world_steps.specs.Facts.{awaited_by}
+use Rattle.world_steps.specs.Roots.{root_request}
+use Rattle.world_steps.specs.Runs as runs
+use Rattle.world_steps.specs.Ties.{Ties, IsCalm, WorksFor}
+use Rattle.world_steps.proofs.Answered.{none_awaited}
+use Rattle.world_steps.proofs.Calm.{unmarked}
+use Rattle.world_steps.proofs.Plans.{next_new, next_old, writes_at}
+use Rattle.world_steps.proofs.Requested.{awaited_at}
+use Rattle.world_steps.proofs.StepsAfter.{kept_running, is_kept}
+
+no_listing : (h : List Event) → IsCalm h → (n : ℕ) (p : TaskId) → listing_is_open n p h ≡ false
+no_listing [] c n p = refl
+no_listing (Begin k ∷ h) c n p = no_listing h c n p
+no_listing (Root k u ∷ h) c n p = no_listing h c n p
+no_listing (RootRejected k m ∷ h) c n p = no_listing h c n p
+no_listing (Ask q k m r ∷ h) c n p = no_listing h c n p
+no_listing (Put u q k ∷ h) c n p = no_listing h c n p
+no_listing (Reject m q k ∷ h) c n p = no_listing h c n p
+no_listing (Pass u ∷ h) c n p = no_listing h c n p
+no_listing (NotFound k ∷ h) c n p = no_listing h c n p
+no_listing (Listed m q ∷ h) c n p = grind (arith, same_tests, no_listing h c n p)
+no_listing (Acked q m ∷ h) c n p = no_listing h c n p
+no_listing (BanGone m q ∷ h) c n p = no_listing h c n p
+no_listing (Work u ∷ h) c n p = no_listing h c n p
+no_listing (Write i s o d ∷ h) c n p = no_listing h c n p
+no_listing (Answered q k ∷ h) c n p = no_listing h c n p
+no_listing (End u r ∷ h) c n p = no_listing h c n p
+no_listing (AnswerPlaced k ∷ h) c n p = no_listing h c n p
+no_listing (AnswerDone k ∷ h) c n p = no_listing h c n p
+no_listing (Tick ms ∷ h) c n p = no_listing h c n p
+no_listing (_ ∷ h) c n p = absurd c
+
+-- with all answers a search does not wait, and other work never does
+ends_or_asks : (next : Option Request) (answered : Bool) (reply : Reply) → answered ≡ true → does_wait (ask_or_end next answered reply) ≡ false
+ends_or_asks (Some request) answered reply all = refl
+ends_or_asks None true reply all = refl
+ends_or_asks None false reply all = absurd (cc)
+
+works_or_ends : (done : Bool) (reply : Reply) → does_wait (work_or_end done reply) ≡ false
+works_or_ends true reply = refl
+works_or_ends false reply = refl
+
+-- no ask is awaited, so all are answered
+all_known : (asked : List Asked) (awaited : List (Option ℕ)) → map (λ a. is_some a.answer) asked ≡ map (λ o. not (is_some o)) awaited → none_awaited awaited ≡ true → are_answered asked ≡ true
+all_known [] awaited e none = refl
+all_known (a ∷ asked) [] e none = absurd (cc)
+all_known (a ∷ asked) (Some n ∷ awaited) e none = absurd (cc)
+all_known (a ∷ asked) (None ∷ awaited) e none =
+    let here : is_some a.answer ≡ true = cc in
+    rw here (all_known asked awaited (cc) none)
+
+module _ (cluster : Cluster) (corpus : Corpus) (t : TaskId) (asked : List Asked) (requests : List Request) (awaited : List (Option ℕ)) (turns : ℕ) where
+  goes_on : (request : Option Request) (work : Doing) (writes : List Doc) → WorksFor cluster corpus t asked requests awaited turns request work → none_awaited awaited ≡ true → does_wait (next_of work writes) ≡ false
+  goes_on (Some (asks.Search ask)) (works.Search s) writes w none =
+      ends_or_asks _ (are_answered s.asked) _ (ap (λ x. are_answered x.asked) w.state_is ∙ all_known asked awaited w.answered none)
+  goes_on (Some (asks.Query ask)) (works.Query q top) writes w none = works_or_ends _ _
+  goes_on (Some (asks.Fetch ask)) (works.Fetch f hits) writes w none = works_or_ends _ _
+  goes_on None work writes w none = absurd w
+  goes_on (Some (asks.Search ask)) (works.Query q top) writes w none = absurd w
+  goes_on (Some (asks.Search ask)) (works.Fetch f hits) writes w none = absurd w
+  goes_on (Some (asks.Query ask)) (works.Search s) writes w none = absurd w
+  goes_on (Some (asks.Query ask)) (works.Fetch f hits) writes w none = absurd w
+  goes_on (Some (asks.Fetch ask)) (works.Search s) writes w none = absurd w
+  goes_on (Some (asks.Fetch ask)) (works.Query q top) writes w none = absurd w
+
+none_from : (awaited : List (Option ℕ)) → ((k : ℕ) → is_some (get_or awaited k None) ≡ false) → none_awaited awaited ≡ true
+none_from [] f = refl
+none_from (None ∷ awaited) f = none_from awaited (λ k. f (suc k))
+none_from (Some n ∷ awaited) f = absurd (let x = f zero in cc)
+
+has_event : (cluster : Cluster) (t : TaskId) (h : List Event) (d : Do) → does_wait d ≡ false → event_of cluster t h d ≡ None → ⊥
+has_event cluster t h (AskNext request) goes none = cc
+has_event cluster t h Turn goes none = cc
+has_event cluster t h (Wait due) goes none = cc
+has_event cluster t h (Finish reply) goes none = cc
+
+module _ (cluster : Cluster) (corpus : Corpus) (script : Script) (h : List Event) (tasks : TaskId → Option Running) (tables : List Table) (flight : List Sent) (ties : Ties cluster corpus script h tasks tables flight) where
+  none_to_answer : (t : TaskId) → unanswered t h ≡ [] → none_awaited (awaited_by t h) ≡ true
+  none_to_answer t e = none_from (awaited_by t h) (λ k. sym (awaited_at cluster t k h ties.lawful) ∙ is_pending t (k + 1) h ∙ ap (list_any (λ a. a.ask == k + 1)) e)
+
+  -- a task with no ask unanswered makes a step
+  leaf_moves : (u : TaskId) → IsLeaf u h → runs.next_of cluster corpus script u h ≢ None
+  leaf_moves u l = by_kept (tasks u) refl
+    where
+      by_kept : (o : Option Running) → tasks u ≡ o → runs.next_of cluster corpus script u h ≢ None
+      by_kept None e = absurd (is_kept cluster corpus script h tasks tables flight ties u l.live e)
+      by_kept (Some r) e = λ none.
+          let writes = writes_at cluster corpus script h tasks tables flight ties u in
+          let works = (kept_running cluster corpus script h tasks tables flight ties u l.live r e).works in
+          let next = next_old cluster corpus script h tasks tables flight ties u l.live l.passed r e in
+          has_event cluster u h (next_of r.work writes) (goes_on cluster corpus u _ _ _ _ (request_of (root_request script) u h) r.work writes works (none_to_answer u l.answered)) (sym next ∙ none)
+
+  pub drained : runs.IsSettled cluster corpus script h → IsDrained h
+  drained s = record { nothing_in_flight = s.nothing_in_flight; no_listing = no_listing h ties.calm; nothing_live = λ t. gone t (is_live t h) refl }
+    where
+      not_new : (t : TaskId) → is_live t h ≡ true → (b : Bool) → is_new t h ≡ b → is_new t h ≡ false
+      not_new t l false n = n
+      not_new t l true n = absurd (let waits = s.all_wait t l in let moves = next_new cluster corpus script h tasks tables flight ties t n in cc)
+
+      rest : IsAtRest h
+      rest = record {
+        nothing_in_flight = s.nothing_in_flight;
+        no_listing = no_listing h ties.calm;
+        no_first_step = λ t l. not_new t l (is_new t h) refl;
+        no_cancelled_end = λ t l marked. absurd (marked (unmarked h ties.calm t));
+      }
+
+      gone : (t : TaskId) (b : Bool) → is_live t h ≡ b → is_live t h ≡ false
+      gone t false e = e
+      gone t true e = let found = leaf cluster h ties.lawful rest t e in absurd (leaf_moves found.0 found.1 (s.all_wait found.0 found.1.live))

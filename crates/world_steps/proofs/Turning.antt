@@ -1,0 +1,142 @@
+-- No move begins a command, so what a command does is its turn.
+use Rattle.std.proofs.Common.{◌≡◌, ℕ, suc, Bool, true, false, ◌||◌, List, [], ◌∷◌, ◌++◌, Option, Some, None, refl, sym, ap, subst, ◌∙◌, inl, inr}
+use Rattle.std.specs.Prelude.{option_map}
+use Rattle.std.specs.List.{list_any}
+use Rattle.std.specs.Option.{option_map_or}
+use Rattle.std.proofs.lemmas.List.{append_assoc}
+use Rattle.std.proofs.lemmas.List.Folds.{list_any-append}
+use Rattle.task_ids.specs.declared.task_id.TaskId.{TaskId}
+use Rattle.task_ids.specs.declared.cluster.Cluster.{Cluster}
+use Rattle.task_ids.specs.declared.corpus.Corpus.{Corpus}
+use Rattle.task_events.specs.declared.step.Do.{Do}
+use Rattle.task_events.specs.declared.step.Do.TheVariants.{AskNext, Turn, Wait, Finish}
+use Rattle.task_events.specs.declared.event.Event.{Event}
+use Rattle.task_events.specs.declared.event.Event.TheVariants.{Begin}
+use Rattle.task_events.specs.Asks.{Pending, unanswered}
+use Rattle.task_events.specs.Bans.{mark_of, ban_over}
+use Rattle.task_events.specs.Cancels.{last_command}
+use Rattle.task_events.specs.Messages.{Message}
+use Rattle.task_events.specs.Messages.Message.{Request, Answer, Ban, Ack, Unban}
+use Rattle.task_events.specs.Steps.{event_of, first_step, cancelled_step, step_from, planned_step, request_of}
+use Rattle.task_events.specs.Tasks.{is_new}
+use Rattle.task_events.specs.Turns.{is_begin}
+use Rattle.script_lang.specs.declared.command.Script.{Script}
+use Rattle.script_lang.specs.declared.command.Command.{Command}
+use Rattle.script_lang.specs.declared.command.Command.TheVariants.{Search, Cancel, Deliver, Step, ListStep, Settle, History}
+use Rattle.world_steps.specs.declared.acting.Stepped.{Stepped}
+use Rattle.world_steps.specs.declared.acting.Stepped.TheVariants.{Done, Waiting, NotRunning}
+use Rattle.world_steps.specs.Moves.{IsDelivery, Delivers, IsStart, Starts}
+use Rattle.world_steps.specs.Roots.{root_request}
+use Rattle.world_steps.specs.Runs.{next_of, AnswersStep, FirstMoves, Passes, Settles}
+use Rattle.world_steps.specs.Scripts.{can_start, StartsWhere, DeliversWhere, Does, Commands, Drains, IsTurn, closing}
+
+-- some events came after, with none of which a command began
+abbrev pub Follows : List Event → List Event → Type 0
+Follows h new = (events : List Event) × (new ≡ events ++ h) × (list_any is_begin events ≡ false)
+
+pub stays : (h new : List Event) → new ≡ h → Follows h new
+stays h new same = ([], same, refl)
+
+one_event : (h new : List Event) (e : Event) → is_begin e ≡ false → new ≡ e ∷ h → Follows h new
+one_event h new e begins same = (e ∷ [], same, rw begins refl)
+
+then : (h m new : List Event) → Follows h m → Follows m new → Follows h new
+then h m new (first, is_m, none) (later, is_new, nor) =
+    (later ++ first, is_new ∙ ap (λ x. later ++ x) is_m ∙ sym (append_assoc later first h), list_any-append is_begin later first ∙ rw nor none)
+
+module _ (cluster : Cluster) (h : List Event) where
+  not_begun : (m : Message) (k : ℕ) → IsDelivery cluster h m (Begin k) → ⊥
+  not_begun (Request p j n r) k d = d
+  not_begun (Answer p j reply) k d = d
+  not_begun (Ban p c n) k d = d
+  not_begun (Ack p n) k d = d
+  not_begun (Unban p n) k d = d
+
+  by_delivery : (m : Message) (e : Event) → IsDelivery cluster h m e → is_begin e ≡ false
+  by_delivery m (Begin k) d = absurd (not_begun m k d)
+  by_delivery m _ d = refl
+
+  by_start : (command node : ℕ) (started : Bool) (e : Event) → IsStart cluster h command node started e → is_begin e ≡ false
+  by_start command node true (Begin k) s = absurd s
+  by_start command node false (Begin k) s = absurd s
+  by_start command node started _ s = refl
+
+  pub delivered : (nth : ℕ) (new : List Event) → Delivers cluster h nth new → Follows h new
+  delivered nth new (m, e, at, is, same) = one_event h new e (by_delivery m e is) same
+
+  started_there : (command node : ℕ) (started : Bool) (new : List Event) → Starts cluster h command node started new → Follows h new
+  started_there command node started new (e, is, same) = one_event h new e (by_start command node started e is) same
+
+module _ (cluster : Cluster) (t : TaskId) (h : List Event) where
+  begins_none : (e d : Event) → is_begin d ≡ false → Some d ≡ Some e → is_begin e ≡ false
+  begins_none e d begins same = subst (λ o. option_map_or is_begin o false ≡ false) same begins
+
+  by_first : (ban : Option ℕ) (e : Event) → Some (first_step t ban) ≡ Some e → is_begin e ≡ false
+  by_first None e same = begins_none e (first_step t None) refl same
+  by_first (Some c) e same = begins_none e (first_step t (Some c)) refl same
+
+  by_mark : (c : ℕ) (asks : List Pending) (e : Event) → cancelled_step t c asks ≡ Some e → is_begin e ≡ false
+  by_mark c [] e same = subst (λ o. option_map_or is_begin o false ≡ false) same refl
+  by_mark c (ask ∷ asks) e same = absurd (cc)
+
+  by_plan : (d : Do) (e : Event) → event_of cluster t h d ≡ Some e → is_begin e ≡ false
+  by_plan (AskNext request) e same = subst (λ o. option_map_or is_begin o false ≡ false) same refl
+  by_plan Turn e same = subst (λ o. option_map_or is_begin o false ≡ false) same refl
+  by_plan (Wait due) e same = absurd (cc)
+  by_plan (Finish reply) e same = subst (λ o. option_map_or is_begin o false ≡ false) same refl
+
+  by_step : (new : Bool) (mark : Option ℕ) (plan : Option Do) (e : Event) → step_from cluster t h new mark plan ≡ Some e → is_begin e ≡ false
+  by_step true mark plan e same = by_first (ban_over t h) e same
+  by_step false (Some c) plan e same = by_mark c (unanswered t h) e same
+  by_step false None None e same = absurd (cc)
+  by_step false None (Some d) e same = by_plan d e same
+
+module _ (cluster : Cluster) (corpus : Corpus) (script : Script) where
+  stepped_there : (t : TaskId) (h new : List Event) (stepped : Stepped) → AnswersStep cluster corpus script t h stepped new → Follows h new
+  stepped_there t h new Done (e, live, next, same) =
+      one_event h new e (by_step cluster t h (is_new t h) (mark_of t h) (option_map (λ request. planned_step cluster corpus t request h) (request_of (root_request script) t h)) e next) same
+  stepped_there t h new Waiting (live, waits, same) = stays h new same
+  stepped_there t h new NotRunning (gone, same) = stays h new same
+
+  moved : (h new : List Event) → FirstMoves cluster corpus script h new → Follows h new
+  moved h new (inl d) = delivered cluster h 0 new d
+  moved h new (inr (none, (t, first, steps))) = stepped_there t h new Done steps
+
+  passed : (h : List Event) (between : List (List Event)) (new : List Event) → Passes cluster corpus script h between new → Follows h new
+  passed h [] new same = stays h new (sym same)
+  passed h (next ∷ later) new (m, p) = then h next new (moved h next m) (passed next later new p)
+
+  pub settled : (h new : List Event) → Settles cluster corpus script h new → Follows h new
+  settled h new (rests, (between, p)) = passed h between new p
+
+  started_where : (b : Bool) (k node : ℕ) (h new : List Event) → StartsWhere cluster b k node h new → Follows h new
+  started_where true k node h new (started, s) = started_there cluster h k node started new s
+  started_where false k node h new same = stays h new same
+
+  delivered_where : (nth : ℕ) (h new : List Event) → DeliversWhere cluster nth h new → Follows h new
+  delivered_where nth h new (inl d) = delivered cluster h nth new d
+  delivered_where nth h new (inr (none, same)) = stays h new same
+
+  done : (k : ℕ) (command : Command) (h new : List Event) → Does cluster corpus script k command h new → Follows h new
+  done k (Search index node body) h new d = started_where (can_start corpus index body) k node h new d
+  done k (Cancel target reason wait) h new d = absurd d
+  done k (Deliver nth) h new d = delivered_where nth h new d
+  done k (Step task) h new (stepped, a) = stepped_there task h new stepped a
+  done k (ListStep node parent) h new d = absurd d
+  done k Settle h new d = settled h new d
+  done k History h new same = stays h new same
+
+  pub turn_of_command : (k : ℕ) (h new : List Event) → Commands cluster corpus script k h new → IsTurn k h new
+  turn_of_command k h new (command, at, d) = done k command (Begin k ∷ h) new d
+
+  pub turn_of_drain : (h new : List Event) → Drains cluster corpus script h new → IsTurn (closing script) h new
+  turn_of_drain h new d = settled (Begin (closing script) ∷ h) new d
+
+-- the command that began last is that of the turn
+last_over : (events h : List Event) → list_any is_begin events ≡ false → last_command (events ++ h) ≡ last_command h
+last_over [] h none = refl
+last_over (Begin k ∷ events) h none = absurd (cc)
+last_over (_ ∷ events) h none = last_over events h none
+
+pub last_in_turn : (k : ℕ) (h new : List Event) → IsTurn k h new → last_command new ≡ k
+last_in_turn k h new (events, same, none) = ap last_command same ∙ last_over events (Begin k ∷ h) none
