@@ -1,10 +1,12 @@
 pub mod EndLemmas
+pub mod FitLemmas
 pub mod FoundLemmas
 pub mod KnownLemmas
 pub mod NumberLemmas
 pub mod PrintLemmas
 pub mod ProgressLemmas
 pub mod ReadingLaws
+pub mod TopLemmas
 pub mod TurnLemmas
 pub mod WholeLemmas
 pub mod WordLemmas

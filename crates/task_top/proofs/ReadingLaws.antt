@@ -12,7 +12,7 @@ use Rattle.script_lang.specs.declared.command.Script.{Script}
 use Rattle.task_top.specs.Reading.{max_input, read_lines, reading, Reads, Refuses, IsRead, IsRefused}
 use Rattle.task_top.proofs.NumberLemmas.{refused_at}
 
-abbrev Outcome : Type 0
+abbrev pub Outcome : Type 0
 Outcome = Result (Corpus × Script) Fault
 
 module _ (mode : Mode) (cluster : Cluster) (input : List ℕ) where

@@ -17,6 +17,7 @@ use script_lang::{Script, ScriptError};
 use std::alloc::Global;
 use task_events::Stop;
 use task_ids::{Cause, Cluster, Corpus};
+use task_laws::{earlier_is_lawful, one_place};
 
 /// How many bytes an input has at most.
 const MAX_INPUT: usize = 67_108_864;
@@ -57,6 +58,9 @@ pub fn sim_top<S: Source, K: Sink>(
         }
         Err(ReadAll::Memory) => return (Status::Memory, Kept::nothing(alloc)),
     };
+    // The laws of each moment of a lawful history. They compute nothing.
+    earlier_is_lawful();
+    one_place();
     match read_input(alloc, cluster, bytes.as_slice()) {
         Ok((corpus, script)) => run_and_print(alloc, cluster, corpus, script, out),
         Err(ScriptError::Bad { line, cause }) => {
