@@ -1,17 +1,16 @@
 -- The numbers of lines: a script begins at most one line after the last, and a refused line is one that there is.
-use Rattle.std.proofs.Common.{◌≡◌, ℕ, ◌+◌, ◌≤◌, List, [], ◌∷◌, ◌++◌, length, Bool, true, false, ◌&&◌, ◌==◌, cond, eqb, Result, Ok, Err, sym, ap, ◌∙◌, subst, arith}
+use Rattle.std.proofs.Common.{◌≡◌, ℕ, ◌+◌, ◌≤◌, List, [], ◌∷◌, ◌++◌, length, Bool, true, false, ◌&&◌, ◌==◌, cond, eqb, Result, Ok, Err, subst, arith}
 use Rattle.std.specs.Bool.{⊤}
 use Rattle.std.specs.List.{slice_split, onto_first}
 use Rattle.std.specs.Str.{bytes_eq}
-use Rattle.std.specs.Str.Lines.{lines, lines_of_parts, strip_carriage_return}
-use Rattle.std.proofs.lemmas.List.Splits.{length-slice_split, slice_split-cons_yes, slice_split-cons_no}
+use Rattle.std.specs.Str.Lines.{lines, lines_of_parts}
 use Rattle.serde_json.specs.Data.{Data}
 use Rattle.task_ids.specs.declared.cause.Cause.{Cause}
 use Rattle.task_ids.specs.declared.cause.Cause.TheVariants.{NoSource, Conflict}
 use Rattle.task_ids.specs.declared.corpus.CorpusLine.{CorpusLine}
 use Rattle.shard_docs.specs.declared.corpus.CorpusRead.{CorpusRead}
 use Rattle.shard_docs.specs.BulkAction.{action_of}
-use Rattle.shard_docs.specs.Corpus.{Read, dashes, is_create, is_there, source_line, document, documents, corpus_of}
+use Rattle.shard_docs.specs.Corpus.{Read, dashes, is_create, is_there, document, documents, corpus_of}
 use Rattle.shard_docs.specs.CorpusRead.{read_of}
 use Rattle.shard_docs.specs.Fault.{Fault, and_then, on_line}
 use Rattle.shard_docs.specs.Json.{source_of}

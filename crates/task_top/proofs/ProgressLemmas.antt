@@ -1,26 +1,22 @@
 -- One command more has run, and what was noted before each command still holds.
-use Rattle.std.proofs.Common.{◌≡◌, ℕ, zero, suc, ◌+◌, ◌-◌, ◌<◌, ◌≤◌, ◌⊎◌, Bool, true, false, cond, ◌||◌, List, [], ◌∷◌, ◌++◌, length, length-append, slice_get, get_or, Option, Some, None, Result, Ok, Err, OnOk, IfErr, inl, inr, refl, sym, ap, ◌∙◌, subst, add-one, ⊎_elim, arith}
-use Rattle.std.specs.Prelude.{nat_lt}
+use Rattle.std.proofs.Common.{◌≡◌, ℕ, ◌+◌, ◌≤◌, Bool, true, false, cond, ◌||◌, List, [], ◌∷◌, ◌++◌, length, length-append, slice_get, Option, Some, None, Result, Ok, Err, OnOk, refl, sym, ap, ◌∙◌, subst, add-one, ⊎_elim, arith}
 use Rattle.std.specs.List.{list_any}
 use Rattle.std.proofs.lemmas.Bool.{cases_lt, lt-ltb, le-ltb}
 use Rattle.std.proofs.lemmas.Option.{slice_get_within}
 use Rattle.search_phase.proofs.Requests.{slice_get-append_left, slice_get-append_right}
-use Rattle.task_ids.specs.declared.cluster.Cluster.{Cluster}
-use Rattle.task_ids.specs.declared.corpus.Corpus.{Corpus}
 use Rattle.task_events.specs.declared.event.Event.{Event}
 use Rattle.task_events.specs.declared.event.Event.TheVariants.{Begin}
 use Rattle.task_events.specs.declared.stop.Stop.{Stop}
-use Rattle.task_events.specs.declared.stop.Stop.TheVariants.{Memory}
 use Rattle.task_events.specs.Cancels.{last_command}
 use Rattle.task_events.specs.Laws.{IsDrained}
-use Rattle.task_events.specs.Turns.{is_begin, begun, events_of, history_before}
+use Rattle.task_events.specs.Turns.{is_begin, begun, history_before}
 use Rattle.script_lang.specs.declared.command.Command.{Command}
 use Rattle.script_lang.specs.declared.command.Script.{Script}
-use Rattle.world_steps.specs.Scripts.{IsTurn, Commands, PartlyCommands, Drains, PartlyDrains, HasRun, IsRun, IsRunSoFar, StopsRun}
+use Rattle.world_steps.specs.Scripts.{IsTurn, Commands, Drains, HasRun}
 use Rattle.world_steps.specs.World.{WorldView}
 use Rattle.task_top.specs.declared.printing.idle.Idle.{Idle}
-use Rattle.task_top.specs.Lines.{idle_of, IsFound}
-use Rattle.task_top.specs.Progress.{NotesAll, HasCome, EndsEarly, EndsWhole}
+use Rattle.task_top.specs.Lines.{idle_of}
+use Rattle.task_top.specs.Progress.{NotesAll, HasCome, EndsWhole}
 
 -- ---- a turn
 
@@ -80,18 +76,6 @@ module _ (script : List Command) (k n : ℕ) (found : List (Option Idle)) (old n
 
 -- ---- the run
 
--- nothing has run yet
-pub begins : (cluster : Cluster) (corpus : Corpus) (script : Script) (world : WorldView) → world ≡ record { cluster = cluster; corpus = corpus; script = script; past = []; stopped = None } → HasCome script 0 [] world
-begins cluster corpus script world e = subst (HasCome script 0 []) (sym e) (record {
-  reads = refl;
-  goes_on = refl;
-  runs = refl;
-  begun_so_many = refl;
-  last = refl;
-  noted = refl;
-  notes = λ i command lt at. absurd (omega arith);
-})
-
 -- all but the past is as it was
 abbrev pub Keeps : WorldView → WorldView → Type 0
 Keeps w w' = w' ≡ record w { past = w'.past; stopped = w'.stopped }
@@ -127,10 +111,4 @@ module _ (script : Script) (found : List (Option Idle)) (w : WorldView) (past : 
     ran = (w.past, all_ran, subst (λ s. Drains w.cluster w.corpus s w.past past) come.reads drains);
     drained = drained;
     tells = λ i command at none. noted_still script.commands k (length script.commands) found w.past past come.notes come.begun_so_many turn i command (slice_get_within script.commands i command at) at;
-  }
-
-  pub drained_partly : (stop : Stop) → PartlyDrains w.cluster w.corpus w.script w.past past → StopsRun w.cluster past stop → EndsEarly w.cluster w.corpus script past stop
-  drained_partly stop drains cause = record {
-    ran_so_far = inr (w.past, all_ran, subst (λ s. PartlyDrains w.cluster w.corpus s w.past past) come.reads drains);
-    cause = cause;
   }

@@ -1,15 +1,14 @@
 -- Any bytes are read or refused, once; and what an input is, from its length and its lines.
-use Rattle.std.proofs.Common.{◌≡◌, ℕ, ◌<◌, ◌≤◌, ◌⊎◌, List, length, Option, Some, None, Result, Ok, Err, inl, inr, IfSome, cond, refl, sym, ap, ◌∙◌, ⊎_elim, arith}
+use Rattle.std.proofs.Common.{◌≡◌, ℕ, ◌<◌, ◌≤◌, ◌⊎◌, List, length, Result, Ok, Err, inl, inr, cond, refl, sym, ap, ◌∙◌, ⊎_elim, arith}
 use Rattle.std.specs.Str.Lines.{lines}
 use Rattle.std.proofs.lemmas.Bool.{cases_lt, lt-ltb, le-ltb}
-use Rattle.task_ids.specs.declared.cause.Cause.{Cause}
 use Rattle.task_ids.specs.declared.cause.Cause.TheVariants.{TooLong}
 use Rattle.task_ids.specs.declared.cluster.Cluster.{Cluster}
 use Rattle.task_ids.specs.declared.corpus.Corpus.{Corpus}
 use Rattle.shard_docs.specs.Fault.{Fault}
 use Rattle.script_lang.specs.declared.command.Mode.{Mode}
 use Rattle.script_lang.specs.declared.command.Script.{Script}
-use Rattle.task_top.specs.Reading.{max_input, read_lines, reading, Reads, Refuses, IsRead, IsRefused}
+use Rattle.task_top.specs.Reading.{max_input, read_lines, reading, Refuses, IsRead, IsRefused}
 use Rattle.task_top.proofs.NumberLemmas.{refused_at}
 
 abbrev pub Outcome : Type 0

@@ -5,7 +5,6 @@ use Rattle.task_ids.specs.declared.cause.Cause.{Cause}
 use Rattle.task_ids.specs.declared.cause.Cause.TheVariants.{TooLong}
 use Rattle.task_ids.specs.declared.cluster.Cluster.{Cluster}
 use Rattle.task_ids.specs.declared.corpus.Corpus.{Corpus}
-use Rattle.shard_docs.specs.Fault.{Fault}
 use Rattle.script_lang.specs.declared.command.Mode.TheVariants.{Sim}
 use Rattle.script_lang.specs.declared.command.Script.{Script}
 use Rattle.task_top.specs.declared.kept.Kept.{Kept}

@@ -20,3 +20,5 @@ pub use status::Status;
 pub use top::sim_top;
 pub use words::plan;
 
+#[cfg(test)]
+mod tests;

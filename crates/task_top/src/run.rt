@@ -71,11 +71,7 @@ fn run_commands(
 }
 
 /// Runs all commands and drains the world.
-fn run_all(
-    alloc: Global,
-    world: &mut World<'_>,
-    script: &Script,
-) -> Result<Vec<Option<Idle>>, Stop>
+fn run_all(alloc: Global, world: &mut World<'_>, script: &Script) -> Result<Vec<Option<Idle>>, Stop>
     requires come { HasCome script.now 0 [] world.old }
     requires few { length script.now.commands ≤ 65535 }
     ensures whole { IfOk result (λ found. EndsWhole world.old.cluster world.old.corpus script.now world.new.past found.items) }
