@@ -1,5 +1,5 @@
 -- The events of each command, where the events are read from the oldest on.
-use Rattle.std.proofs.Common.{◌≡◌, ℕ, zero, suc, ◌+◌, ◌<◌, ◌≤◌, Bool, true, false, cond, not, ◌&&◌, ◌||◌, flat_map, get_or, slice_get, ◌==◌, nat_lt, List, [], ◌∷◌, ◌++◌, reverse, take, drop, length, position, Option, Some, None, option_map, unwrap_or, Bor, refl, sym, ap, ◌∙◌, append_assoc, append-nil, map, zero-add, add-one, one-add, add-zero, arith, eq-eqb}
+use Rattle.std.proofs.Common.{◌≡◌, ℕ, zero, suc, ◌+◌, ◌<◌, ◌≤◌, Bool, true, false, cond, not, ◌&&◌, ◌||◌, flat_map, get_or, slice_get, ◌==◌, nat_lt, List, [], ◌∷◌, ◌++◌, reverse, take, drop, length, position, Some, None, option_map, unwrap_or, Bor, refl, sym, ap, ◌∙◌, append_assoc, append-nil, map, zero-add, add-one, one-add, arith}
 use mathlib.Core.List.{reverse-cons}
 use Rattle.std.specs.List.{position_or_len, before_first, after_first, range_with_len}
 use Rattle.std.proofs.lemmas.Bool.Decides.{nat_tests}

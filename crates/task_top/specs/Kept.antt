@@ -1,17 +1,17 @@
 -- What the status of a call of `sim_top` says of the input, of what is kept, and of what was written.
-use Rattle.std.specs.Prelude.{◌≡◌, ◌<◌, ◌⊎◌, ℕ, List, [], Option, Some, None, ◌∷◌, length, take}
+use Rattle.std.specs.Prelude.{◌≡◌, ◌<◌, ◌⊎◌, ℕ, List, [], Option, length, take}
 use Rattle.es_io.specs.Bytes.{Appends}
-use Rattle.task_events.specs.declared.event.Event.{Event}
-use Rattle.task_events.specs.declared.event.Event.TheVariants.{End}
-use Rattle.task_events.specs.declared.reply.Reply.TheVariants.{Search}
-use Rattle.task_events.specs.declared.reply.SearchReply.{SearchReply}
-use Rattle.task_events.specs.Printed.{printed}
-use Rattle.task_events.specs.Run.{run_of}
+use Rattle.task_ids.specs.declared.cluster.Cluster.{Cluster}
+use Rattle.task_events.specs.declared.stop.Stop.{Stop}
+use Rattle.task_events.specs.declared.stop.Stop.TheVariants as stops
+use Rattle.task_events.specs.Laws.{IsDrained}
+use Rattle.script_lang.specs.declared.command.Mode.TheVariants.{Sim}
+use Rattle.world_steps.specs.Scripts.{IsRun, IsRunSoFar, StopsRun}
 use Rattle.task_top.specs.declared.kept.Kept.{Kept}
 use Rattle.task_top.specs.declared.status.Status.{Status}
 use Rattle.task_top.specs.declared.status.Status.TheVariants.{Done, Usage, Refused, ReadFault, WriteFault, Memory, NoThread, HistoryFull, NumbersSpent}
-use Rattle.task_top.specs.FirstForm.{Reads, Refuses, search_in}
-use Rattle.task_top.specs.Parts.{IsPartOf}
+use Rattle.task_top.specs.Lines.{printed}
+use Rattle.task_top.specs.Reading.{Reads, Refuses}
 
 -- nothing was read, and nothing happened
 pub record IsNothing (kept : Kept) : Type 0 where
@@ -19,60 +19,83 @@ pub record IsNothing (kept : Kept) : Type 0 where
   pub no_script : kept.script.commands ≡ []
   pub no_event : kept.history ≡ []
 
--- What the input is, given its bytes: it was read as what is kept, or it is refused so, or it was not read to its end.
-abbrev pub AnswersInput : List ℕ → Status → Kept → Type 0
-AnswersInput input Done kept = Reads input kept.corpus kept.script
-AnswersInput input WriteFault kept = Reads input kept.corpus kept.script
-AnswersInput input Memory kept = Reads input kept.corpus kept.script ⊎ IsNothing kept
-AnswersInput input (Refused line cause) kept = Refuses input line cause
-AnswersInput input ReadFault kept = IsNothing kept
-AnswersInput input Usage kept = ⊥
-AnswersInput input NoThread kept = ⊥
-AnswersInput input HistoryFull kept = ⊥
-AnswersInput input NumbersSpent kept = ⊥
+module _ (cluster : Cluster) where
+  -- the input was read as what is kept
+  abbrev pub ReadsAs : List ℕ → Kept → Type 0
+  ReadsAs input kept = Reads Sim cluster input kept.corpus kept.script
 
--- The kept history is the run of what was read, or a first part of it where memory ran out, or nothing where the input was not read.
-abbrev pub RanAsRead : Status → Kept → Type 0
-RanAsRead Done kept = kept.history ≡ run_of kept.corpus (search_in kept.script)
-RanAsRead WriteFault kept = kept.history ≡ run_of kept.corpus (search_in kept.script)
-RanAsRead Memory kept = IsPartOf kept.history (run_of kept.corpus (search_in kept.script))
-RanAsRead (Refused line cause) kept = IsNothing kept
-RanAsRead ReadFault kept = IsNothing kept
-RanAsRead Usage kept = ⊥
-RanAsRead NoThread kept = ⊥
-RanAsRead HistoryFull kept = ⊥
-RanAsRead NumbersSpent kept = ⊥
+  -- What the input is, given its bytes: it was read as what is kept, or it is refused so, or it was not read to its end.
+  abbrev pub AnswersInput : List ℕ → Status → Kept → Type 0
+  AnswersInput input Done kept = ReadsAs input kept
+  AnswersInput input WriteFault kept = ReadsAs input kept
+  AnswersInput input HistoryFull kept = ReadsAs input kept
+  AnswersInput input NumbersSpent kept = ReadsAs input kept
+  AnswersInput input Memory kept = ReadsAs input kept ⊎ IsNothing kept
+  AnswersInput input (Refused line cause) kept = Refuses Sim cluster input line cause
+  AnswersInput input ReadFault kept = IsNothing kept
+  AnswersInput input Usage kept = ⊥
+  AnswersInput input NoThread kept = ⊥
 
--- the lines that what is kept prints, where an index has so many shards
-abbrev pub lines_of : ℕ → Kept → List ℕ
-lines_of shards kept = printed shards (search_in kept.script) kept.history
+  -- the run of the kept script is kept, or a first part of it
+  abbrev pub RanWhole : Kept → Type 0
+  RanWhole kept = IsRun cluster kept.corpus kept.script kept.history
 
--- What was written grew by exactly the lines, or by a first part of them, or not at all.
-abbrev pub WritesLines : ℕ → Option (List ℕ) → Option (List ℕ) → Status → Kept → Type 0
-WritesLines shards old new Done kept = Appends old new (lines_of shards kept)
-WritesLines shards old new WriteFault kept = (n : ℕ) × (n < length (lines_of shards kept)) × Appends old new (take n (lines_of shards kept))
-WritesLines shards old new Memory kept = (n : ℕ) × Appends old new (take n (lines_of shards kept))
-WritesLines shards old new (Refused line cause) kept = new ≡ old
-WritesLines shards old new ReadFault kept = new ≡ old
-WritesLines shards old new Usage kept = ⊥
-WritesLines shards old new NoThread kept = ⊥
-WritesLines shards old new HistoryFull kept = ⊥
-WritesLines shards old new NumbersSpent kept = ⊥
+  abbrev pub RanSoFar : Kept → Type 0
+  RanSoFar kept = IsRunSoFar cluster kept.corpus kept.script kept.history
 
--- A fault is told only where its cause stands: of the source, or of the sink.
-abbrev pub HasCause : Status → Type 0 → Type 0 → Type 0
-HasCause ReadFault source sink = source
-HasCause WriteFault source sink = sink
-HasCause _ source sink = Unit {0}
+  -- The kept history is the run of what was read, or a first part of it where the run came to an early end, or nothing where the input was not read.
+  abbrev pub RanAsRead : Status → Kept → Type 0
+  RanAsRead Done kept = RanWhole kept
+  RanAsRead WriteFault kept = RanWhole kept
+  RanAsRead Memory kept = RanSoFar kept
+  RanAsRead HistoryFull kept = RanSoFar kept
+  RanAsRead NumbersSpent kept = RanSoFar kept
+  RanAsRead (Refused line cause) kept = IsNothing kept
+  RanAsRead ReadFault kept = IsNothing kept
+  RanAsRead Usage kept = ⊥
+  RanAsRead NoThread kept = ⊥
+
+  -- the lines that what is kept prints
+  abbrev pub lines_of : Kept → List ℕ
+  lines_of kept = printed cluster kept.corpus kept.script.commands kept.history
+
+  -- What was written grew by exactly the lines, or by a first part of them, or not at all.
+  abbrev pub WritesLines : Option (List ℕ) → Option (List ℕ) → Status → Kept → Type 0
+  WritesLines old new Done kept = Appends old new (lines_of kept)
+  WritesLines old new WriteFault kept = (n : ℕ) × (n < length (lines_of kept)) × Appends old new (take n (lines_of kept))
+  WritesLines old new Memory kept = (n : ℕ) × Appends old new (take n (lines_of kept))
+  WritesLines old new HistoryFull kept = new ≡ old
+  WritesLines old new NumbersSpent kept = new ≡ old
+  WritesLines old new (Refused line cause) kept = new ≡ old
+  WritesLines old new ReadFault kept = new ≡ old
+  WritesLines old new Usage kept = ⊥
+  WritesLines old new NoThread kept = ⊥
+
+  -- A fault is told only where its cause stands: of the source, or of the sink; and an early end where its cause stands in what happened.
+  abbrev pub HasCause : Status → Kept → Type 0 → Type 0 → Type 0
+  HasCause ReadFault kept source sink = source
+  HasCause WriteFault kept source sink = sink
+  HasCause HistoryFull kept source sink = StopsRun cluster kept.history stops.HistoryFull
+  HasCause NumbersSpent kept source sink = StopsRun cluster kept.history stops.NumbersSpent
+  HasCause _ kept source sink = Unit {0}
+
+-- After a whole run nothing is live, in flight or listed.
+abbrev pub Rests : Status → Kept → Type 0
+Rests Done kept = IsDrained kept.history
+Rests WriteFault kept = IsDrained kept.history
+Rests _ kept = Unit {0}
 
 -- the statuses that can come once the input was read
 abbrev pub IsAfterReading : Status → Type 0
 IsAfterReading Done = Unit {0}
 IsAfterReading WriteFault = Unit {0}
 IsAfterReading Memory = Unit {0}
+IsAfterReading HistoryFull = Unit {0}
+IsAfterReading NumbersSpent = Unit {0}
 IsAfterReading _ = ⊥
 
--- the answer of a search that ended last
-abbrev pub newest_answer : List Event → Option SearchReply
-newest_answer (End task (Search reply) ∷ past) = Some reply
-newest_answer _ = None
+-- what is told of an early end
+abbrev pub early_status : Stop → Status
+early_status stops.HistoryFull = HistoryFull
+early_status stops.NumbersSpent = NumbersSpent
+early_status stops.Memory = Memory

@@ -1,14 +1,10 @@
 pub mod Ends
 pub mod Errors
-pub mod FirstForm
-pub mod Gives
-pub mod Json
 pub mod Kept
 pub mod Lines
 pub mod Looked
-pub mod Parts
 pub mod Options
 pub mod Plan
-pub mod Search
+pub mod Progress
+pub mod Reading
 pub mod Status
-pub mod Views

@@ -1,5 +1,5 @@
 -- The lines of a script's output: one JSON object a command, compact, its keys in byte order, and a newline. Commands are numbered from 1.
-use Rattle.std.specs.Prelude.{◌≡◌, ℕ, ◌+◌, ◌-◌, Bool, true, false, not, List, [], ◌∷◌, ◌++◌, length, map, filter_map, if◌then◌else◌, Option, Some, None, option_and_then, Result, Ok, Err, codes, slice_get, nat_le, unwrap_or}
+use Rattle.std.specs.Prelude.{◌≡◌, ℕ, ◌+◌, ◌-◌, Bool, true, false, List, [], ◌∷◌, ◌++◌, length, map, filter_map, if◌then◌else◌, Option, Some, None, option_and_then, Result, Ok, Err, codes, slice_get, nat_le, unwrap_or}
 use Rattle.std.specs.List.{list_any}
 use Rattle.std.specs.Str.{bytes_eq}
 use Rattle.serde_json.specs.Data.{Data, boolean, string, array}
@@ -10,7 +10,6 @@ use Rattle.query_parse.specs.declared.body.SearchBody.{SearchBody}
 use Rattle.query_parse.specs.Bodies.{body_at}
 use Rattle.task_ids.specs.declared.task_id.TaskId.{TaskId}
 use Rattle.task_ids.specs.declared.cluster.Cluster.{Cluster}
-use Rattle.task_ids.specs.declared.corpus.CorpusLine.{CorpusLine}
 use Rattle.task_ids.specs.declared.corpus.Corpus.{Corpus}
 use Rattle.task_ids.specs.TaskId.{task_id_text}
 use Rattle.script_lang.specs.declared.command.CancelTarget.{CancelTarget}

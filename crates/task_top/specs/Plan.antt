@@ -14,9 +14,3 @@ plan_size (Sim cluster) = size_of cluster
 abbrev pub sim_of : List (List ℕ) → Option Size
 sim_of [] = None
 sim_of (command ∷ options) = if bytes_eq command (codes "sim") then size_asked options else None
-
--- one node, one shard an index, and the default of 256 slots a node
-pub record IsSmall (cluster : Cluster) : Type 0 where
-  pub nodes : cluster.nodes ≡ 1
-  pub shards : cluster.shards ≡ 1
-  pub slots : cluster.slots ≡ 256

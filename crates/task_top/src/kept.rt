@@ -1,4 +1,4 @@
-use crate::script::Script;
+use script_lang::Script;
 use std::alloc::Global;
 use task_events::History;
 use task_ids::{Corpus, Items};

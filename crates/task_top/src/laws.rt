@@ -1,21 +1,24 @@
-ghost use Rattle.std.specs.Prelude.{◌≡◌, ◌<◌, ◌≤◌, ◌↔◌, ◌⊎◌, ℕ, List, None, length};
+ghost use Rattle.std.specs.Prelude.{◌≡◌, ◌<◌, ◌↔◌, ◌⊎◌, ℕ, List, length};
 ghost use Rattle.task_ids.specs.declared.cause.Cause.{Cause};
-ghost use Rattle.task_ids.specs.declared.cause.Cause.TheVariants.{TooLong, NotBuilt};
+ghost use Rattle.task_ids.specs.declared.cause.Cause.TheVariants.{TooLong};
+ghost use Rattle.task_ids.specs.declared.cluster.Cluster.{Cluster};
 ghost use Rattle.task_ids.specs.declared.corpus.Corpus.{Corpus};
-ghost use Rattle.task_top.specs.declared.script.Script.{Script};
-ghost use Rattle.task_top.specs.FirstForm.{max_input, first_form, Reads, Refuses, IsRead, IsRefused};
+ghost use Rattle.script_lang.specs.declared.command.Mode.{Mode};
+ghost use Rattle.script_lang.specs.declared.command.Script.{Script};
+ghost use Rattle.task_top.specs.Reading.{max_input, Reads, Refuses, IsRead, IsRefused};
 
-/// Any bytes are read as one corpus and one script or refused at one line for one cause, and never both.
+/// In a mode and for a cluster any bytes are read as one corpus and one script or refused at one line for one cause, and
+/// never both.
 ///
 /// It computes nothing: its contract is the law.
 pub fn one_reading()
-    ensures either { (input : List ℕ) → IsRead input ⊎ IsRefused input }
-    ensures never_both { (input : List ℕ) → IsRead input → IsRefused input → ⊥ }
-    ensures one_corpus_and_script { (input : List ℕ) (c d : Corpus) (s t : Script) → Reads input c s → Reads input d t → (c ≡ d) × (s ≡ t) }
-    ensures one_line_and_cause { (input : List ℕ) (l m : ℕ) (c d : Cause) → Refuses input l c → Refuses input m d → (l ≡ m) × (c ≡ d) }
+    ensures either { (mode : Mode) (cluster : Cluster) (input : List ℕ) → IsRead mode cluster input ⊎ IsRefused mode cluster input }
+    ensures never_both { (mode : Mode) (cluster : Cluster) (input : List ℕ) → IsRead mode cluster input → IsRefused mode cluster input → ⊥ }
+    ensures one_corpus_and_script { (mode : Mode) (cluster : Cluster) (input : List ℕ) (c d : Corpus) (s t : Script)
+        → Reads mode cluster input c s → Reads mode cluster input d t → (c ≡ d) × (s ≡ t) }
+    ensures one_line_and_cause { (mode : Mode) (cluster : Cluster) (input : List ℕ) (l m : ℕ) (c d : Cause)
+        → Refuses mode cluster input l c → Refuses mode cluster input m d → (l ≡ m) × (c ≡ d) }
 
-    // Which cause it is: an input that is too long, or one that has not the first form.
-    ensures too_long { (input : List ℕ) → Refuses input 0 TooLong ↔ (max_input < length input) }
-    ensures not_built { (input : List ℕ) → Refuses input 0 NotBuilt ↔ ((length input ≤ max_input) × (first_form input ≡ None)) }
-    ensures no_other { (input : List ℕ) (line : ℕ) (cause : Cause) → Refuses input line cause → (line ≡ 0) × ((cause ≡ TooLong) ⊎ (cause ≡ NotBuilt)) }
+    // No line is to blame exactly where the input is too long.
+    ensures too_long { (mode : Mode) (cluster : Cluster) (input : List ℕ) → Refuses mode cluster input 0 TooLong ↔ (max_input < length input) }
 {}

@@ -1,8 +1,8 @@
-ghost use Rattle.std.specs.Prelude.{◌≡◌, ◌≤◌, ◌++◌, false, length, IfOk, OnOk, map, decimal};
+ghost use Rattle.std.specs.Prelude.{◌≡◌, ◌++◌, false, OnOk, map, decimal};
 ghost use Rattle.json.specs.Print.{quoted};
 ghost use Rattle.serde_json.specs.View.{items_of};
 ghost use Rattle.serde_json.specs.Written.{compact_text, items_text};
-ghost use Rattle.task_events.specs.Printed.{hit_json, hits_json, shards_json, search_json, total_json, reply_line};
+ghost use Rattle.task_events.specs.Printed.{hit_json, hits_json, shards_json, search_json, total_json};
 
 use serde_json::Value;
 use std::alloc::{AllocError, Global};
@@ -113,23 +113,4 @@ pub(crate) fn push_reply(
     push_found(alloc, out, reply)?;
     push(out, "}")?;
     Ok(())
-}
-
-/// The line of a search's reply, where its index has so many shards.
-pub fn search_line(
-    alloc: Global,
-    shards: u32,
-    command: u32,
-    reply: &SearchReply,
-) -> Result<Vec<u8>, AllocError>
-    requires { length reply.now.failed ≤ shards }
-    ensures { IfOk result (λ line. line.items ≡ reply_line command (search_json shards reply.now)) }
-{
-    let mut line = Vec::new(alloc);
-    push(&mut line, "{\"command\":")?;
-    push_number(alloc, &mut line, u64::from(command))?;
-    push(&mut line, ",\"reply\":")?;
-    push_reply(alloc, &mut line, shards, reply)?;
-    push(&mut line, "}\n")?;
-    Ok(line)
 }

@@ -1,71 +1,108 @@
-ghost use Rattle.std.specs.Prelude.{◌≡◌, ◌<◌, [], ◌∷◌, length, OnOk, OnErr, Some};
-ghost use Rattle.task_events.specs.declared.history.TheConstants.{MAX_EVENTS};
-ghost use Rattle.task_events.specs.Run.{first_task, run_of};
-ghost use Rattle.task_top.specs.FirstForm.{IsFirstForm, search_in};
-ghost use Rattle.task_top.specs.Parts.{IsPartOf};
+//! The run of a script in a serial world.
 
-use crate::script::Script;
-use crate::search::answer;
-use std::alloc::{AllocError, Global};
-use task_events::{Event, History, PushError, SearchAsk};
-use task_ids::{Corpus, TaskId};
+ghost use Rattle.std.specs.Prelude.{◌≡◌, ◌+◌, ◌≤◌, [], None, Some, length, slice_get, OnOk, IfOk, IfErr};
+ghost use Rattle.task_events.specs.Lawful.{Lawful};
+ghost use Rattle.world_steps.specs.Plain.{AnswersPlainly};
+ghost use Rattle.world_steps.specs.Scripts.{CanRun};
+ghost use Rattle.task_top.specs.Lines.{idle_of};
+ghost use Rattle.task_top.specs.Progress.{HasCome, EndsEarly, EndsWhole};
 
-/// Adds an event to a history that has room for it.
-fn append(history: &mut History, event: Event) -> Result<(), AllocError>
-    requires { length history.old < MAX_EVENTS }
-    ensures ok { OnOk result (history.new ≡ event ∷ history.old) }
-    ensures err { OnErr result (history.new ≡ history.old) }
+use crate::printing::Idle;
+use script_lang::{Command, Script};
+use std::alloc::Global;
+use task_events::{History, Stop};
+use task_ids::{Cluster, Corpus};
+use world_steps::World;
+
+/// Why a command makes nothing happen, if it does not.
+fn idle_of(world: &World<'_>, command: &Command) -> Option<Idle>
+    requires { world.now.stopped ≡ None }
+    ensures { result ≡ idle_of command.now world.now.past }
 {
-    match history.push(event) {
-        Ok(()) => Ok(()),
-        Err(PushError::Full(_)) => unreachable!(),
-        Err(PushError::Memory(_)) => Err(AllocError),
+    match command {
+        Command::Deliver { .. } => {
+            let in_flight = world.in_flight();
+            Some(Idle::NoSuchMessage { in_flight })
+        }
+        Command::Step { task } if world.is_live(*task) => Some(Idle::Waiting),
+        Command::Step { .. } => Some(Idle::NotRunning),
+        Command::ListStep { .. } => Some(Idle::NoListing),
+        _ => None,
     }
 }
 
-/// Runs a script of at most one search: what happens is added to an empty history.
-/// Where memory runs out, the first part of it was added.
-pub fn run_script(
+/// Runs the command at a place, from 0, and notes why it makes nothing happen if it does not.
+fn run_command(
+    world: &mut World<'_>,
+    script: &Script,
+    found: &mut Vec<Option<Idle>>,
+    place: usize,
+    command: &Command,
+) -> Result<(), Stop>
+    requires come { HasCome script.now place found.old.items world.old }
+    requires next { slice_get script.now.commands place ≡ Some command.now }
+    requires few { length script.now.commands ≤ 65535 }
+    ensures ok { OnOk result (HasCome script.now (place + 1) found.new.items world.new) }
+    ensures early { IfErr result (λ stop. EndsEarly world.old.cluster world.old.corpus script.now world.new.past stop) }
+    ensures keeps { world.new ≡ record world.old { past = world.new.past; stopped = world.new.stopped } }
+{
+    let idle = idle_of(world, command);
+    if found.push(idle).is_err() {
+        return Err(Stop::Memory);
+    }
+    world.command(place as u32 + 1)
+}
+
+/// Runs all commands, and notes of each why it makes nothing happen if it does not.
+fn run_commands(
+    world: &mut World<'_>,
+    script: &Script,
+    found: &mut Vec<Option<Idle>>,
+) -> Result<(), Stop>
+    requires come { HasCome script.now 0 found.old.items world.old }
+    requires few { length script.now.commands ≤ 65535 }
+    ensures ok { OnOk result (HasCome script.now (length script.now.commands) found.new.items world.new) }
+    ensures early { IfErr result (λ stop. EndsEarly world.old.cluster world.old.corpus script.now world.new.past stop) }
+    ensures keeps { world.new ≡ record world.old { past = world.new.past; stopped = world.new.stopped } }
+{
+    for (place, command) in script.commands.as_slice().iter().enumerate() {
+        run_command(world, script, found, place, command)?;
+    }
+    Ok(())
+}
+
+/// Runs all commands and drains the world.
+fn run_all(alloc: Global, world: &mut World<'_>, script: &Script) -> Result<Vec<Option<Idle>>, Stop>
+    requires come { HasCome script.now 0 [] world.old }
+    requires few { length script.now.commands ≤ 65535 }
+    ensures whole { IfOk result (λ found. EndsWhole world.old.cluster world.old.corpus script.now world.new.past found.items) }
+    ensures early { IfErr result (λ stop. EndsEarly world.old.cluster world.old.corpus script.now world.new.past stop) }
+    ensures keeps { world.new ≡ record world.old { past = world.new.past; stopped = world.new.stopped } }
+{
+    let mut found = Vec::new(alloc);
+    run_commands(world, script, &mut found)?;
+    world.drain()?;
+    Ok(found)
+}
+
+/// Runs a script over the documents of a corpus: what happened, and of each command why it makes nothing happen if it
+/// does not; or why the run came to an early end.
+pub(crate) fn run_script(
     alloc: Global,
+    cluster: Cluster,
     corpus: &Corpus,
     script: &Script,
-    history: &mut History,
-) -> Result<(), AllocError>
-    requires empty { history.old ≡ [] }
-    requires form { IsFirstForm corpus.now (search_in script.now) }
-    ensures ok { OnOk result (history.new ≡ run_of corpus.now (search_in script.now)) }
-    ensures err { OnErr result (IsPartOf history.new (run_of corpus.now (search_in script.now))) }
+) -> (History, Result<Vec<Option<Idle>>, Stop>)
+    requires can_run { CanRun cluster.nodes script.now.commands }
+    requires few { length script.now.commands ≤ 65535 }
+    ensures whole { IfOk result.1 (λ found. EndsWhole cluster corpus.now script.now result.0 found.items) }
+    ensures early { IfErr result.1 (λ stop. EndsEarly cluster corpus.now script.now result.0 stop) }
+    ensures lawful { Lawful cluster result.0 }
+    ensures plain { AnswersPlainly cluster corpus.now script.now result.0 }
 {
-    match script.search() {
-        None => append(history, Event::Begin { command: 1 }),
-        Some(ask) => run_search(alloc, corpus, ask, history),
-    }
-}
-
-/// The first task of the first node.
-fn first_task() -> TaskId
-    ensures { result ≡ first_task }
-{
-    TaskId { node: 1, number: 1 }
-}
-
-fn run_search(
-    alloc: Global,
-    corpus: &Corpus,
-    ask: &SearchAsk,
-    history: &mut History,
-) -> Result<(), AllocError>
-    requires empty { history.old ≡ [] }
-    requires form { IsFirstForm corpus.now (Some ask.now) }
-    ensures ok { OnOk result (history.new ≡ run_of corpus.now (Some ask.now)) }
-    ensures err { OnErr result (IsPartOf history.new (run_of corpus.now (Some ask.now))) }
-{
-    let task = first_task();
-    append(history, Event::Begin { command: 1 })?;
-    append(history, Event::Root { command: 1, task })?;
-    append(history, Event::Begin { command: 2 })?;
-    append(history, Event::Work { task })?;
-    let reply = answer(alloc, corpus, ask)?;
-    append(history, Event::End { task, reply })?;
-    Ok(())
+    let Ok(mut world) = World::new(alloc, cluster, corpus, script) else {
+        return (History::new(alloc), Err(Stop::Memory));
+    };
+    let found = run_all(alloc, &mut world, script);
+    (world.finish(), found)
 }

@@ -1,6 +1,7 @@
 ghost use Rattle.std.specs.Prelude.{◌<◌};
 
 mod hostile;
+mod scripts;
 mod words;
 
 use crate::{Kept, Status, sim_top};
@@ -97,7 +98,6 @@ fn answers_the_first_search_in_pieces(rt: HostRuntime) -> Result<(), Fail> {
         );
         assert_eq!(rt; ended.kept.corpus.lines.as_slice().len(), 2);
         assert_eq!(rt; ended.kept.script.commands.as_slice().len(), 1);
-        assert_eq!(rt; ended.kept.history.len(), 5);
     }
     Ok(())
 }
@@ -186,7 +186,11 @@ fn a_failing_write_leaves_the_pieces_before_it(rt: HostRuntime) -> Result<(), Fa
             &FIRST_LINE.as_bytes()[..sent],
             "at call {call}"
         );
-        assert_eq!(rt; ended.kept.history.len(), 5, "at call {call}");
+        assert_eq!(rt;
+            ended.kept.corpus.lines.as_slice().len(),
+            2,
+            "at call {call}"
+        );
     }
     Ok(())
 }
@@ -198,18 +202,19 @@ fn refuses_sources_that_are_no_whole_objects(rt: HostRuntime) -> Result<(), Fail
         ("{\"v\":18446744073709551615}", Status::Done),
         (
             "{\"v\":-9223372036854775809}",
-            Status::Refused(0, Cause::NotBuilt),
+            Status::Refused(2, Cause::NotWhole),
         ),
         (
             "{\"v\":18446744073709551616}",
-            Status::Refused(0, Cause::NotBuilt),
+            Status::Refused(2, Cause::NotWhole),
         ),
-        ("{\"v\":1.0}", Status::Refused(0, Cause::NotBuilt)),
-        ("{\"v\":[{\"w\":1e2}]}", Status::Refused(0, Cause::NotBuilt)),
-        ("{\"v\":-0}", Status::Refused(0, Cause::NotBuilt)),
-        ("[]", Status::Refused(0, Cause::NotBuilt)),
-        ("{\"v\":1", Status::Refused(0, Cause::NotBuilt)),
-        ("", Status::Refused(0, Cause::NotBuilt)),
+        ("{\"v\":1.0}", Status::Refused(2, Cause::NotWhole)),
+        ("{\"v\":[{\"w\":1e2}]}", Status::Refused(2, Cause::NotWhole)),
+        ("{\"v\":-0}", Status::Refused(2, Cause::NotWhole)),
+        ("[]", Status::Refused(2, Cause::NotObject)),
+        ("{\"v\":1", Status::Refused(2, Cause::BadJson)),
+        ("", Status::Refused(2, Cause::BadJson)),
+        ("--", Status::Refused(1, Cause::NoSource)),
     ] {
         let input = with_source(rt.alloc(), source)?;
         let ended = sim_text(rt.alloc(), input.as_str())?;
@@ -220,6 +225,32 @@ fn refuses_sources_that_are_no_whole_objects(rt: HostRuntime) -> Result<(), Fail
             "at {source}"
         );
         assert!(rt; ended.out.bytes().is_empty(), "at {source}");
+    }
+    Ok(())
+}
+
+#[test]
+fn refuses_script_lines_by_their_number(rt: HostRuntime) -> Result<(), Fail> {
+    for (script, status) in [
+        ("{\"history\":true}", Status::Done),
+        ("", Status::Done),
+        ("{\"fetch\":{}}", Status::Refused(4, Cause::UnknownCommand)),
+        (
+            "{\"search\":{\"index\":\"a\",\"node\":\"n2\"}}",
+            Status::Refused(4, Cause::UnknownNode),
+        ),
+        ("\n\n{\"deliver\":-1}", Status::Refused(6, Cause::BadField)),
+    ] {
+        let input = format!(in rt.alloc();
+            "{{\"index\":{{\"_index\":\"a\"}}}}\n{{}}\n--\n{script}"
+        )?;
+        let ended = sim_text(rt.alloc(), input.as_str())?;
+        assert_eq!(rt; ended.status, status, "at {script}");
+        assert_eq!(rt;
+            ended.has_read_nothing(),
+            status != Status::Done,
+            "at {script}"
+        );
     }
     Ok(())
 }

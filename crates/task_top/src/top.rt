@@ -1,48 +1,57 @@
-ghost use Rattle.std.specs.Prelude.{◌≡◌, Some, IfSome, option_map};
+ghost use Rattle.std.specs.Prelude.{◌≡◌, ◌≤◌, ◌++◌, List, length, IfSome};
 ghost use Rattle.es_io.specs.Count.{Rose};
+ghost use Rattle.task_events.specs.declared.event.Event.{Event};
 ghost use Rattle.task_events.specs.Lawful.{Lawful};
-ghost use Rattle.task_events.specs.Run.{run_of};
-ghost use Rattle.task_top.specs.FirstForm.{IsFirstForm, search_in};
-ghost use Rattle.task_top.specs.Kept.{AnswersInput, RanAsRead, WritesLines, HasCause, IsAfterReading, newest_answer};
-ghost use Rattle.task_top.specs.Plan.{IsSmall};
+ghost use Rattle.task_events.specs.Laws.{OnePlace};
+ghost use Rattle.world_steps.specs.Plain.{AnswersPlainly};
+ghost use Rattle.world_steps.specs.Scripts.{CanRun};
+ghost use Rattle.task_top.specs.Kept.{AnswersInput, RanAsRead, Rests, WritesLines, HasCause, IsAfterReading, early_status};
+ghost use Rattle.task_top.specs.Progress.{EndsWhole};
 
-use crate::fault::FormError;
 use crate::kept::Kept;
-use crate::print::search_line;
+use crate::printing::{Idle, print_lines};
 use crate::reading::read_input;
 use crate::run::run_script;
-use crate::script::Script;
 use crate::status::Status;
 use es_io::{ReadAll, Sink, Source, read_all, write_all_of};
+use script_lang::{Script, ScriptError};
 use std::alloc::Global;
-use task_events::{Event, History, Reply, SearchReply};
+use task_events::Stop;
 use task_ids::{Cause, Cluster, Corpus};
+use task_laws::{earlier_is_lawful, one_place};
 
 /// How many bytes an input has at most.
 const MAX_INPUT: usize = 67_108_864;
 
-/// Reads an input to its end, runs it step by step, and writes the line of each command.
+/// Reads an input to its end, runs its script step by step on a cluster, and writes the line of each command.
 ///
-/// The input is documents as Elasticsearch's bulk API takes them, a line `--`, and at most one search. So far the
-/// cluster has one node and an index has one shard.
+/// The input is documents as Elasticsearch's bulk API takes them, a line `--`, and the lines of a script. The script runs in
+/// a serial world: its nodes are simulated, and one thing happens after another. After the last command the world is
+/// drained, so that nothing goes on when the call ends.
+///
+/// The lines are written once all has run. Where the run comes to an early end nothing is written.
 pub fn sim_top<S: Source, K: Sink>(
     alloc: Global,
     cluster: &Cluster,
     input: &mut S,
     out: &mut K,
 ) -> (Status, Kept)
-    requires { IsSmall cluster.now }
-
     // Where the source tells its bytes: they were read as what is kept, or they are refused so.
-    ensures input { IfSome (S.left input.old) (λ bytes. AnswersInput bytes result.0 result.1) }
+    ensures input { IfSome (S.left input.old) (λ bytes. AnswersInput cluster.now bytes result.0 result.1) }
     // What happened is the run of what was read.
-    ensures run { RanAsRead result.0 result.1 }
+    ensures run { RanAsRead cluster.now result.0 result.1 }
     // Each event of it was allowed when it came, so the laws of cancellation hold of it at every moment.
     ensures lawful { Lawful cluster.now result.1.history }
+    // So at every moment each unanswered ask is in one place: its request or its answer is in flight, or its child is live.
+    ensures one_place { (later h : List Event) → later ++ h ≡ result.1.history → OnePlace h }
+    // Each search that ended in it replied with the plain answer.
+    ensures plain { AnswersPlainly cluster.now result.1.corpus result.1.script result.1.history }
+    // After a whole run nothing is live or in flight.
+    ensures rests { Rests result.0 result.1 }
     // Where the sink tells its bytes: they grew by the printed lines of the run.
-    ensures output { WritesLines cluster.now.shards (K.written out.old) (K.written out.new) result.0 result.1 }
-    // A fault has its cause.
-    ensures cause { HasCause result.0 (Rose (S.faults input.old) (S.faults input.new)) (Rose (K.faults out.old) (K.faults out.new)) }
+    ensures output { WritesLines cluster.now (K.written out.old) (K.written out.new) result.0 result.1 }
+    // A fault and an early end have their cause.
+    ensures cause { HasCause cluster.now result.0 result.1 (Rose (S.faults input.old) (S.faults input.new)) (Rose (K.faults out.old) (K.faults out.new)) }
 {
     let bytes = match read_all(alloc, input, MAX_INPUT) {
         Ok(bytes) => bytes,
@@ -52,77 +61,92 @@ pub fn sim_top<S: Source, K: Sink>(
         }
         Err(ReadAll::Memory) => return (Status::Memory, Kept::nothing(alloc)),
     };
-    match read_input(alloc, bytes.as_slice()) {
-        Ok((corpus, script)) => run_and_print(alloc, cluster.shards, corpus, script, out),
-        Err(FormError::NotFirstForm) => {
-            (Status::Refused(0, Cause::NotBuilt), Kept::nothing(alloc))
+    // The laws of each moment of a lawful history. They compute nothing.
+    earlier_is_lawful();
+    one_place();
+    match read_input(alloc, cluster, bytes.as_slice()) {
+        Ok((corpus, script)) => run_and_print(alloc, cluster, corpus, script, out),
+        Err(ScriptError::Bad { line, cause }) => {
+            (Status::Refused(line, cause), Kept::nothing(alloc))
         }
-        Err(FormError::Memory) => (Status::Memory, Kept::nothing(alloc)),
+        Err(ScriptError::Memory) => (Status::Memory, Kept::nothing(alloc)),
     }
 }
 
 /// Runs what was read, and writes the line of each command.
 fn run_and_print<K: Sink>(
     alloc: Global,
-    shards: u32,
+    cluster: &Cluster,
     corpus: Corpus,
     script: Script,
     out: &mut K,
 ) -> (Status, Kept)
-    requires one_shard { shards ≡ 1 }
-    requires form { IsFirstForm corpus (search_in script) }
+    requires can_run { CanRun cluster.now.nodes script.commands }
+    requires few { length script.commands ≤ 65535 }
     ensures corpus { result.1.corpus ≡ corpus }
     ensures script { result.1.script ≡ script }
     ensures status { IsAfterReading result.0 }
-    ensures run { RanAsRead result.0 result.1 }
-    ensures output { WritesLines shards (K.written out.old) (K.written out.new) result.0 result.1 }
-    ensures cause { HasCause result.0 ⊥ (Rose (K.faults out.old) (K.faults out.new)) }
+    ensures run { RanAsRead cluster.now result.0 result.1 }
+    ensures lawful { Lawful cluster.now result.1.history }
+    ensures plain { AnswersPlainly cluster.now result.1.corpus result.1.script result.1.history }
+    ensures rests { Rests result.0 result.1 }
+    ensures output { WritesLines cluster.now (K.written out.old) (K.written out.new) result.0 result.1 }
+    ensures cause { HasCause cluster.now result.0 result.1 ⊥ (Rose (K.faults out.old) (K.faults out.new)) }
 {
-    let mut history = History::new(alloc);
-    let ran = run_script(alloc, &corpus, &script, &mut history);
+    let (history, ran) = run_script(alloc, *cluster, &corpus, &script);
     let kept = Kept {
         corpus,
         script,
         history,
     };
-    if ran.is_err() {
-        return (Status::Memory, kept);
+    match ran {
+        Ok(found) => {
+            let status = write_lines(alloc, cluster, &kept, found.as_slice(), out);
+            (status, kept)
+        }
+        Err(stop) => (early_status(stop), kept),
     }
-    let status = print_lines(alloc, shards, &kept, out);
-    (status, kept)
 }
 
-/// Writes the line of each command of a run.
-fn print_lines<K: Sink>(alloc: Global, shards: u32, kept: &Kept, out: &mut K) -> Status
-    requires one_shard { shards ≡ 1 }
-    requires ran { kept.now.history ≡ run_of kept.now.corpus (search_in kept.now.script) }
-    ensures status { IsAfterReading result }
-    ensures output { WritesLines shards (K.written out.old) (K.written out.new) result kept.now }
-    ensures cause { HasCause result ⊥ (Rose (K.faults out.old) (K.faults out.new)) }
+/// What is told of a run that came to an early end.
+fn early_status(stop: Stop) -> Status
+    ensures { result ≡ early_status stop }
 {
-    let Some(reply) = newest_answer(&kept.history) else {
-        return Status::Done;
-    };
-    let Ok(line) = search_line(alloc, shards, 1, reply) else {
-        return Status::Memory;
-    };
-    match write_all_of(out, line.as_slice()) {
+    match stop {
+        Stop::HistoryFull => Status::HistoryFull,
+        Stop::NumbersSpent => Status::NumbersSpent,
+        Stop::Memory => Status::Memory,
+    }
+}
+
+/// Writes the line of each command after a whole run.
+fn write_lines<K: Sink>(
+    alloc: Global,
+    cluster: &Cluster,
+    kept: &Kept,
+    found: &[Option<Idle>],
+    out: &mut K,
+) -> Status
+    requires few { length kept.now.script.commands ≤ 65535 }
+    requires ran { EndsWhole cluster.now kept.now.corpus kept.now.script kept.now.history found.now }
+    ensures status { IsAfterReading result }
+    ensures run { RanAsRead cluster.now result kept.now }
+    ensures rests { Rests result kept.now }
+    ensures output { WritesLines cluster.now (K.written out.old) (K.written out.new) result kept.now }
+    ensures cause { HasCause cluster.now result kept.now ⊥ (Rose (K.faults out.old) (K.faults out.new)) }
+{
+    let Kept {
+        corpus,
+        script,
+        history,
+    } = kept;
+    let mut text = Vec::new(alloc);
+    match print_lines(alloc, cluster, corpus, script, history, found, &mut text) {
+        Ok(()) => {}
+        Err(_) => return Status::Memory,
+    }
+    match write_all_of(out, text.as_slice()) {
         Ok(()) => Status::Done,
         Err(_) => Status::WriteFault,
-    }
-}
-
-/// The answer of a search that ended last.
-fn newest_answer(history: &History) -> Option<&SearchReply>
-    ensures { option_map (λ reply. reply.now) result ≡ newest_answer history.now }
-{
-    match history.newest() {
-        Some(
-            Event::End {
-                reply: Reply::Search(reply),
-                ..
-            },
-        ) => Some(reply.get()),
-        _ => None,
     }
 }

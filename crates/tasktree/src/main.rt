@@ -4,8 +4,7 @@
 //! status says which kind it was.
 #![tactic(auto)]
 
-ghost use Rattle.std.specs.Prelude.{◌≡◌, ◌⊎◌, IfOk, IfErr};
-ghost use Rattle.task_top.specs.Plan.{IsSmallSim};
+ghost use Rattle.std.specs.Prelude.{◌≡◌, ◌⊎◌, IfErr};
 
 use es_io::{StdSink, StdSource};
 use std::env;
@@ -32,8 +31,7 @@ fn words<R: Env + AllocGlobal>(rt: &R) -> Result<Vec<String>, Status>
 
 /// What the command line asks for.
 fn planned<R: Env + AllocGlobal>(rt: &R) -> Result<Plan, Status>
-    ensures sim { IfOk result IsSmallSim }
-    ensures fault { IfErr result (λ status. (status ≡ Status.Usage) ⊎ (status ≡ Status.Memory)) }
+    ensures { IfErr result (λ status. (status ≡ Status.Usage) ⊎ (status ≡ Status.Memory)) }
 {
     let words = words(rt)?;
     match plan(words.as_slice()) {

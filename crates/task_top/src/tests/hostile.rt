@@ -16,7 +16,7 @@ fn repeated(alloc: Global, text: &str, count: usize) -> Result<String, Fail> {
 #[test]
 fn refuses_a_byte_that_is_not_utf8(rt: HostRuntime) -> Result<(), Fail> {
     let ended = sim(rt.alloc(), bytes_of(rt.alloc(), 255, 1)?, 1, 0, 0)?;
-    assert_eq!(rt; ended.status, Status::Refused(0, Cause::NotBuilt));
+    assert_eq!(rt; ended.status, Status::Refused(1, Cause::BadUtf8));
     assert!(rt; ended.has_read_nothing());
     Ok(())
 }
@@ -25,7 +25,7 @@ fn refuses_a_byte_that_is_not_utf8(rt: HostRuntime) -> Result<(), Fail> {
 fn reads_lists_nested_up_to_the_limit(rt: HostRuntime) -> Result<(), Fail> {
     for (lists, status) in [
         (126, Status::Done),
-        (127, Status::Refused(0, Cause::NotBuilt)),
+        (127, Status::Refused(2, Cause::BadJson)),
     ] {
         let opened = repeated(rt.alloc(), "[", lists)?;
         let closed = repeated(rt.alloc(), "]", lists)?;
@@ -41,7 +41,7 @@ fn reads_lists_nested_up_to_the_limit(rt: HostRuntime) -> Result<(), Fail> {
 fn reads_lines_up_to_the_longest(rt: HostRuntime) -> Result<(), Fail> {
     for (letters, status) in [
         (1_048_568, Status::Done),
-        (1_048_569, Status::Refused(0, Cause::NotBuilt)),
+        (1_048_569, Status::Refused(2, Cause::LineTooLong)),
     ] {
         let text = repeated(rt.alloc(), "x", letters)?;
         let source = format!(in rt.alloc(); "{{\"v\":\"{text}\"}}")?;
@@ -54,14 +54,13 @@ fn reads_lines_up_to_the_longest(rt: HostRuntime) -> Result<(), Fail> {
 
 #[test]
 fn refuses_more_bytes_than_the_limit(rt: HostRuntime) -> Result<(), Fail> {
-    for (count, cause) in [(67_108_864, Cause::NotBuilt), (67_108_865, Cause::TooLong)] {
-        let input = bytes_of(rt.alloc(), b'\n', count)?;
+    for (count, status) in [
+        (67_108_864, Status::Refused(1, Cause::LineTooLong)),
+        (67_108_865, Status::Refused(0, Cause::TooLong)),
+    ] {
+        let input = bytes_of(rt.alloc(), b'x', count)?;
         let ended = sim(rt.alloc(), input, 65536, 0, 0)?;
-        assert_eq!(rt;
-            ended.status,
-            Status::Refused(0, cause),
-            "with {count} newlines"
-        );
+        assert_eq!(rt; ended.status, status, "with {count} letters");
         assert!(rt; ended.has_read_nothing());
         assert!(rt; ended.out.bytes().is_empty());
     }

@@ -1,4 +1,4 @@
-use Rattle.std.proofs.Common.{◌≡◌, ◌++◌, ℕ, List, ap, ◌∙◌, subst, OnOk}
+use Rattle.std.proofs.Common.{◌≡◌, ◌++◌, ℕ, List, ◌∙◌, subst, OnOk}
 use Rattle.task_top.proofs.FoundLemmas.{output_of, printed_as_found}
 use Rattle.task_top.proofs.printing.lines.print_lines.Goals as goal
 

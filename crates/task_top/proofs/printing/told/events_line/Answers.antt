@@ -1,8 +1,5 @@
-use Rattle.std.proofs.Common.{◌≤◌, length, map, flat_map, arith}
+use Rattle.std.proofs.Common.{◌≤◌, length, arith}
 use Rattle.std.proofs.lemmas.List.{drop_all}
-use Rattle.serde_json.specs.Data.{string}
-use Rattle.serde_json.specs.View.{items_of}
-use Rattle.task_top.specs.Lines.{told}
 use Rattle.task_top.proofs.PrintLemmas.{list_text}
 use Rattle.task_top.proofs.printing.told.events_line.Goals as goal
 

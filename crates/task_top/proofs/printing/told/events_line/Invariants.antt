@@ -1,4 +1,4 @@
-use Rattle.std.proofs.Common.{◌≡◌, ◌++◌, List, map, drop, flat_map, codes, decimal, false}
+use Rattle.std.proofs.Common.{◌≡◌, ◌++◌, map, drop, flat_map, codes, decimal, false}
 use Rattle.serde_json.specs.Data.{string}
 use Rattle.serde_json.specs.View.{items_of}
 use Rattle.serde_json.specs.Written.{items_text}

@@ -1,4 +1,4 @@
-use Rattle.std.proofs.Common.{◌≡◌, ◌≤◌, ◌+◌, length, flat_map, take, arith, ◌∙◌, sym, ap}
+use Rattle.std.proofs.Common.{◌≤◌, ◌+◌, length, arith, sym, ap}
 use Rattle.std.proofs.lemmas.List.{length-take-le}
 use Rattle.task_top.proofs.TurnLemmas.{many_turns, told_lent}
 use Rattle.task_top.proofs.printing.run.Run.turns_before.Goals as goal
