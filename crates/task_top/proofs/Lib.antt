@@ -1,5 +1,4 @@
 pub mod EndLemmas
-pub mod FitLemmas
 pub mod FoundLemmas
 pub mod KnownLemmas
 pub mod NumberLemmas

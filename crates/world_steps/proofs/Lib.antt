@@ -13,6 +13,7 @@ pub mod EndsGood
 pub mod EndsListed
 pub mod FactsAfter
 pub mod FirstReady
+pub mod Fitting
 pub mod FlightAfter
 pub mod Kept
 pub mod Listed

@@ -18,6 +18,8 @@ mod shards;
 mod starting;
 mod state;
 mod steps;
+#[cfg(test)]
+mod tests;
 mod turns;
 mod world;
 

@@ -27,8 +27,10 @@ fn messages_are_delivered_as_the_script_says(rt: HostRuntime) -> Result<(), Fail
         shards: 2,
         slots: 256,
     };
-    let script = "{\"search\":{\"index\":\"a\",\"body\":{\"query\":{\"term\":{\"c\":\"red\"}}}}}\n{\"step\":\"n1:1\"}\n{\"step\":\"n1:1\"}\n{\"deliver\":1}\n{\"deliver\":0}\n{\"step\":\"n2:1\"}\n{\"step\":\"n2:1\"}\n{\"step\":\"n2:1\"}\n{\"step\":\"n1:2\"}\n{\"step\":\"n1:2\"}\n{\"step\":\"n1:2\"}\n{\"deliver\":1}\n{\"deliver\":0}\n";
-    let lines = "{\"command\":1,\"reply\":{\"_shards\":{\"failed\":0,\"successful\":2,\"total\":2},\"hits\":{\"hits\":[{\"_id\":\"1\",\"_index\":\"a\",\"_source\":{\"c\":\"red\",\"n\":1}},{\"_id\":\"3\",\"_index\":\"a\",\"_source\":{\"c\":\"red\",\"n\":3}},{\"_id\":\"5\",\"_index\":\"a\",\"_source\":{\"c\":\"red\",\"n\":5}}],\"total\":{\"relation\":\"eq\",\"value\":3}}}}\n{\"command\":2,\"reply\":[\"ask n1:1 1 n1\"]}\n{\"command\":3,\"reply\":[\"ask n1:1 2 n2\"]}\n{\"command\":4,\"reply\":[\"put n2:1 n1:1 2\"]}\n{\"command\":5,\"reply\":[\"put n1:2 n1:1 1\"]}\n{\"command\":6,\"reply\":[\"pass n2:1\"]}\n{\"command\":7,\"reply\":[\"work n2:1\"]}\n{\"command\":8,\"reply\":[\"end n2:1 done\"]}\n{\"command\":9,\"reply\":[\"pass n1:2\"]}\n{\"command\":10,\"reply\":[\"work n1:2\"]}\n{\"command\":11,\"reply\":[\"end n1:2 done\"]}\n{\"command\":12,\"reply\":[\"answered n1:1 1\"]}\n{\"command\":13,\"reply\":[\"answered n1:1 2\"]}\n";
+    let script =
+        "{\"search\":{\"index\":\"a\",\"body\":{\"query\":{\"term\":{\"c\":\"red\"}}}}}\n{\"step\":\"n1:1\"}\n{\"step\":\"n1:1\"}\n{\"deliver\":1}\n{\"deliver\":0}\n{\"step\":\"n2:1\"}\n{\"step\":\"n2:1\"}\n{\"step\":\"n2:1\"}\n{\"step\":\"n1:2\"}\n{\"step\":\"n1:2\"}\n{\"step\":\"n1:2\"}\n{\"deliver\":1}\n{\"deliver\":0}\n";
+    let lines =
+        "{\"command\":1,\"reply\":{\"_shards\":{\"failed\":0,\"successful\":2,\"total\":2},\"hits\":{\"hits\":[{\"_id\":\"1\",\"_index\":\"a\",\"_source\":{\"c\":\"red\",\"n\":1}},{\"_id\":\"3\",\"_index\":\"a\",\"_source\":{\"c\":\"red\",\"n\":3}},{\"_id\":\"5\",\"_index\":\"a\",\"_source\":{\"c\":\"red\",\"n\":5}}],\"total\":{\"relation\":\"eq\",\"value\":3}}}}\n{\"command\":2,\"reply\":[\"ask n1:1 1 n1\"]}\n{\"command\":3,\"reply\":[\"ask n1:1 2 n2\"]}\n{\"command\":4,\"reply\":[\"put n2:1 n1:1 2\"]}\n{\"command\":5,\"reply\":[\"put n1:2 n1:1 1\"]}\n{\"command\":6,\"reply\":[\"pass n2:1\"]}\n{\"command\":7,\"reply\":[\"work n2:1\"]}\n{\"command\":8,\"reply\":[\"end n2:1 done\"]}\n{\"command\":9,\"reply\":[\"pass n1:2\"]}\n{\"command\":10,\"reply\":[\"work n1:2\"]}\n{\"command\":11,\"reply\":[\"end n1:2 done\"]}\n{\"command\":12,\"reply\":[\"answered n1:1 1\"]}\n{\"command\":13,\"reply\":[\"answered n1:1 2\"]}\n";
     let (status, out) = printed(rt.alloc(), cluster, script)?;
     assert_eq!(rt; status, Status::Done);
     assert_eq!(rt; out.bytes(), lines.as_bytes());
@@ -42,8 +44,10 @@ fn a_delivery_past_the_end_and_a_step_of_no_task_are_told(rt: HostRuntime) -> Re
         shards: 3,
         slots: 256,
     };
-    let script = "{\"search\":{\"index\":\"a\",\"body\":{}}}\n{\"step\":\"n1:1\"}\n{\"step\":\"n1:1\"}\n{\"step\":\"n1:1\"}\n{\"deliver\":3}\n{\"step\":\"n3:9\"}\n";
-    let lines = "{\"command\":1,\"reply\":{\"_shards\":{\"failed\":0,\"successful\":3,\"total\":3},\"hits\":{\"hits\":[{\"_id\":\"3\",\"_index\":\"a\",\"_source\":{\"c\":\"red\",\"n\":3}},{\"_id\":\"1\",\"_index\":\"a\",\"_source\":{\"c\":\"red\",\"n\":1}},{\"_id\":\"4\",\"_index\":\"a\",\"_source\":{\"c\":\"blue\",\"n\":4}},{\"_id\":\"2\",\"_index\":\"a\",\"_source\":{\"c\":\"blue\",\"n\":2}},{\"_id\":\"5\",\"_index\":\"a\",\"_source\":{\"c\":\"red\",\"n\":5}}],\"total\":{\"relation\":\"eq\",\"value\":5}}}}\n{\"command\":2,\"reply\":[\"ask n1:1 1 n1\"]}\n{\"command\":3,\"reply\":[\"ask n1:1 2 n2\"]}\n{\"command\":4,\"reply\":[\"ask n1:1 3 n3\"]}\n{\"command\":5,\"error\":{\"in_flight\":3,\"type\":\"no_such_message\"}}\n{\"command\":6,\"error\":{\"type\":\"not_running\"}}\n";
+    let script =
+        "{\"search\":{\"index\":\"a\",\"body\":{}}}\n{\"step\":\"n1:1\"}\n{\"step\":\"n1:1\"}\n{\"step\":\"n1:1\"}\n{\"deliver\":3}\n{\"step\":\"n3:9\"}\n";
+    let lines =
+        "{\"command\":1,\"reply\":{\"_shards\":{\"failed\":0,\"successful\":3,\"total\":3},\"hits\":{\"hits\":[{\"_id\":\"3\",\"_index\":\"a\",\"_source\":{\"c\":\"red\",\"n\":3}},{\"_id\":\"1\",\"_index\":\"a\",\"_source\":{\"c\":\"red\",\"n\":1}},{\"_id\":\"4\",\"_index\":\"a\",\"_source\":{\"c\":\"blue\",\"n\":4}},{\"_id\":\"2\",\"_index\":\"a\",\"_source\":{\"c\":\"blue\",\"n\":2}},{\"_id\":\"5\",\"_index\":\"a\",\"_source\":{\"c\":\"red\",\"n\":5}}],\"total\":{\"relation\":\"eq\",\"value\":5}}}}\n{\"command\":2,\"reply\":[\"ask n1:1 1 n1\"]}\n{\"command\":3,\"reply\":[\"ask n1:1 2 n2\"]}\n{\"command\":4,\"reply\":[\"ask n1:1 3 n3\"]}\n{\"command\":5,\"error\":{\"in_flight\":3,\"type\":\"no_such_message\"}}\n{\"command\":6,\"error\":{\"type\":\"not_running\"}}\n";
     let (status, out) = printed(rt.alloc(), cluster, script)?;
     assert_eq!(rt; status, Status::Done);
     assert_eq!(rt; out.bytes(), lines.as_bytes());
@@ -57,8 +61,10 @@ fn a_task_that_waits_is_told(rt: HostRuntime) -> Result<(), Fail> {
         shards: 2,
         slots: 256,
     };
-    let script = "{\"search\":{\"index\":\"a\",\"body\":{}}}\n{\"step\":\"n1:1\"}\n{\"step\":\"n1:1\"}\n{\"step\":\"n1:1\"}\n";
-    let lines = "{\"command\":1,\"reply\":{\"_shards\":{\"failed\":0,\"successful\":2,\"total\":2},\"hits\":{\"hits\":[{\"_id\":\"2\",\"_index\":\"a\",\"_source\":{\"c\":\"blue\",\"n\":2}},{\"_id\":\"4\",\"_index\":\"a\",\"_source\":{\"c\":\"blue\",\"n\":4}},{\"_id\":\"1\",\"_index\":\"a\",\"_source\":{\"c\":\"red\",\"n\":1}},{\"_id\":\"3\",\"_index\":\"a\",\"_source\":{\"c\":\"red\",\"n\":3}},{\"_id\":\"5\",\"_index\":\"a\",\"_source\":{\"c\":\"red\",\"n\":5}}],\"total\":{\"relation\":\"eq\",\"value\":5}}}}\n{\"command\":2,\"reply\":[\"ask n1:1 1 n1\"]}\n{\"command\":3,\"reply\":[\"ask n1:1 2 n2\"]}\n{\"command\":4,\"error\":{\"type\":\"waiting\"}}\n";
+    let script =
+        "{\"search\":{\"index\":\"a\",\"body\":{}}}\n{\"step\":\"n1:1\"}\n{\"step\":\"n1:1\"}\n{\"step\":\"n1:1\"}\n";
+    let lines =
+        "{\"command\":1,\"reply\":{\"_shards\":{\"failed\":0,\"successful\":2,\"total\":2},\"hits\":{\"hits\":[{\"_id\":\"2\",\"_index\":\"a\",\"_source\":{\"c\":\"blue\",\"n\":2}},{\"_id\":\"4\",\"_index\":\"a\",\"_source\":{\"c\":\"blue\",\"n\":4}},{\"_id\":\"1\",\"_index\":\"a\",\"_source\":{\"c\":\"red\",\"n\":1}},{\"_id\":\"3\",\"_index\":\"a\",\"_source\":{\"c\":\"red\",\"n\":3}},{\"_id\":\"5\",\"_index\":\"a\",\"_source\":{\"c\":\"red\",\"n\":5}}],\"total\":{\"relation\":\"eq\",\"value\":5}}}}\n{\"command\":2,\"reply\":[\"ask n1:1 1 n1\"]}\n{\"command\":3,\"reply\":[\"ask n1:1 2 n2\"]}\n{\"command\":4,\"error\":{\"type\":\"waiting\"}}\n";
     let (status, out) = printed(rt.alloc(), cluster, script)?;
     assert_eq!(rt; status, Status::Done);
     assert_eq!(rt; out.bytes(), lines.as_bytes());
@@ -72,8 +78,10 @@ fn settling_delivers_before_it_steps(rt: HostRuntime) -> Result<(), Fail> {
         shards: 2,
         slots: 256,
     };
-    let script = "{\"search\":{\"index\":\"a\",\"node\":\"n3\"}}\n{\"settle\":true}\n{\"history\":true}\n";
-    let lines = "{\"command\":1,\"reply\":{\"_shards\":{\"failed\":0,\"successful\":2,\"total\":2},\"hits\":{\"hits\":[{\"_id\":\"2\",\"_index\":\"a\",\"_source\":{\"c\":\"blue\",\"n\":2}},{\"_id\":\"4\",\"_index\":\"a\",\"_source\":{\"c\":\"blue\",\"n\":4}},{\"_id\":\"1\",\"_index\":\"a\",\"_source\":{\"c\":\"red\",\"n\":1}},{\"_id\":\"3\",\"_index\":\"a\",\"_source\":{\"c\":\"red\",\"n\":3}},{\"_id\":\"5\",\"_index\":\"a\",\"_source\":{\"c\":\"red\",\"n\":5}}],\"total\":{\"relation\":\"eq\",\"value\":5}}}}\n{\"command\":2,\"reply\":{\"events\":25}}\n{\"command\":3,\"reply\":[\"root 1 n3:1\",\"ask n3:1 1 n1\",\"put n1:1 n3:1 1\",\"pass n1:1\",\"work n1:1\",\"end n1:1 done\",\"answered n3:1 1\",\"ask n3:1 2 n2\",\"put n2:1 n3:1 2\",\"pass n2:1\",\"work n2:1\",\"end n2:1 done\",\"answered n3:1 2\",\"ask n3:1 3 n1\",\"put n1:2 n3:1 3\",\"pass n1:2\",\"work n1:2\",\"end n1:2 done\",\"answered n3:1 3\",\"ask n3:1 4 n2\",\"put n2:2 n3:1 4\",\"pass n2:2\",\"work n2:2\",\"end n2:2 done\",\"answered n3:1 4\",\"end n3:1 done\"]}\n";
+    let script =
+        "{\"search\":{\"index\":\"a\",\"node\":\"n3\"}}\n{\"settle\":true}\n{\"history\":true}\n";
+    let lines =
+        "{\"command\":1,\"reply\":{\"_shards\":{\"failed\":0,\"successful\":2,\"total\":2},\"hits\":{\"hits\":[{\"_id\":\"2\",\"_index\":\"a\",\"_source\":{\"c\":\"blue\",\"n\":2}},{\"_id\":\"4\",\"_index\":\"a\",\"_source\":{\"c\":\"blue\",\"n\":4}},{\"_id\":\"1\",\"_index\":\"a\",\"_source\":{\"c\":\"red\",\"n\":1}},{\"_id\":\"3\",\"_index\":\"a\",\"_source\":{\"c\":\"red\",\"n\":3}},{\"_id\":\"5\",\"_index\":\"a\",\"_source\":{\"c\":\"red\",\"n\":5}}],\"total\":{\"relation\":\"eq\",\"value\":5}}}}\n{\"command\":2,\"reply\":{\"events\":25}}\n{\"command\":3,\"reply\":[\"root 1 n3:1\",\"ask n3:1 1 n1\",\"put n1:1 n3:1 1\",\"pass n1:1\",\"work n1:1\",\"end n1:1 done\",\"answered n3:1 1\",\"ask n3:1 2 n2\",\"put n2:1 n3:1 2\",\"pass n2:1\",\"work n2:1\",\"end n2:1 done\",\"answered n3:1 2\",\"ask n3:1 3 n1\",\"put n1:2 n3:1 3\",\"pass n1:2\",\"work n1:2\",\"end n1:2 done\",\"answered n3:1 3\",\"ask n3:1 4 n2\",\"put n2:2 n3:1 4\",\"pass n2:2\",\"work n2:2\",\"end n2:2 done\",\"answered n3:1 4\",\"end n3:1 done\"]}\n";
     let (status, out) = printed(rt.alloc(), cluster, script)?;
     assert_eq!(rt; status, Status::Done);
     assert_eq!(rt; out.bytes(), lines.as_bytes());
@@ -87,8 +95,10 @@ fn a_full_node_rejects_a_child_and_a_root(rt: HostRuntime) -> Result<(), Fail> {
         shards: 2,
         slots: 1,
     };
-    let script = "{\"search\":{\"index\":\"a\",\"body\":{}}}\n{\"search\":{\"index\":\"a\",\"body\":{}}}\n";
-    let lines = "{\"command\":1,\"reply\":{\"_shards\":{\"failed\":1,\"successful\":1,\"total\":2},\"hits\":{\"hits\":[{\"_id\":\"1\",\"_index\":\"a\",\"_source\":{\"c\":\"red\",\"n\":1}},{\"_id\":\"3\",\"_index\":\"a\",\"_source\":{\"c\":\"red\",\"n\":3}},{\"_id\":\"5\",\"_index\":\"a\",\"_source\":{\"c\":\"red\",\"n\":5}}],\"total\":{\"relation\":\"eq\",\"value\":3}}}}\n{\"command\":2,\"error\":{\"node\":\"n1\",\"type\":\"rejected\"}}\n";
+    let script =
+        "{\"search\":{\"index\":\"a\",\"body\":{}}}\n{\"search\":{\"index\":\"a\",\"body\":{}}}\n";
+    let lines =
+        "{\"command\":1,\"reply\":{\"_shards\":{\"failed\":1,\"successful\":1,\"total\":2},\"hits\":{\"hits\":[{\"_id\":\"1\",\"_index\":\"a\",\"_source\":{\"c\":\"red\",\"n\":1}},{\"_id\":\"3\",\"_index\":\"a\",\"_source\":{\"c\":\"red\",\"n\":3}},{\"_id\":\"5\",\"_index\":\"a\",\"_source\":{\"c\":\"red\",\"n\":5}}],\"total\":{\"relation\":\"eq\",\"value\":3}}}}\n{\"command\":2,\"error\":{\"node\":\"n1\",\"type\":\"rejected\"}}\n";
     let (status, out) = printed(rt.alloc(), cluster, script)?;
     assert_eq!(rt; status, Status::Done);
     assert_eq!(rt; out.bytes(), lines.as_bytes());
@@ -102,8 +112,10 @@ fn a_search_of_which_every_shard_is_rejected_fails(rt: HostRuntime) -> Result<()
         shards: 1,
         slots: 1,
     };
-    let script = "{\"search\":{\"index\":\"a\",\"body\":{}}}\n{\"search\":{\"index\":\"a\",\"body\":{}}}\n{\"settle\":true}\n{\"history\":true}\n";
-    let lines = "{\"command\":1,\"error\":{\"shards\":[{\"node\":\"n1\",\"shard\":0,\"type\":\"rejected\"}],\"type\":\"all_shards_failed\"}}\n{\"command\":2,\"error\":{\"node\":\"n1\",\"type\":\"rejected\"}}\n{\"command\":3,\"reply\":{\"events\":4}}\n{\"command\":4,\"reply\":[\"root 1 n1:1\",\"root-rejected 2 n1\",\"ask n1:1 1 n1\",\"reject n1 n1:1 1\",\"answered n1:1 1\",\"end n1:1 failed\"]}\n";
+    let script =
+        "{\"search\":{\"index\":\"a\",\"body\":{}}}\n{\"search\":{\"index\":\"a\",\"body\":{}}}\n{\"settle\":true}\n{\"history\":true}\n";
+    let lines =
+        "{\"command\":1,\"error\":{\"shards\":[{\"node\":\"n1\",\"shard\":0,\"type\":\"rejected\"}],\"type\":\"all_shards_failed\"}}\n{\"command\":2,\"error\":{\"node\":\"n1\",\"type\":\"rejected\"}}\n{\"command\":3,\"reply\":{\"events\":4}}\n{\"command\":4,\"reply\":[\"root 1 n1:1\",\"root-rejected 2 n1\",\"ask n1:1 1 n1\",\"reject n1 n1:1 1\",\"answered n1:1 1\",\"end n1:1 failed\"]}\n";
     let (status, out) = printed(rt.alloc(), cluster, script)?;
     assert_eq!(rt; status, Status::Done);
     assert_eq!(rt; out.bytes(), lines.as_bytes());
@@ -117,8 +129,10 @@ fn a_sort_puts_hits_in_order_and_a_size_cuts_them(rt: HostRuntime) -> Result<(),
         shards: 2,
         slots: 256,
     };
-    let script = "{\"search\":{\"index\":\"a\",\"body\":{\"query\":{\"bool\":{\"must_not\":[{\"term\":{\"c\":\"blue\"}}]}},\"sort\":[{\"n\":{\"order\":\"desc\"}}],\"size\":2}}}\n";
-    let lines = "{\"command\":1,\"reply\":{\"_shards\":{\"failed\":0,\"successful\":2,\"total\":2},\"hits\":{\"hits\":[{\"_id\":\"5\",\"_index\":\"a\",\"_source\":{\"c\":\"red\",\"n\":5}},{\"_id\":\"3\",\"_index\":\"a\",\"_source\":{\"c\":\"red\",\"n\":3}}],\"total\":{\"relation\":\"eq\",\"value\":3}}}}\n";
+    let script =
+        "{\"search\":{\"index\":\"a\",\"body\":{\"query\":{\"bool\":{\"must_not\":[{\"term\":{\"c\":\"blue\"}}]}},\"sort\":[{\"n\":{\"order\":\"desc\"}}],\"size\":2}}}\n";
+    let lines =
+        "{\"command\":1,\"reply\":{\"_shards\":{\"failed\":0,\"successful\":2,\"total\":2},\"hits\":{\"hits\":[{\"_id\":\"5\",\"_index\":\"a\",\"_source\":{\"c\":\"red\",\"n\":5}},{\"_id\":\"3\",\"_index\":\"a\",\"_source\":{\"c\":\"red\",\"n\":3}}],\"total\":{\"relation\":\"eq\",\"value\":3}}}}\n";
     let (status, out) = printed(rt.alloc(), cluster, script)?;
     assert_eq!(rt; status, Status::Done);
     assert_eq!(rt; out.bytes(), lines.as_bytes());
@@ -132,8 +146,10 @@ fn a_window_has_its_limit(rt: HostRuntime) -> Result<(), Fail> {
         shards: 2,
         slots: 256,
     };
-    let script = "{\"search\":{\"index\":\"a\",\"body\":{\"from\":9990,\"size\":10}}}\n{\"search\":{\"index\":\"a\",\"body\":{\"from\":9991,\"size\":10}}}\n";
-    let lines = "{\"command\":1,\"reply\":{\"_shards\":{\"failed\":0,\"successful\":2,\"total\":2},\"hits\":{\"hits\":[],\"total\":{\"relation\":\"eq\",\"value\":5}}}}\n{\"command\":2,\"error\":{\"limit\":10000,\"type\":\"window_too_large\",\"window\":10001}}\n";
+    let script =
+        "{\"search\":{\"index\":\"a\",\"body\":{\"from\":9990,\"size\":10}}}\n{\"search\":{\"index\":\"a\",\"body\":{\"from\":9991,\"size\":10}}}\n";
+    let lines =
+        "{\"command\":1,\"reply\":{\"_shards\":{\"failed\":0,\"successful\":2,\"total\":2},\"hits\":{\"hits\":[],\"total\":{\"relation\":\"eq\",\"value\":5}}}}\n{\"command\":2,\"error\":{\"limit\":10000,\"type\":\"window_too_large\",\"window\":10001}}\n";
     let (status, out) = printed(rt.alloc(), cluster, script)?;
     assert_eq!(rt; status, Status::Done);
     assert_eq!(rt; out.bytes(), lines.as_bytes());
@@ -147,8 +163,10 @@ fn an_unknown_query_is_told(rt: HostRuntime) -> Result<(), Fail> {
         shards: 2,
         slots: 256,
     };
-    let script = "{\"search\":{\"index\":\"a\",\"body\":{\"query\":{\"match\":{\"c\":\"red\"}}}}}\n";
-    let lines = "{\"command\":1,\"error\":{\"kind\":\"unknown_query\",\"path\":\"query.match\",\"type\":\"bad_query\"}}\n";
+    let script =
+        "{\"search\":{\"index\":\"a\",\"body\":{\"query\":{\"match\":{\"c\":\"red\"}}}}}\n";
+    let lines =
+        "{\"command\":1,\"error\":{\"kind\":\"unknown_query\",\"path\":\"query.match\",\"type\":\"bad_query\"}}\n";
     let (status, out) = printed(rt.alloc(), cluster, script)?;
     assert_eq!(rt; status, Status::Done);
     assert_eq!(rt; out.bytes(), lines.as_bytes());

@@ -1,0 +1,19 @@
+-- The commands that are read of a script are those that the world can do.
+use Rattle.std.proofs.Common.{ℕ, List, [], ◌∷◌, ◌++◌}
+use Rattle.script_lang.specs.declared.command.Command.{Command}
+use Rattle.script_lang.specs.declared.command.Command.TheVariants.{Search, Cancel, Deliver, Step, ListStep, Settle, History}
+use Rattle.script_lang.specs.Fits.{Fits, AllFit}
+use Rattle.world_steps.specs.Scripts.{CanDo, CanRun}
+
+one_can : (nodes : ℕ) (before : List Command) (command : Command) → Fits nodes before command → CanDo nodes command
+one_can nodes before (Search index node body) fits = fits
+one_can nodes before (Cancel target reason wait) fits = absurd fits
+one_can nodes before (Deliver nth) fits = tt
+one_can nodes before (Step task) fits = tt
+one_can nodes before (ListStep node parent) fits = absurd fits
+one_can nodes before Settle fits = tt
+one_can nodes before History fits = tt
+
+pub all_can : (nodes : ℕ) (before commands : List Command) → AllFit nodes before commands → CanRun nodes commands
+all_can nodes before [] fits = tt
+all_can nodes before (command ∷ rest) fits = (one_can nodes before command fits.0, all_can nodes (before ++ command ∷ []) rest fits.1)
