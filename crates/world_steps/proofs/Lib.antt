@@ -7,6 +7,7 @@ pub mod ByPlace
 pub mod Calm
 pub mod Children
 pub mod Commanded
+pub mod Determined
 pub mod Empty
 pub mod EndsAfter
 pub mod EndsGood

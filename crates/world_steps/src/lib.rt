@@ -8,6 +8,7 @@ mod asks;
 mod commands;
 mod ends;
 mod flight;
+mod laws;
 mod moving;
 mod ready;
 mod requests;
@@ -24,4 +25,5 @@ mod turns;
 mod world;
 
 pub use acting::Stepped;
+pub use laws::one_run;
 pub use world::{Delivered, World};
