@@ -17,18 +17,18 @@ unban_acts task nodes = map (λ node. SendUnban node task) nodes
 abbrev pub placed_answers : TaskId → List Waiter → List Act
 placed_answers task waiters = map (λ w. AnswerPlaced w.cancel task) (filter (λ w. not w.wait) waiters)
 
--- to those who do
-abbrev pub done_answers : TaskId → ReceiptParts → List Waiter → List Act
-done_answers task receipt waiters = map (λ w. AnswerDone w.cancel task receipt) (filter (λ w. w.wait) waiters)
+-- the answer to one waiter, once the task has ended with this receipt
+abbrev pub answer_act : TaskId → ReceiptParts → Waiter → Act
+answer_act task receipt w = if w.wait then AnswerDone w.cancel task receipt else AnswerPlaced w.cancel task
 
--- once the task has ended
-abbrev pub closing_acts : TaskId → Cancellation → Option ReceiptParts → List Act
-closing_acts task c None = []
-closing_acts task c (Some receipt) = unban_acts task c.banned ++ done_answers task receipt c.waiters
+-- once the bans are placed: while the task has not ended, an answer to each who does not wait for completion; once it has, an unban to each banned node, and an answer to everybody, by ascending number
+abbrev pub placed_acts : TaskId → Cancellation → Option ReceiptParts → List Act
+placed_acts task c None = placed_answers task c.waiters
+placed_acts task c (Some receipt) = unban_acts task c.banned ++ map (answer_act task receipt) c.waiters
 
 -- nothing is due before the bans are placed
 abbrev pub due_acts : TaskId → Cancellation → List Act
-due_acts task c = if is_placed c then placed_answers task c.waiters ++ closing_acts task c c.receipt else []
+due_acts task c = if is_placed c then placed_acts task c c.receipt else []
 
 -- one who joins is answered at once where the bans are placed and he does not wait for completion
 abbrev pub join_acts : TaskId → Cancellation → Waiter → List Act

@@ -1,5 +1,5 @@
 -- What contracts see of the cancellation of one task.
-use Rattle.std.specs.Prelude.{ℕ, Bool, true, false, not, ◌&&◌, ◌==◌, nat_lt, if◌then◌else◌, List, [], ◌∷◌, filter, Option, None, Some, is_some, insert}
+use Rattle.std.specs.Prelude.{◌≡◌, ℕ, Bool, true, false, not, ◌&&◌, ◌==◌, nat_lt, if◌then◌else◌, List, [], ◌∷◌, filter, Option, None, Some, is_some, insert}
 use Rattle.std.specs.List.{position_or_len}
 use Rattle.child_track.specs.Token.{ReceiptParts}
 use Rattle.cancel_core.specs.declared.act.Waiter.{Waiter}
@@ -31,6 +31,10 @@ is_done c = is_placed c && is_some c.receipt
 -- a waiter stands before the first of a greater number
 abbrev pub with_waiter : List Waiter → Waiter → List Waiter
 with_waiter ws w = insert ws (position_or_len (λ v. nat_lt w.cancel v.cancel) ws) w
+
+-- once the bans are placed, those who are still to be answered wait for completion
+abbrev pub WaitsWherePlaced : Cancellation → Type 0
+WaitsWherePlaced c = is_placed c ≡ true → filter (λ w. not w.wait) c.waiters ≡ []
 
 abbrev pub with_ack : Cancellation → ℕ → Cancellation
 with_ack c node = record c { awaited = filter (λ n. not (n == node)) c.awaited }

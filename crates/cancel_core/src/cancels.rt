@@ -8,7 +8,7 @@ ghost use Rattle.task_ids.specs.Limits.{IsNode, IsCancel};
 ghost use Rattle.task_ids.specs.TaskIdOrder.{task_id_cmp};
 ghost use Rattle.task_ids.specs.declared.task_id.TaskId.{TaskId};
 ghost use Rattle.child_track.specs.NodeSet.{nodes_of};
-ghost use Rattle.cancel_core.specs.Cancellation.{Cancellation, with_ack, with_receipt, still_waiting, rest_of};
+ghost use Rattle.cancel_core.specs.Cancellation.{Cancellation, with_ack, with_receipt, still_waiting, rest_of, WaitsWherePlaced};
 ghost use Rattle.cancel_core.specs.Cancellations.{no_cancellations, has_entry, entry_of, with_entry};
 ghost use Rattle.cancel_core.specs.Acts.{ban_acts, first_acts, begun, join_acts, joined_by, due_acts};
 ghost use Rattle.cancel_core.specs.Stage.{seen};
@@ -27,7 +27,8 @@ use task_ids::TaskId;
 ///
 /// A task's bans are placed once each banned node has acknowledged. Then each waiter without `wait` gets
 /// `AnswerPlaced`. Once, besides, the task has ended, `SendUnban` goes to each banned node, each waiter with
-/// `wait` gets `AnswerDone`, and the task's entry goes. A step finds its entry without a scan of the others.
+/// `wait` gets `AnswerDone`, and the task's entry goes. At one step the unbans come first. Several answers come
+/// by ascending number. A step finds its entry without a scan of the others.
 #[derive(Debug, Drop)]
 pub struct CancelCore {
     alloc: Global,
@@ -135,6 +136,7 @@ impl CancelCore {
         ensures joined { OnOk result (self.new
             ≡ with_entry self.old task (Some (joined_by (entry_of self.old task) waiter))) }
         ensures err { OnErr result (self.new ≡ self.old) }
+        ensures waiting { WaitsWherePlaced (entry_of self.old task) }
     {
         let mut acts = Vec::new(self.alloc);
         join_in(&mut self.entries, task, waiter, &mut acts)?;
@@ -260,6 +262,8 @@ fn join_in(
         else tree.get task_id_cmp entries.old q)) }
     ensures err { OnErr result ((q : TaskId)
         → tree.get task_id_cmp entries.new q ≡ tree.get task_id_cmp entries.old q) }
+    ensures waiting { (c : Cancellation) → tree.get task_id_cmp entries.old task ≡ Some c
+        → WaitsWherePlaced c }
 {
     match entries.get_mut(&task) {
         Some(entry) => {

@@ -1,6 +1,6 @@
-ghost use Rattle.std.specs.Prelude.{◌≡◌, IfOk};
+ghost use Rattle.std.specs.Prelude.{◌≡◌, IfOk, map};
 ghost use Rattle.child_track.specs.NodeSet.{nodes_of};
-ghost use Rattle.cancel_core.specs.Acts.{ban_acts, unban_acts, placed_answers, done_answers, closing_acts, due_acts};
+ghost use Rattle.cancel_core.specs.Acts.{ban_acts, unban_acts, placed_answers, answer_act, placed_acts, due_acts};
 ghost use Rattle.cancel_core.specs.Stage.{seen};
 
 use crate::act::{Act, Waiter};
@@ -52,42 +52,56 @@ fn answers_placed(alloc: Global, task: TaskId, waiters: &[Waiter]) -> Result<Vec
         .collect(alloc)
 }
 
-fn answers_done(
+/// The answer to one waiter, once the task has ended.
+fn answer(task: TaskId, receipt: &Receipt, waiter: &Waiter) -> Act
+    ensures { result ≡ answer_act task receipt.now waiter.now }
+{
+    if waiter.wait {
+        Act::AnswerDone {
+            cancel: waiter.cancel,
+            task,
+            receipt: *receipt,
+        }
+    } else {
+        Act::AnswerPlaced {
+            cancel: waiter.cancel,
+            task,
+        }
+    }
+}
+
+fn answers(
     alloc: Global,
     task: TaskId,
     receipt: &Receipt,
     waiters: &[Waiter],
 ) -> Result<Vec<Act>, AllocError>
-    ensures { IfOk result (λ acts. acts.items ≡ done_answers task receipt.now waiters.now) }
+    ensures { IfOk result (λ acts. acts.items
+        ≡ map (answer_act task receipt.now) waiters.now) }
 {
     waiters
         .iter()
-        .filter(|waiter| waiter.wait)
-        .map(|waiter| Act::AnswerDone {
-            cancel: waiter.cancel,
-            task,
-            receipt: *receipt,
-        })
+        .map(|waiter| answer(task, receipt, waiter))
         .collect(alloc)
 }
 
-/// What the end of the task calls for.
-fn closing(
+/// What is due once the bans are placed.
+fn once_placed(
     alloc: Global,
     task: TaskId,
     stage: &Stage,
     waiters: &[Waiter],
 ) -> Result<Vec<Act>, AllocError>
     ensures { IfOk result (λ acts. acts.items
-        ≡ closing_acts task (seen stage.now waiters.now) stage.now.receipt) }
+        ≡ placed_acts task (seen stage.now waiters.now) stage.now.receipt) }
 {
     match &stage.receipt {
         Some(receipt) => {
             let mut acts = unbans(alloc, task, &stage.banned)?;
-            acts.extend_from_slice(answers_done(alloc, task, receipt, waiters)?.as_slice())?;
+            acts.extend_from_slice(answers(alloc, task, receipt, waiters)?.as_slice())?;
             Ok(acts)
         }
-        None => Ok(Vec::new(alloc)),
+        None => answers_placed(alloc, task, waiters),
     }
 }
 
@@ -103,7 +117,5 @@ pub(crate) fn due(
     if !stage.is_placed() {
         return Ok(Vec::new(alloc));
     }
-    let mut acts = answers_placed(alloc, task, waiters)?;
-    acts.extend_from_slice(closing(alloc, task, stage, waiters)?.as_slice())?;
-    Ok(acts)
+    once_placed(alloc, task, stage, waiters)
 }

@@ -1,7 +1,7 @@
 ghost use Rattle.std.specs.Prelude.{◌≡◌, ◌++◌, ◌↔◌, ◌&&◌, not, filter, position, Contains, IsTrue, is_some, nat_lt, IfOk, OnOk, OnErr};
 ghost use Rattle.std.specs.List.Sorted.{IsNonDecreasingBy};
 ghost use Rattle.child_track.specs.NodeSet.{nodes_of};
-ghost use Rattle.cancel_core.specs.Cancellation.{opened, is_placed, with_waiter, with_ack, with_receipt, still_waiting};
+ghost use Rattle.cancel_core.specs.Cancellation.{opened, is_placed, with_waiter, with_ack, with_receipt, still_waiting, WaitsWherePlaced};
 ghost use Rattle.cancel_core.specs.Acts.{join_acts, joined_by, first_acts, begun};
 
 use crate::act::{Act, Waiter};
@@ -20,7 +20,7 @@ pub(crate) struct Entry {
 
 impl Model for Entry {
     ghost use Rattle.std.specs.List.Sorted.{IsNonDecreasingBy};
-    ghost use Rattle.cancel_core.specs.Cancellation.{Cancellation};
+    ghost use Rattle.cancel_core.specs.Cancellation.{Cancellation, WaitsWherePlaced};
     ghost use Rattle.cancel_core.specs.Cancellations.{coded_cancellation};
     ghost use Rattle.cancel_core.specs.Stage.{seen};
 
@@ -30,7 +30,8 @@ impl Model for Entry {
 
     ghost view = { λ a. seen a.stage a.waiters.items };
 
-    ghost invariant = { λ a. IsNonDecreasingBy (λ w. w.cancel) a.waiters.items };
+    ghost invariant = { λ a. IsNonDecreasingBy (λ w. w.cancel) a.waiters.items
+        × WaitsWherePlaced (seen a.stage a.waiters.items) };
 }
 
 impl Entry {
@@ -126,6 +127,7 @@ impl Entry {
             ≡ acts.old.items ++ join_acts task self.old waiter) }
         ensures joined { OnOk result (self.new ≡ joined_by self.old waiter) }
         ensures err { OnErr result (self.new ≡ self.old) }
+        ensures waiting { WaitsWherePlaced self.old }
     {
         if self.answers_at_once(&waiter) {
             acts.push(Act::AnswerPlaced {

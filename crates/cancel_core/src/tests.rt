@@ -121,7 +121,36 @@ fn those_who_join_are_answered_by_ascending_number(rt: HostRuntime) -> Result<()
         receipt,
     });
     let acts = ack(&rt, &mut core, task, 2)?;
-    assert_eq!(rt; acts.as_slice(), [placed, unban, seven, nine].as_slice());
+    assert_eq!(rt; acts.as_slice(), [unban, placed, seven, nine].as_slice());
+    Ok(())
+}
+
+#[test]
+fn answers_of_both_kinds_come_in_one_order(rt: HostRuntime) -> Result<(), Fail> {
+    let task = task_one();
+    let first = Waiter {
+        cancel: 4,
+        wait: true,
+    };
+    let (mut core, _bans) = begun(&rt, rt.alloc(), 0b110, Some(first))?;
+    let second = Waiter {
+        cancel: 5,
+        wait: false,
+    };
+    assert!(rt; join(&rt, &mut core, task, second)?.is_empty());
+    let (receipt, acts) = end(&rt, rt.alloc(), &mut core, task)?;
+    assert!(rt; acts.is_empty());
+    assert!(rt; ack(&rt, &mut core, task, 1)?.is_empty());
+    let [one, two] = [1, 2].map(|to| Act::SendUnban { to, parent: task });
+    let done = Act::AnswerDone {
+        cancel: 4,
+        task,
+        receipt,
+    };
+    let placed = Act::AnswerPlaced { cancel: 5, task };
+    let acts = ack(&rt, &mut core, task, 2)?;
+    assert_eq!(rt; acts.as_slice(), [one, two, done, placed].as_slice());
+    assert!(rt; !core.has(task));
     Ok(())
 }
 

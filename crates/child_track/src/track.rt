@@ -129,6 +129,13 @@ impl ChildTrack {
         self.nodes()
     }
 
+    /// The number of the cancellation that closed the track first. There is none exactly where it is open.
+    pub fn closed(&self) -> Option<u32>
+        ensures number { result ≡ self.now.closed }
+    {
+        self.closed
+    }
+
     /// How many asks are unanswered.
     pub fn unanswered(&self) -> u64
         ensures { result ≡ unanswered self.now }

@@ -1,4 +1,5 @@
 ghost use Rattle.std.specs.Prelude.{◌≡◌};
+ghost use Rattle.child_track.specs.Token.{token_parent};
 ghost use Rattle.child_track.specs.Track.{unanswered, sealed};
 
 use child_track::{AskToken, ChildTrack, Receipt};
@@ -34,6 +35,16 @@ impl Ticket {
         ensures { result ≡ self.now.id }
     {
         self.id
+    }
+
+    /// The task that asked for it. A root has none.
+    pub fn parent(&self) -> Option<TaskId>
+        ensures { result ≡ token_parent self.now.token }
+    {
+        match &self.token {
+            Some(token) => Some(token.parent()),
+            None => None,
+        }
     }
 
     /// Spends the ticket and the track of its task, in which nothing is unanswered, and gives the task's receipt.

@@ -25,3 +25,13 @@ returns-clause-joined c =
     let there = entry_there c.self.inside.node c.self.inside.entries.entries c.args.self.now c.self.view_is c.args.task c.requires.has in
     entry_changed c.self.inside.node c.self.inside.entries.entries c.args.self.now c.self.view_is c.join_in.new.entries.entries c.args.task
     (Some (joined_by (entry_of c.args.self.now c.args.task) c.args.waiter)) (c.in_ok-join_in.ensures.joined (entry_of c.args.self.now c.args.task) there)
+
+pub returns-in_err-join_in-clause-waiting : goal.returns-in_err-join_in-clause-waiting
+returns-in_err-join_in-clause-waiting c =
+    let there = entry_there c.self.inside.node c.self.inside.entries.entries c.args.self.now c.self.view_is c.args.task c.requires.has in
+    c.in_err-join_in.ensures.waiting (entry_of c.args.self.now c.args.task) there
+
+pub returns-clause-waiting : goal.returns-clause-waiting
+returns-clause-waiting c =
+    let there = entry_there c.self.inside.node c.self.inside.entries.entries c.args.self.now c.self.view_is c.args.task c.requires.has in
+    c.in_ok-join_in.ensures.waiting (entry_of c.args.self.now c.args.task) there

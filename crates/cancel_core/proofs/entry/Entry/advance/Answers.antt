@@ -2,11 +2,12 @@ use Rattle.std.proofs.Common.{List, filter, ap, sym, ◌∙◌}
 use Rattle.std.proofs.lemmas.List.Kept.{IsNonDecreasingBy-filter}
 use Rattle.cancel_core.specs.declared.act.Waiter.{Waiter}
 use Rattle.cancel_core.specs.Stage.{seen}
-use Rattle.cancel_core.proofs.Placed.{still_when_placed, still_when_open}
+use Rattle.cancel_core.proofs.Placed.{still_when_placed, still_when_open, none_late}
 use Rattle.cancel_core.proofs.entry.Entry.advance.Goals as goal
 
 pub invariant_of-self : goal.invariant_of-self
-invariant_of-self c = rw c.keep_waiting.ensures (IsNonDecreasingBy-filter (λ w. w.cancel) (λ w. w.wait) c.self.inside.waiters.items c.self.invariant)
+invariant_of-self c =
+    rw c.keep_waiting.ensures (IsNonDecreasingBy-filter (λ w. w.cancel) (λ w. w.wait) c.self.inside.waiters.items c.self.invariant.0, λ placed. none_late c.self.inside.waiters.items)
 
 pub returns-then-is_placed : goal.returns-then-is_placed
 returns-then-is_placed c =
