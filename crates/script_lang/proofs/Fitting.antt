@@ -1,26 +1,28 @@
--- The commands of a script that is read fit a cluster, can be run, and are not too many.
-use Rattle.std.proofs.Common.{◌≡◌, ℕ, suc, ◌+◌, ◌≤◌, ◌<◌, List, [], ◌∷◌, ◌++◌, length, take, length-take, Bool, true, false, ◌&&◌, cond, eqb, codes, Option, Some, None, option_map, Ok, Err, refl, sym, ap, ◌∙◌, subst, append_assoc, arith}
+-- The commands of a script that is read fit a cluster and one another, and are not too many.
+use Rattle.std.proofs.Common.{◌≡◌, ℕ, suc, ◌+◌, ◌≤◌, ◌<◌, List, [], ◌∷◌, ◌++◌, length, take, length-take, Bool, true, false, ◌&&◌, cond, eqb, codes, Option, Some, None, option_map, option_and_then, Ok, Err, refl, sym, ap, ◌∙◌, subst, append_assoc, arith}
 use Rattle.std.proofs.lemmas.List.{append-nil, length-append}
 use Rattle.std.specs.List.{position_from}
 use Rattle.std.specs.Option.{ok_or}
 use Rattle.std.specs.Prelude.{nat_le}
 use Rattle.std.specs.Str.{bytes_eq}
 use Rattle.serde_json.specs.Data.{Data}
-use Rattle.serde_json.specs.Find.{get_member}
+use Rattle.serde_json.specs.Find.{get_member, as_number, as_u64}
 use Rattle.shard_docs.specs.Fault.{and_then, on_line}
 use Rattle.shard_docs.specs.Json.{whole_json_of}
 use Rattle.shard_docs.proofs.ActionLemmas.{found_on_line}
 use Rattle.task_ids.specs.declared.cause.Cause.{Cause}
-use Rattle.task_ids.specs.declared.cause.Cause.TheVariants.{TooManyLines, UnknownNode, NotObject, NotBuilt, ScheduleLineInRun}
+use Rattle.task_ids.specs.declared.cause.Cause.TheVariants.{TooManyLines, UnknownNode, BadField, BadReference, NotObject, ScheduleLineInRun}
+use Rattle.script_lang.specs.declared.command.CancelTarget.{CancelTarget}
+use Rattle.script_lang.specs.declared.command.CancelTarget.TheVariants as targets
 use Rattle.script_lang.specs.declared.command.Command.{Command}
-use Rattle.script_lang.specs.declared.command.Command.TheVariants.{Search, Deliver, Step, Settle, History}
+use Rattle.script_lang.specs.declared.command.Command.TheVariants.{Search, Cancel, Deliver, Step, ListStep, Settle, History}
 use Rattle.script_lang.specs.declared.command.Mode.{Mode}
 use Rattle.script_lang.specs.declared.kind.Kind.{Kind}
 use Rattle.script_lang.specs.declared.kind.Kind.TheVariants as kinds
-use Rattle.script_lang.specs.Commands.{search_fields, built_search_fields, search_parts, search_in, command_of_kind, only_member, is_run, command_in}
-use Rattle.script_lang.specs.Fields.{expects, fields_of, text_of, node_in, node_or_first, task_in, number_in, truth_in}
-use Rattle.script_lang.specs.Fits.{IsNodeOf, Fits, AllFit}
-use Rattle.script_lang.specs.Kinds.{kind_named, is_built, is_schedule}
+use Rattle.script_lang.specs.Commands.{search_fields, built_search_fields, search_parts, search_in, cancel_fields, built_cancel_fields, cancel_parts, cancel_in, list_step_fields, list_step_in, command_of_kind, only_member, is_run, command_in}
+use Rattle.script_lang.specs.Fields.{both, fields_of, text_of, node_in, node_or_first, task_in, starts_at, started_at, number_in, truth_in, reference_in, target_in}
+use Rattle.script_lang.specs.Fits.{IsNodeOf, NamesStart, Fits, AllFit}
+use Rattle.script_lang.specs.Kinds.{kind_named, is_schedule}
 use Rattle.script_lang.specs.Names.{node_names, node_of}
 use Rattle.script_lang.specs.Script.{max_commands, command_of, commands_of}
 use Rattle.script_lang.proofs.FieldLemmas.{both_first, both_second, first_ok}
@@ -61,6 +63,34 @@ node_or_first_fits : (nodes : ℕ) (field : Option Data) (node : ℕ) → 1 ≤ 
 node_or_first_fits nodes None node some e = let same : 1 ≡ node = cc in (omega arith, omega arith)
 node_or_first_fits nodes (Some value) node some e = node_in_fits nodes (Some value) node e
 
+-- ---- what a cancel names
+
+started_is : (before : List Command) (number n : ℕ) → started_at before number ≡ Some n → starts_at before n ≡ true
+started_is before number n e = is (starts_at before number) refl e
+  where
+    is : (b : Bool) → starts_at before number ≡ b → cond b (Some number) None ≡ Some n → starts_at before n ≡ true
+    is true s e' = let same : number ≡ n = cc in subst (λ k. starts_at before k ≡ true) same s
+    is false s e' = cc
+
+and_some : (found : Option ℕ) (f : ℕ → Option ℕ) (n : ℕ) → option_and_then f found ≡ Some n → (k : ℕ) × (f k ≡ Some n)
+and_some None f n e = cc
+and_some (Some k) f n e = (k, e)
+
+target_fits : (before : List Command) (task command : Option Data) (target : CancelTarget) → target_in before task command ≡ Ok target → NamesStart before target
+unfolding target_in reference_in
+target_fits before None None target e = cc
+target_fits before (Some task) None target e =
+    let id = first_ok (task_in (Some task)) _ target e in
+    let same : targets.Task id.0 ≡ target = cc (id.2) in
+    subst (NamesStart before) same tt
+target_fits before None (Some command) target e =
+    let number = first_ok (reference_in before command) _ target e in
+    let read = first_ok (ok_or (as_number command) BadField) _ number.0 number.1 in
+    let at = and_some (as_u64 read.0) (started_at before) number.0 (some_of_ok _ BadReference number.0 read.2) in
+    let same : targets.Command number.0 ≡ target = cc (number.2) in
+    subst (NamesStart before) same (started_is before at.0 number.0 at.1)
+target_fits before (Some task) (Some command) target e = cc
+
 -- ---- commands
 
 module _ (nodes : ℕ) (some : 1 ≤ nodes) (before : List Command) where
@@ -73,20 +103,38 @@ module _ (nodes : ℕ) (some : 1 ≤ nodes) (before : List Command) where
       let node = both_first _ _ found.0.1 (both_second _ _ found.0 parts.2) in
       subst (Fits nodes before) same (node_or_first_fits nodes (get_member (codes "node") parts.0) found.0.1.0 some node)
 
-  of_kind_fits : (kind : Kind) (value : Data) (command : Command) → is_built kind ≡ true → command_of_kind nodes before kind value ≡ Ok command → Fits nodes before command
-  of_kind_fits kinds.Search value command built e = search_fits value command e
-  of_kind_fits kinds.Cancel value command built e = cc
-  of_kind_fits kinds.ListStep value command built e = cc
-  of_kind_fits kinds.Deliver value command built e =
+  cancel_fits : (value : Data) (command : Command) → cancel_in before value ≡ Ok command → Fits nodes before command
+  unfolding cancel_in cancel_parts
+  cancel_fits value command e =
+      let found = first_ok (cancel_parts before value) _ command e in
+      let parts = first_ok (fields_of cancel_fields built_cancel_fields value) _ found.0 found.1 in
+      let same : Cancel found.0.0 found.0.1.0 found.0.1.1 ≡ command = cc (found.2) in
+      let target = both_first _ _ found.0 parts.2 in
+      subst (Fits nodes before) same (target_fits before (get_member (codes "task_id") parts.0) (get_member (codes "command") parts.0) found.0.0 target)
+
+  list_step_fits : (value : Data) (command : Command) → list_step_in nodes value ≡ Ok command → Fits nodes before command
+  unfolding list_step_in
+  list_step_fits value command e =
+      let parts = first_ok (fields_of list_step_fields list_step_fields value) _ command e in
+      let found = first_ok (both (node_in nodes (get_member (codes "node") parts.0)) (task_in (get_member (codes "parent") parts.0))) _ command parts.2 in
+      let same : ListStep found.0.0 found.0.1 ≡ command = cc (found.2) in
+      let node = both_first _ _ found.0 found.1 in
+      subst (Fits nodes before) same (node_in_fits nodes (get_member (codes "node") parts.0) found.0.0 node)
+
+  of_kind_fits : (kind : Kind) (value : Data) (command : Command) → command_of_kind nodes before kind value ≡ Ok command → Fits nodes before command
+  of_kind_fits kinds.Search value command e = search_fits value command e
+  of_kind_fits kinds.Cancel value command e = cancel_fits value command e
+  of_kind_fits kinds.ListStep value command e = list_step_fits value command e
+  of_kind_fits kinds.Deliver value command e =
       let found = first_ok (number_in value) _ command e in
       let same : Deliver found.0 ≡ command = cc (found.2) in subst (Fits nodes before) same tt
-  of_kind_fits kinds.Step value command built e =
+  of_kind_fits kinds.Step value command e =
       let found = first_ok (task_in (Some value)) _ command e in
       let same : Step found.0 ≡ command = cc (found.2) in subst (Fits nodes before) same tt
-  of_kind_fits kinds.Settle value command built e =
+  of_kind_fits kinds.Settle value command e =
       let found = first_ok (truth_in value) _ command e in
       let same : Settle ≡ command = cc (found.2) in subst (Fits nodes before) same tt
-  of_kind_fits kinds.History value command built e =
+  of_kind_fits kinds.History value command e =
       let found = first_ok (truth_in value) _ command e in
       let same : History ≡ command = cc (found.2) in subst (Fits nodes before) same tt
 
@@ -95,13 +143,11 @@ module _ (nodes : ℕ) (some : 1 ≤ nodes) (before : List Command) where
   command_fits mode value command e =
       let entry = first_ok (ok_or (only_member value) NotObject) _ command e in
       let kind = first_ok (kind_named entry.0.0) _ command entry.2 in
-      allowed kind.0 (is_built kind.0) refl (is_run mode && is_schedule kind.0) entry.0.1 kind.2
+      allowed (is_run mode && is_schedule kind.0) kind.0 entry.0.1 kind.2
     where
-      allowed : (kind : Kind) (built : Bool) → is_built kind ≡ built → (schedules : Bool) (inner : Data)
-          → and_then (expects built NotBuilt) (λ _. cond schedules (Err ScheduleLineInRun) (command_of_kind nodes before kind inner)) ≡ Ok command → Fits nodes before command
-      allowed kind false is schedules inner e' = cc
-      allowed kind true is true inner e' = cc
-      allowed kind true is false inner e' = of_kind_fits kind inner command is e'
+      allowed : (schedules : Bool) (kind : Kind) (inner : Data) → cond schedules (Err ScheduleLineInRun) (command_of_kind nodes before kind inner) ≡ Ok command → Fits nodes before command
+      allowed true kind inner e' = cc
+      allowed false kind inner e' = of_kind_fits kind inner command e'
 
   line_fits : (mode : Mode) (line : List ℕ) (command : Command) → command_of mode nodes before line ≡ Ok command → Fits nodes before command × (length before < max_commands)
   unfolding command_of

@@ -4,7 +4,7 @@ use Rattle.std.specs.Option.{ok_or}
 use Rattle.serde_json.specs.Data.{Data, Members, no_members, member}
 use Rattle.serde_json.specs.Find.{get_member, as_object}
 use Rattle.task_ids.specs.declared.cause.Cause.{Cause}
-use Rattle.task_ids.specs.declared.cause.Cause.TheVariants.{NotObject, NotBuilt, ScheduleLineInRun}
+use Rattle.task_ids.specs.declared.cause.Cause.TheVariants.{NotObject, ScheduleLineInRun}
 use Rattle.shard_docs.specs.Fault.{◌>>=◌}
 use Rattle.script_lang.specs.declared.command.CancelTarget.{CancelTarget}
 use Rattle.script_lang.specs.declared.command.Command.{Command}
@@ -13,8 +13,8 @@ use Rattle.script_lang.specs.declared.command.Mode.{Mode}
 use Rattle.script_lang.specs.declared.command.Mode.TheVariants.{Sim, Run}
 use Rattle.script_lang.specs.declared.kind.Kind.{Kind}
 use Rattle.script_lang.specs.declared.kind.Kind.TheVariants as kinds
-use Rattle.script_lang.specs.Fields.{both, expects, fields_of, text_of, text_or, node_in, node_or_first, task_in, flag_or_false, body_in, number_in, truth_in, target_in}
-use Rattle.script_lang.specs.Kinds.{kind_named, is_built, is_schedule}
+use Rattle.script_lang.specs.Fields.{both, fields_of, text_of, text_or, node_in, node_or_first, task_in, flag_or_false, body_in, number_in, truth_in, target_in}
+use Rattle.script_lang.specs.Kinds.{kind_named, is_schedule}
 
 -- ---- the fields of the commands: those that there are, and those that are built
 
@@ -94,5 +94,4 @@ unfoldable pub command_in : Mode → ℕ → List Command → Data → Result Co
 command_in mode nodes before value = do
   entry ← ok_or (only_member value) NotObject
   kind ← kind_named entry.0
-  _ ← expects (is_built kind) NotBuilt
   if is_run mode && is_schedule kind then Err ScheduleLineInRun else command_of_kind nodes before kind entry.1

@@ -1,19 +1,27 @@
--- What holds of the commands of a script: they are of a cluster, and the program can run them.
-use Rattle.std.specs.Prelude.{ℕ, ◌≤◌, List, [], ◌∷◌, ◌++◌}
+-- What holds of the commands of a script: they are of a cluster, and name one another.
+use Rattle.std.specs.Prelude.{◌≡◌, ℕ, ◌≤◌, List, [], ◌∷◌, ◌++◌, true}
+use Rattle.script_lang.specs.declared.command.CancelTarget.{CancelTarget}
+use Rattle.script_lang.specs.declared.command.CancelTarget.TheVariants as targets
 use Rattle.script_lang.specs.declared.command.Command.{Command}
 use Rattle.script_lang.specs.declared.command.Command.TheVariants.{Search, Cancel, Deliver, Step, ListStep, Settle, History}
+use Rattle.script_lang.specs.Fields.{starts_at}
 
 -- a node of a cluster of so many
 abbrev pub IsNodeOf : ℕ → ℕ → Type 0
 IsNodeOf nodes node = (1 ≤ node) × (node ≤ nodes)
 
--- A command after others, on a cluster of so many nodes. A cancel and a step of a listing are never read yet.
+-- a command that is named comes before and starts a task
+abbrev pub NamesStart : List Command → CancelTarget → Type 0
+NamesStart before (targets.Task id) = Unit {0}
+NamesStart before (targets.Command number) = starts_at before number ≡ true
+
+-- a command after others, on a cluster of so many nodes
 abbrev pub Fits : ℕ → List Command → Command → Type 0
 Fits nodes before (Search index node body) = IsNodeOf nodes node
-Fits nodes before (Cancel target reason wait) = ⊥
+Fits nodes before (Cancel target reason wait) = NamesStart before target
 Fits nodes before (Deliver nth) = Unit {0}
 Fits nodes before (Step task) = Unit {0}
-Fits nodes before (ListStep node parent) = ⊥
+Fits nodes before (ListStep node parent) = IsNodeOf nodes node
 Fits nodes before Settle = Unit {0}
 Fits nodes before History = Unit {0}
 

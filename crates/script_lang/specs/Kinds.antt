@@ -22,16 +22,6 @@ kind_named name =
     (if bytes_eq name (codes "history") then Ok History else
     (if is_one_of name later_commands then Err NotBuilt else Err UnknownCommand)))))))
 
--- the kinds of commands that the program can run
-abbrev pub is_built : Kind → Bool
-is_built Search = true
-is_built Cancel = false
-is_built Deliver = true
-is_built Step = true
-is_built ListStep = false
-is_built Settle = true
-is_built History = true
-
 -- it writes a schedule, which threads do not take
 abbrev pub is_schedule : Kind → Bool
 is_schedule Search = false

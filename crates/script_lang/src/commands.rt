@@ -22,9 +22,6 @@ use serde_json::{Map, Value};
 use std::alloc::Global;
 use task_ids::{Cause, DocSource, Text};
 
-#[cfg(test)]
-mod tests;
-
 /// Why a task is cancelled where a script does not say.
 const DEFAULT_REASON: &str = "by user request";
 
@@ -216,9 +213,6 @@ pub(crate) fn command_in(
         return Err(CommandError::Refused(Cause::NotObject));
     };
     let kind = Kind::named(name)?;
-    if !kind.is_built() {
-        return Err(CommandError::Refused(Cause::NotBuilt));
-    }
     if mode == Mode::Run && kind.is_schedule() {
         return Err(CommandError::Refused(Cause::ScheduleLineInRun));
     }

@@ -1,5 +1,5 @@
 ghost use Rattle.std.specs.Prelude.{◌≡◌};
-ghost use Rattle.script_lang.specs.Kinds.{kind_named, is_built, is_schedule};
+ghost use Rattle.script_lang.specs.Kinds.{kind_named, is_schedule};
 
 use task_ids::Cause;
 
@@ -37,16 +37,6 @@ impl Kind {
             | "summary"
             | "shuffle" => Err(Cause::NotBuilt),
             _ => Err(Cause::UnknownCommand),
-        }
-    }
-
-    /// Whether the program can run it.
-    pub(crate) fn is_built(self) -> bool
-        ensures { result ≡ is_built self }
-    {
-        match self {
-            Kind::Search | Kind::Deliver | Kind::Step | Kind::Settle | Kind::History => true,
-            Kind::Cancel | Kind::ListStep => false,
         }
     }
 

@@ -46,7 +46,7 @@ fn shown_target(alloc: Global, target: CancelTarget) -> Result<String, AllocErro
     }
 }
 
-pub(crate) fn shown_command(alloc: Global, command: &Command) -> Result<String, AllocError> {
+fn shown_command(alloc: Global, command: &Command) -> Result<String, AllocError> {
     match command {
         Command::Search { index, node, body } => {
             let body = body.as_value().to_string(alloc)?;
@@ -103,7 +103,14 @@ const READ: &str = r#" <=
 [settle] <= {"settle":false,"settle":true}
 [history][deliver 0][deliver 18446744073709551615] <= {"history":true}^{"deliver":0}^{"deliver":18446744073709551615}
 [step n1:1][step n15:1048575] <= {"step":"n1:1"}^{"step":"n15:1048575"}
-[search a n1 {}][settle][search b n2 {}] <= {"search":{"index":"a"}}^^{"settle":true}^{"search":{"index":"b","node":"n2"}}"#;
+[search a n1 {}][settle][search b n2 {}] <= {"search":{"index":"a"}}^^{"settle":true}^{"search":{"index":"b","node":"n2"}}
+[list n2 n1:1][list n3 n9:7] <= {"list_step":{"node":"n2","parent":"n1:1"}}^{"list_step":{"parent":"n9:7","node":"n3"}}
+[cancel n1:1 true too slow] <= {"cancel":{"task_id":"n1:1","reason":"too slow","wait_for_completion":true}}
+[cancel n12:3 false by user request] <= {"cancel":{"task_id":"n12:3"}}
+[cancel n1:1 false ] <= {"cancel":{"task_id":"n1:1","reason":"","wait_for_completion":false}}
+[search a n1 {}][settle][cancel command 1 false by user request] <= {"search":{"index":"a"}}^^{"settle":true}^{"cancel":{"command":1}}
+[settle][search a n2 {}][cancel command 2 false x] <= {"settle":true}^{"search":{"index":"a","node":"n2"}}^{"cancel":{"command":2,"reason":"x"}}
+[search a n1 {}][cancel command 1 true x][cancel command 1 false y] <= {"search":{"index":"a"}}^{"cancel":{"command":1,"reason":"x","wait_for_completion":true}}^{"cancel":{"command":1,"reason":"y"}}"#;
 
 #[test]
 fn commands_are_read_in_order(rt: HostRuntime) -> Result<(), Fail> {
@@ -177,27 +184,61 @@ line 2: bad task id <= {"step":"n1"}
 line 2: bad task id <= {"step":"n1:01"}
 line 2: bad task id <= {"step":"n1:1048576"}
 line 2: bad task id <= {"step":"n16:1"}
-line 2: bad task id <= {"step":"unset"}"#;
+line 2: bad task id <= {"step":"unset"}
+line 2: bad field <= {"list_step":{"node":"n1"}}
+line 2: bad field <= {"list_step":{"parent":"n1:1"}}
+line 2: unknown node <= {"list_step":{"node":"n9","parent":"n1:1"}}
+line 2: bad task id <= {"list_step":{"node":"n1","parent":"n1"}}
+line 2: bad task id <= {"list_step":{"node":"n9","parent":"unset"}}
+line 2: bad field <= {"list_step":{"node":9,"parent":"unset"}}
+line 2: bad task id <= {"list_step":{"node":"n1","parent":"unset"}}
+line 2: bad field <= {"list_step":true}
+line 2: unknown field <= {"list_step":{"node":"n1","parent":"n1:1","child":1}}"#;
 
 #[test]
 fn the_first_cause_of_a_line_is_told(rt: HostRuntime) -> Result<(), Fail> {
     check(&rt, rt.alloc(), Mode::Sim, FIELDS)
 }
 
-const TO_COME: &str = r#"line 2: not built yet <= {"cancel":{"task_id":"n1:1"}}
-line 2: not built yet <= {"cancel":{"task_id":"x","reason":5}}
-line 2: not built yet <= {"cancel":{"x":1}}
-line 2: not built yet <= {"cancel":5}
-line 2: not built yet <= {"cancel":{"command":1}}^{"foo":1}
-line 4: not built yet <= {"search":{"index":"a"}}^^{"cancel":{"command":1}}
-line 2: unknown command <= {"foo":1}^{"cancel":{"task_id":"n1:1"}}
+const CANCELS: &str = r#"line 2: bad field <= {"cancel":{"task_id":"n1:1","command":1}}
+line 3: bad field <= {"search":{"index":"a"}}^{"cancel":{"task_id":"n1:1","command":1}}
+line 2: bad field <= {"cancel":5}
 line 2: not an object <= {"cancel":{"task_id":"n1:1"},"settle":true}
 line 2: number is not whole <= {"cancel":{"command":1.5}}
-line 2: not built yet <= {"list_step":{"node":"n2","parent":"n1:1"}}
-line 2: not built yet <= {"list_step":{"node":"n9","parent":"unset"}}
-line 2: not built yet <= {"list_step":{"child":1}}
-line 2: not built yet <= {"list_step":true}
-line 3: not built yet <= {"step":"n1:1"}^{"list_step":{"node":"n1","parent":"n1:1"}}^{"settle":false}
+line 2: bad field <= {"cancel":{"command":"1"}}
+line 2: bad field <= {"cancel":{"command":null}}
+line 2: bad field <= {"cancel":{"task_id":1}}
+line 2: bad task id <= {"cancel":{"task_id":"x"}}
+line 2: bad task id <= {"cancel":{"task_id":"unset"}}
+line 2: bad task id <= {"cancel":{"task_id":"n1:01"}}
+line 2: bad field <= {"cancel":{"task_id":"x","reason":5}}
+line 2: bad field <= {"cancel":{"task_id":"n1:1","reason":5}}
+line 2: bad field <= {"cancel":{"task_id":"n1:1","wait_for_completion":1}}
+line 2: bad field <= {"cancel":{"command":1,"wait_for_completion":null}}
+line 2: bad reference <= {"cancel":{"command":1}}
+line 2: bad reference <= {"cancel":{"command":2}}^{"search":{"index":"a"}}
+line 3: bad reference <= {"settle":true}^{"cancel":{"command":1}}
+line 3: bad reference <= {"search":{"index":"a"}}^{"cancel":{"command":2}}
+line 3: bad reference <= {"search":{"index":"a"}}^{"cancel":{"command":0}}
+line 3: bad reference <= {"search":{"index":"a"}}^{"cancel":{"command":-1}}
+line 3: bad reference <= {"search":{"index":"a"}}^{"cancel":{"command":18446744073709551615}}
+line 4: bad reference <= {"search":{"index":"a"}}^{"cancel":{"command":1}}^{"cancel":{"command":2}}
+line 2: unknown command <= {"foo":1}^{"cancel":{"task_id":"n1:1"}}
+line 2: unknown field <= {"cancel":{"x":1}}
+line 2: unknown field <= {"cancel":{"task_id":"n1:1","command":1,"actions":"*","x":1}}"#;
+
+#[test]
+fn a_cancel_names_a_task(rt: HostRuntime) -> Result<(), Fail> {
+    check(&rt, rt.alloc(), Mode::Sim, CANCELS)
+}
+
+const TO_COME: &str = r#"line 2: not built yet <= {"cancel":{}}
+line 2: not built yet <= {"cancel":{"actions":"*"}}
+line 2: not built yet <= {"cancel":{"task_id":"n1:1","nodes":"n1"}}
+line 2: not built yet <= {"cancel":{"task_id":"n1:1","command":1,"actions":"*"}}
+line 2: not built yet <= {"cancel":{"wait_for_completion":true}}
+line 2: not built yet <= {"cancel":{"parent_task_id":"n1:1","reason":5}}
+line 2: not built yet <= {"cancel":{"reason":5}}
 line 2: not built yet <= {"search":{"scroll":"1m"}}
 line 2: not built yet <= {"search":{"index":"a","scroll":"1m"}}
 line 2: not built yet <= {"search":{"index":"a","opaque_id":"x"}}
@@ -218,15 +259,16 @@ fn what_is_to_come_is_told(rt: HostRuntime) -> Result<(), Fail> {
 
 const THREADS: &str =
     r#"[search a n1 {}][search b n3 {}] <= {"search":{"index":"a"}}^{"search":{"index":"b","node":"n3"}}
+[search a n1 {}][cancel command 1 true x] <= {"search":{"index":"a"}}^{"cancel":{"command":1,"reason":"x","wait_for_completion":true}}
 line 2: schedule line in run <= {"settle":true}
 line 2: schedule line in run <= {"history":true}
 line 2: schedule line in run <= {"deliver":0}
 line 2: schedule line in run <= {"step":"n1:1"}
 line 2: schedule line in run <= {"step":5}
-line 2: not built yet <= {"list_step":{"node":"n1","parent":"n1:1"}}
-line 2: not built yet <= {"list_step":{"x":1}}
-line 3: not built yet <= {"search":{"index":"a"}}^{"cancel":{"command":1,"reason":"x","wait_for_completion":true}}
+line 2: schedule line in run <= {"list_step":{"node":"n1","parent":"n1:1"}}
+line 2: schedule line in run <= {"list_step":{"x":1}}
 line 3: schedule line in run <= {"search":{"index":"a"}}^{"settle":false}
+line 2: bad reference <= {"cancel":{"command":1}}
 line 2: unknown field <= {"search":{"x":1}}
 line 2: not built yet <= {"summary":true}
 line 2: unknown command <= {"foo":1}"#;
