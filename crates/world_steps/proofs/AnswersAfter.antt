@@ -22,6 +22,7 @@ use Rattle.task_events.specs.declared.step.Asked.{Asked}
 use Rattle.task_events.specs.declared.event.Event.{Event}
 use Rattle.task_events.specs.declared.event.Event.TheVariants.{Answered}
 use Rattle.task_events.specs.Same.{same_task}
+use Rattle.task_events.specs.Lawful.{AwaitsNoMark}
 use Rattle.task_events.specs.Tasks.{is_live}
 use Rattle.task_events.specs.Asks.{request_of_ask, answer_of, is_unanswered}
 use Rattle.task_events.specs.Steps.{asked_by, turns_of, request_of}
@@ -55,7 +56,6 @@ use Rattle.world_steps.specs.Moves.{Delivers}
 use Rattle.world_steps.specs.Roots.{root_request}
 use Rattle.world_steps.specs.Ties.{Ties, Runs, SearchesFor, WorksFor, IsGood, IsGoodReply}
 use Rattle.world_steps.proofs.ByPlace.{pair_at, pairs_left, all_here, all_left}
-use Rattle.world_steps.proofs.Calm.{no_mark_awaited}
 use Rattle.world_steps.proofs.FactsAfter.{at_answered}
 use Rattle.world_steps.proofs.FlightAfter.{all_stay}
 use Rattle.world_steps.proofs.Kept.{kept_after}
@@ -346,11 +346,10 @@ module _ (cluster : Cluster) (corpus : Corpus) (script : Script) (h : List Event
           works = works_after;
         }
 
-        pub after_answer : (after : TaskId → Option Running) → after t ≡ Some (running_with_answer r receipt.ask reply) → ((q : TaskId) → same_task t q ≡ false → after q ≡ tasks q)
+        pub after_answer : AwaitsNoMark h → (after : TaskId → Option Running) → after t ≡ Some (running_with_answer r receipt.ask reply) → ((q : TaskId) → same_task t q ≡ false → after q ≡ tasks q)
             → Ties cluster corpus script (Answered t receipt.ask ∷ h) after tables (remove flight nth)
-        after_answer after there others = record {
-          lawful = (taken_away.0, ties.lawful, no_mark_awaited h ties.calm);
-          calm = ties.calm;
+        after_answer awaits after there others = record {
+          lawful = (taken_away.0, ties.lawful, awaits);
           kept = kept_after cluster corpus (root_request script) t (Answered t receipt.ask) h tasks after refl ties.kept (rw there (rw (at_answered (root_request script) t h receipt.ask) runs_after)) others;
           listed = λ place. listed_same cluster (Answered t receipt.ask) h (λ m. refl) refl place _ (ties.listed place);
           sent = rw taken_away.1 (all_stay (Answered t receipt.ask) h (remove flight nth) (remove (in_flight h) nth) (pairs_left (message_of h) flight (in_flight h) nth ties.sent));

@@ -27,9 +27,10 @@ use Rattle.task_events.specs.Asks.{last_ask, request_of_ask, rejection_of, answe
 use Rattle.task_events.specs.Steps.{node_for, asked_by, turns_of, request_of}
 use Rattle.task_events.specs.Searches.{top_of, tops_in, winners_among, has_winner, won_tops, fetch_of, fetches_of, has_queried, requests_of, ask_or_end, work_or_end}
 use Rattle.task_events.specs.Messages.{Message, in_flight}
-use Rattle.task_events.specs.Messages.Message.{Request as a_request, Answer as an_answer}
+use Rattle.task_events.specs.Messages.Message.{Request as a_request, Answer as an_answer, Ban as a_ban}
 use Rattle.task_events.specs.Laws.{IsTold}
-use Rattle.task_events.specs.Lawful.{Lawful}
+use Rattle.task_events.specs.Lawful.{AwaitsNoMark, Lawful}
+use Rattle.task_events.specs.Bans.{mark_of}
 use Rattle.task_laws.proofs.Same.{same_tests}
 use Rattle.task_laws.proofs.Asks.{AskFacts, ask_facts}
 use Rattle.task_laws.proofs.Content.{AnswerFacts, answer_facts, told}
@@ -50,7 +51,6 @@ use Rattle.world_steps.specs.Facts.{facts_of, awaited_by, requested_by}
 use Rattle.world_steps.specs.Flights.{message_of}
 use Rattle.world_steps.specs.Roots.{root_request}
 use Rattle.world_steps.specs.Ties.{Ties, Runs, SearchesFor, WorksFor, IsGood, IsGoodReply, written}
-use Rattle.world_steps.proofs.Calm.{unmarked, no_mark_awaited}
 use Rattle.world_steps.proofs.FactsAfter.{at_ask}
 use Rattle.world_steps.proofs.FlightAfter.{all_stay, event_newest}
 use Rattle.world_steps.proofs.Kept.{kept_after}
@@ -212,6 +212,7 @@ good_on cluster corpus t k n r h l new (an_answer p j reply ∷ ms) x y = (here,
 
     here : (r' : Request) → request_of_ask p j (Ask t k n r ∷ h) ≡ Some r' → IsGoodReply cluster corpus r' reply
     here r' e = y.0 r' (let f : request_of_ask p j h ≡ Some r' = rw other at e in f)
+good_on cluster corpus t k n r h l new (a_ban p c m ∷ ms) x y = (y.0, good_on cluster corpus t k n r h l new ms x.1 y.1)
 good_on cluster corpus t k n r h l new (_ ∷ ms) x y = (tt, good_on cluster corpus t k n r h l new ms x.1 y.1)
 
 -- ---- the ask
@@ -244,8 +245,8 @@ module _ (cluster : Cluster) (corpus : Corpus) (script : Script) (h : List Event
         let same = track_asks in
         omega arith
 
-    pub track_open : r.track.closed ≡ None
-    track_open = ap (λ z. z.closed) runs.track ∙ unmarked h ties.calm t
+    pub track_open : mark_of t h ≡ None → r.track.closed ≡ None
+    track_open unmarked = ap (λ z. z.closed) runs.track ∙ unmarked
 
     pub track_of : r.track.task ≡ t
     track_of = ap (λ z. z.task) runs.track
@@ -260,12 +261,11 @@ module _ (cluster : Cluster) (corpus : Corpus) (script : Script) (h : List Event
         let counted : last_ask t h + 1 ≡ length (awaited_by t h) + 1 = ap (λ m. m + 1) (sym (awaited_counted cluster t h ties.lawful)) in
         works_after cluster corpus t (asked_by t h) (requested_by t h) (awaited_by t h) (turns_of t h) request (request_of (root_request script) t h) r.work search.0 search.1 (last_ask t h + 1) (next_number r) n search.2 counted number_is
 
-    pub after_ask : (after : TaskId → Option Running) (n : ℕ) (token : Token) → is_new t h ≡ false → n ≡ node_for cluster t request → token ≡ record { parent = t; ask = last_ask t h + 1 }
+    pub after_ask : (after : TaskId → Option Running) (n : ℕ) (token : Token) → AwaitsNoMark h → mark_of t h ≡ None → is_new t h ≡ false → n ≡ node_for cluster t request → token ≡ record { parent = t; ask = last_ask t h + 1 }
         → after t ≡ Some (running_with_ask r n) → ((q : TaskId) → same_task t q ≡ false → after q ≡ tasks q)
         → Ties cluster corpus script (Ask t (last_ask t h + 1) n request ∷ h) after tables (flight ++ sent.Request token n (length h) ∷ [])
-    after_ask after n token passed node is there others = record {
-      lawful = (record { goes_on = record { live = live; passed = passed }; unmarked = unmarked h ties.calm t; next = refl; low = rw node node_of_request.0; high = rw node node_of_request.1 }, ties.lawful, no_mark_awaited h ties.calm);
-      calm = ties.calm;
+    after_ask after n token awaits unmarked passed node is there others = record {
+      lawful = (record { goes_on = record { live = live; passed = passed }; unmarked = unmarked; next = refl; low = rw node node_of_request.0; high = rw node node_of_request.1 }, ties.lawful, awaits);
       kept = kept_after cluster corpus (root_request script) t (Ask t (last_ask t h + 1) n request) h tasks after refl ties.kept (rw there (rw (at_ask (root_request script) t h (last_ask t h + 1) n request) asked_on)) others;
       listed = λ place. listed_same cluster (Ask t (last_ask t h + 1) n request) h (λ m. refl) refl place _ (ties.listed place);
       sent =

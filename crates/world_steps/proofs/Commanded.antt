@@ -1,5 +1,5 @@
 -- Why commands come to an early end, and what they can do.
-use Rattle.std.proofs.Common.{◌≡◌, ◌≤◌, ◌<◌, ◌-◌, ℕ, zero, suc, Bool, true, false, List, [], ◌∷◌, length, get_or, Option, Some, None, refl, sym, ap, subst, ◌∙◌, inl, inr, arith}
+use Rattle.std.proofs.Common.{◌≡◌, ◌⊎◌, ◌≤◌, ◌<◌, ◌-◌, ℕ, zero, suc, Bool, true, false, List, [], ◌∷◌, length, get_or, Option, Some, None, refl, sym, ap, subst, ◌∙◌, inl, inr, arith}
 use Rattle.std.specs.Prelude.{slice_get, is_some, ◌&&◌}
 use Rattle.serde_json.specs.Data.{Data}
 use Rattle.query_parse.specs.declared.body.SearchBody.{SearchBody}
@@ -16,11 +16,10 @@ use Rattle.task_events.specs.Messages.Message.{Request, Answer, Ban, Ack, Unban}
 use Rattle.script_lang.specs.declared.command.Command.{Command}
 use Rattle.script_lang.specs.declared.command.Command.TheVariants.{Search, Cancel, Deliver, Step, ListStep, Settle, History}
 use Rattle.script_lang.specs.declared.command.Script.{Script}
-use Rattle.world_steps.specs.Moves.{Starts, NodeLacksNumber, LacksNumber, StopsDelivery, StopsStep}
+use Rattle.world_steps.specs.Moves.{Starts, NodeLacksNumber, LacksNumber, StopsDelivery, StopsMove}
 use Rattle.world_steps.specs.Stored.{has_index}
 use Rattle.world_steps.specs.Roots.{body_or_none, command_at}
 use Rattle.world_steps.specs.Scripts.{CanDo, CanRun, can_start, StartsWhere, PartlyDoes, PartlyCommands, StopsRun}
-use Rattle.world_steps.specs.World.{IsWhole, IsPartly}
 
 lacking : (cluster : Cluster) (h : List Event) (m : Message) → LacksNumber cluster h m → (node : ℕ) × NodeLacksNumber cluster h node
 lacking cluster h (Request p k n r) l = (n, l)
@@ -29,21 +28,16 @@ lacking cluster h (Ban p c n) l = absurd l
 lacking cluster h (Ack p n) l = absurd l
 lacking cluster h (Unban p n) l = absurd l
 
--- a move that did not happen, and one that would be next
-pub delivery_stops : (cluster : Cluster) (h new : List Event) (nth : ℕ) (stop : Stop) → StopsDelivery cluster h nth stop → IsWhole stop h new → StopsRun cluster new stop
-delivery_stops cluster h new nth HistoryFull full same = ap length same ∙ full
-delivery_stops cluster h new nth NumbersSpent (m, at, lacks) same = subst (λ x. (node : ℕ) × NodeLacksNumber cluster x node) (sym same) (lacking cluster h m lacks)
-delivery_stops cluster h new nth Memory any whole = tt
+-- why a move comes to an early end is why the run does
+pub delivery_stops : (cluster : Cluster) (h new : List Event) (nth : ℕ) (stop : Stop) → StopsDelivery cluster h nth new stop → StopsRun cluster new stop
+delivery_stops cluster h new nth HistoryFull full = full
+delivery_stops cluster h new nth NumbersSpent ((m, at, lacks), same) = subst (λ x. (node : ℕ) × NodeLacksNumber cluster x node) (sym same) (lacking cluster h m lacks)
+delivery_stops cluster h new nth Memory any = tt
 
-pub step_stops : (cluster : Cluster) (h new : List Event) (stop : Stop) → StopsStep h stop → IsWhole stop h new → StopsRun cluster new stop
-step_stops cluster h new HistoryFull full same = ap length same ∙ full
-step_stops cluster h new NumbersSpent never same = absurd never
-step_stops cluster h new Memory any whole = tt
-
-pub move_stops : (cluster : Cluster) (h : List Event) (nth : ℕ) (stop : Stop) → StopsDelivery cluster h nth stop → StopsRun cluster h stop
-move_stops cluster h nth HistoryFull full = full
-move_stops cluster h nth NumbersSpent (m, at, lacks) = lacking cluster h m lacks
-move_stops cluster h nth Memory any = tt
+pub move_stops : (cluster : Cluster) (new : List Event) (stop : Stop) → StopsMove new stop → StopsRun cluster new stop
+move_stops cluster new HistoryFull full = full
+move_stops cluster new NumbersSpent never = absurd never
+move_stops cluster new Memory any = tt
 
 -- each command of a script that can run can be done
 pub can_do : (nodes : ℕ) (commands : List Command) → CanRun nodes commands → (place : ℕ) (command : Command) → slice_get commands place ≡ Some command → CanDo nodes command
@@ -58,7 +52,7 @@ nothing_done cluster corpus script k (Cancel target reason wait) h new same = in
 nothing_done cluster corpus script k (Deliver nth) h new same = inl same
 nothing_done cluster corpus script k (Step task) h new same = inl same
 nothing_done cluster corpus script k (ListStep node parent) h new same = inl same
-nothing_done cluster corpus script k Settle h new same = ([], sym same)
+nothing_done cluster corpus script k Settle h new same = ([], h, refl, inl same)
 nothing_done cluster corpus script k History h new same = inl same
 
 -- the command of a number
@@ -77,7 +71,7 @@ command_there script (suc n) low high = by_place (slice_get script.commands n) r
 
 -- what a command has done so far
 pub partly_begun : (cluster : Cluster) (corpus : Corpus) (script : Script) (k : ℕ) → 1 ≤ k → k ≤ length script.commands
-    → (h new : List Event) → IsPartly (λ h new. new ≡ Begin k ∷ h) h new → PartlyCommands cluster corpus script k h new
+    → (h new : List Event) → (new ≡ h) ⊎ (new ≡ Begin k ∷ h) → PartlyCommands cluster corpus script k h new
 partly_begun cluster corpus script k low high h new (inl same) = inl same
 partly_begun cluster corpus script k low high h new (inr begun) =
     let there = command_there script k low high in

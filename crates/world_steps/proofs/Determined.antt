@@ -13,21 +13,25 @@ use Rattle.task_ids.proofs.TaskIdKeys.{exact_ids, ids_total}
 use Rattle.task_events.specs.declared.request.Request.{Request as Asked}
 use Rattle.task_events.specs.declared.reply.Reply.{Reply}
 use Rattle.task_events.specs.declared.event.Event.{Event}
-use Rattle.task_events.specs.declared.event.Event.TheVariants.{Begin, Root, RootRejected, Put, Reject, Answered, BanPut, Acked, BanGone}
-use Rattle.task_events.specs.Allowed.{TakesSlot}
+use Rattle.task_events.specs.declared.event.Event.TheVariants.{Begin, Root, RootRejected, Put, Reject, Mark, Listed, Answered, BanPut, Acked, BanGone}
+use Rattle.task_events.specs.Allowed.{TakesSlot, HasAllMarked}
 use Rattle.task_events.specs.Messages.{Message, in_flight}
 use Rattle.task_events.specs.Messages.Message.{Request, Answer, Ban, Ack, Unban}
-use Rattle.task_events.specs.Tasks.{live_on, last_number}
+use Rattle.task_events.specs.Tasks.{live_on, last_number, parent_of}
 use Rattle.task_laws.proofs.Same.{same_fields}
 use Rattle.script_lang.specs.declared.command.Command.{Command}
 use Rattle.script_lang.specs.declared.command.Command.TheVariants.{Search, Cancel, Deliver, Step, ListStep, Settle, History}
 use Rattle.script_lang.specs.declared.command.Script.{Script}
 use Rattle.world_steps.specs.declared.acting.Stepped.{Stepped}
 use Rattle.world_steps.specs.declared.acting.Stepped.TheVariants.{Done, Waiting, NotRunning}
+use Rattle.world_steps.specs.declared.listing.Listing.{Listing}
+use Rattle.world_steps.specs.Cancels.{with_due}
+use Rattle.world_steps.specs.Listings.{listing_cmp, IsNextChild, IsListStep, ListSteps}
 use Rattle.world_steps.specs.Moves.{IsDelivery, Delivers, IsStart, Starts}
+use Rattle.world_steps.proofs.ListingKeys.{one_listing}
 use Rattle.world_steps.specs.Roots.{command_at}
 use Rattle.world_steps.specs.Runs.{Steps, AnswersStep, FirstMoves, IsSettled, Passes, Settles}
-use Rattle.world_steps.specs.Scripts.{can_start, StartsWhere, DeliversWhere, Does, Commands, HasRun, IsRun}
+use Rattle.world_steps.specs.Scripts.{can_start, StartsWhere, DeliversWhere, ListsWhere, Does, Commands, HasRun, IsRun}
 
 some_one : {A : Type 0} (o : Option A) (x y : A) → o ≡ Some x → o ≡ Some y → x ≡ y
 some_one o x y e f = let both : Some x ≡ Some y = sym e ∙ f in cc
@@ -37,6 +41,10 @@ none_some o x e f = let both : None ≡ Some x = sym e ∙ f in cc
 
 one_newest : (h new other : List Event) (e f : Event) → new ≡ e ∷ h → other ≡ f ∷ h → e ≡ f → new ≡ other
 one_newest h new other e f is_new is_other same = is_new ∙ ap (λ x. x ∷ h) same ∙ sym is_other
+
+-- one event has the same answers that come due with it
+one_with_due : (h new other : List Event) (e f : Event) → new ≡ with_due e h → other ≡ with_due f h → e ≡ f → new ≡ other
+one_with_due h new other e f is_new is_other same = is_new ∙ ap (λ x. with_due x h) same ∙ sym is_other
 
 module _ (cluster : Cluster) (h : List Event) where
   -- ---- deliveries
@@ -88,7 +96,7 @@ module _ (cluster : Cluster) (h : List Event) where
   delivers_one : (nth : ℕ) (new other : List Event) → Delivers cluster h nth new → Delivers cluster h nth other → new ≡ other
   delivers_one nth new other (m, e, at, is, same) (l, f, at_too, is_too, same_too) =
       let one : m ≡ l = some_one (slice_get (in_flight h) nth) m l at at_too in
-      one_newest h new other e f same same_too (one_delivery l e f (subst (λ x. IsDelivery cluster h x e) one is) is_too)
+      one_with_due h new other e f same same_too (one_delivery l e f (subst (λ x. IsDelivery cluster h x e) one is) is_too)
 
   none_delivered : (nth : ℕ) (new : List Event) → length (in_flight h) ≤ nth → Delivers cluster h nth new → ⊥
   none_delivered nth new past (m, e, at, is, same) = let low = slice_get_within (in_flight h) nth m at in omega arith
@@ -130,9 +138,47 @@ one_id t u le ge = by_order (task_id_cmp t u) refl
     by_order Less e = absurd (let turned : task_id_cmp u t ≡ Greater = ids_total.antisymm u t ∙ ap ordering_reverse e in cc)
     by_order Greater e = absurd (cc)
 
+-- ---- listings
+
+module _ (cluster : Cluster) (h : List Event) where
+  -- the next child of a listing is one task
+  one_child : (l : Listing) (t u : TaskId) → IsNextChild l t h → IsNextChild l u h → t ≡ u
+  one_child l t u a b =
+      let nodes : t.node ≡ u.node = a.there ∙ sym b.there in
+      let parents : parent_of t h ≡ parent_of u h = a.child ∙ sym b.child in
+      let low : t.number ≤ u.number = a.lowest u (sym parents) (sym nodes) b.live b.unmarked in
+      let high : u.number ≤ t.number = b.lowest t parents nodes a.live a.unmarked in
+      same_fields t u nodes (omega (arith, low, high))
+
+  -- a listing in which a child is left does not end
+  not_over : (l : Listing) (t : TaskId) → IsNextChild l t h → HasAllMarked l.node l.parent h → ⊥
+  not_over l t next all = all t next.child next.there next.live next.unmarked
+
+  one_list_step : (l : Listing) (e f : Event) → IsListStep l h e → IsListStep l h f → e ≡ f
+  one_list_step l (Mark t c) (Mark u d) (a, ban) (b, ban_too) =
+      let same : Some c ≡ Some d = sym ban ∙ ban_too in
+      let child = one_child l t u a b in
+      let number : c ≡ d = cc in
+      λ i. Mark (child i) (number i)
+  one_list_step l (Mark t c) (Listed n p) (a, ban) (at, parent, all) = absurd (not_over l t a all)
+  one_list_step l (Listed n p) (Mark t c) (at, parent, all) (a, ban) = absurd (not_over l t a all)
+  one_list_step l (Listed n p) (Listed m q) (at, parent, all) (at_too, parent_too, all_too) = cc (at, parent, at_too, parent_too)
+  one_list_step l (Mark t c) _ a b = absurd b
+  one_list_step l (Listed n p) _ a b = absurd b
+  one_list_step l _ f a b = absurd a
+
+  lists_one : (l : Listing) (new other : List Event) → ListSteps l h new → ListSteps l h other → new ≡ other
+  lists_one l new other (e, opened, is, same) (f, opened_too, is_too, same_too) = one_newest h new other e f same same_too (one_list_step l e f is is_too)
+
+  lists_where_one : (l : Listing) (new other : List Event) → ListsWhere l h new → ListsWhere l h other → new ≡ other
+  lists_where_one l new other (inl a) (inl b) = lists_one l new other a b
+  lists_where_one l new other (inl (e, opened, is, same)) (inr (closed, same_too)) = absurd (cc (opened, closed))
+  lists_where_one l new other (inr (closed, same_too)) (inl (e, opened, is, same)) = absurd (cc (opened, closed))
+  lists_where_one l new other (inr (closed, same)) (inr (closed_too, same_too)) = same ∙ sym same_too
+
 module _ (cluster : Cluster) (corpus : Corpus) (script : Script) where
   steps_one : (t : TaskId) (h new other : List Event) → Steps cluster corpus script t h new → Steps cluster corpus script t h other → new ≡ other
-  steps_one t h new other (e, live, next, same) (f, live_too, next_too, same_too) = one_newest h new other e f same same_too (some_one _ e f next next_too)
+  steps_one t h new other (e, live, next, same) (f, live_too, next_too, same_too) = one_with_due h new other e f same same_too (some_one _ e f next next_too)
 
   answers_one : (t : TaskId) (h new other : List Event) (a b : Stepped) → AnswersStep cluster corpus script t h a new → AnswersStep cluster corpus script t h b other → new ≡ other
   answers_one t h new other Done Done a b = steps_one t h new other a b
@@ -152,15 +198,23 @@ module _ (cluster : Cluster) (corpus : Corpus) (script : Script) where
 
   first_one : (h new other : List Event) → FirstMoves cluster corpus script h new → FirstMoves cluster corpus script h other → new ≡ other
   first_one h new other (inl d) (inl g) = delivers_one cluster h 0 new other d g
-  first_one h new other (inl d) (inr (none, rest)) = absurd (nothing_at h new none d)
-  first_one h new other (inr (none, rest)) (inl d) = absurd (nothing_at h other none d)
-  first_one h new other (inr (none, (t, first, steps))) (inr (none_too, (u, first_too, steps_too))) =
+  first_one h new other (inl d) (inr (inl (none, rest))) = absurd (nothing_at h new none d)
+  first_one h new other (inl d) (inr (inr (none, closed, rest))) = absurd (nothing_at h new none d)
+  first_one h new other (inr (inl (none, rest))) (inl d) = absurd (nothing_at h other none d)
+  first_one h new other (inr (inr (none, closed, rest))) (inl d) = absurd (nothing_at h other none d)
+  first_one h new other (inr (inl (none, (l, first, lists)))) (inr (inl (none_too, (m, first_too, lists_too)))) =
+      let one : l ≡ m = one_listing l m (first.1 m first_too.0) (first_too.1 l first.0) in
+      lists_one cluster h m new other (subst (λ x. ListSteps x h new) one lists) lists_too
+  first_one h new other (inr (inl (none, (l, first, lists)))) (inr (inr (none_too, closed, rest))) = absurd (let here = closed l in let there = first.0 in cc)
+  first_one h new other (inr (inr (none_too, closed, rest))) (inr (inl (none, (l, first, lists)))) = absurd (let here = closed l in let there = first.0 in cc)
+  first_one h new other (inr (inr (none, closed, (t, first, steps)))) (inr (inr (none_too, closed_too, (u, first_too, steps_too)))) =
       let one : t ≡ u = one_id t u (first.1 u first_too.0) (first_too.1 t first.0) in
       steps_one u h new other (subst (λ x. Steps cluster corpus script x h new) one steps) steps_too
 
   settled_rests : (h new : List Event) → IsSettled cluster corpus script h → FirstMoves cluster corpus script h new → ⊥
   settled_rests h new s (inl d) = nothing_at h new s.nothing_in_flight d
-  settled_rests h new s (inr (none, (t, first, (e, live, next, same)))) = none_some _ e (s.all_wait t live) next
+  settled_rests h new s (inr (inl (none, (l, first, lists)))) = let here = s.no_listing l in let there = first.0 in cc
+  settled_rests h new s (inr (inr (none, closed, (t, first, (e, live, next, same))))) = none_some _ e (s.all_wait t live) next
 
   passes_one : (h : List Event) (between : List (List Event)) (new : List Event) (others : List (List Event)) (other : List Event)
       → Passes cluster corpus script h between new → IsSettled cluster corpus script new → Passes cluster corpus script h others other → IsSettled cluster corpus script other → new ≡ other
@@ -188,10 +242,10 @@ module _ (cluster : Cluster) (corpus : Corpus) (script : Script) where
 
   does_one : (k : ℕ) (command : Command) (h new other : List Event) → Does cluster corpus script k command h new → Does cluster corpus script k command h other → new ≡ other
   does_one k (Search index node body) h new other a b = where_one (can_start corpus index body) k node h new other a b
-  does_one k (Cancel target reason wait) h new other a b = absurd a
+  does_one k (Cancel target reason wait) h new other a b = a ∙ sym b
   does_one k (Deliver nth) h new other a b = place_one nth h new other a b
   does_one k (Step task) h new other (a, s) (b, t) = answers_one task h new other a b s t
-  does_one k (ListStep node parent) h new other a b = absurd a
+  does_one k (ListStep node parent) h new other a b = lists_where_one cluster h (record { node = node; parent = parent }) new other a b
   does_one k Settle h new other a b = settles_one h new other a b
   does_one k History h new other a b = a ∙ sym b
 

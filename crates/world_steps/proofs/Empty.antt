@@ -1,14 +1,24 @@
 -- Where nothing has happened, empty tables fit.
-use Rattle.std.proofs.Common.{◌≡◌, ℕ, ◌+◌, zero, suc, List, [], Option, None, refl, sym, subst, arith}
+use Rattle.std.proofs.Common.{◌≡◌, ◌≤◌, ℕ, ◌+◌, zero, suc, false, List, [], map, Option, Some, None, refl, sym, subst, arith}
 use Rattle.std.specs.Prelude.{slice_get}
+use Rattle.std.specs.List.{range_with_len}
+use Rattle.std.specs.BTreeSet.{BTreeSet, contains}
+use Rattle.std.specs.FinMap.{FinMap, empty, get-empty}
+use Rattle.std.proofs.lemmas.List.Elements.{All-nil}
+use Rattle.task_ids.specs.TaskIdOrder.{task_id_cmp}
+use Rattle.cancel_core.specs.Cancellations.{Cancellations, no_cancellations}
 use Rattle.task_ids.specs.declared.task_id.TaskId.{TaskId}
 use Rattle.task_ids.specs.declared.cluster.Cluster.{Cluster}
 use Rattle.task_ids.specs.declared.corpus.Corpus.{Corpus}
-use Rattle.task_table.specs.Table.{Table}
+use Rattle.task_table.specs.Table.{Table, new_table}
 use Rattle.script_lang.specs.declared.command.Script.{Script}
 use Rattle.world_steps.specs.declared.running.Running.{Running}
 use Rattle.world_steps.specs.Ties.{Ties, IsTableAt}
-use Rattle.world_steps.specs.World.{tables_from}
+use Rattle.world_steps.specs.declared.listing.Listing.{Listing}
+use Rattle.world_steps.specs.Cancels.{waiting_for}
+use Rattle.world_steps.specs.Cancelling.{Cancelling, IsEntryOf, IsRowOf, HasRows, HasBansAt, HasCoreAt}
+use Rattle.world_steps.specs.Listings.{listing_cmp}
+use Rattle.world_steps.specs.World.{tables_from, cores_from, no_bans}
 
 -- the table of a place among those of the nodes from one on
 table_at : (cluster : Cluster) (from many place : ℕ) → from + many ≡ cluster.nodes → IsTableAt cluster (from + place) [] (slice_get (tables_from from many cluster.slots) place)
@@ -23,10 +33,37 @@ pub nothing_yet : (cluster : Cluster) (corpus : Corpus) (script : Script) (tasks
     → Ties cluster corpus script [] tasks tables []
 nothing_yet cluster corpus script tasks tables none are = record {
   lawful = tt;
-  calm = tt;
   kept = λ t. rw (none t) refl;
   listed = λ place. subst (λ ts. IsTableAt cluster place [] (slice_get ts place)) (sym are) (subst (λ p. IsTableAt cluster p [] (slice_get (tables_from 0 cluster.nodes cluster.slots) place)) (from_zero place) (table_at cluster 0 cluster.nodes place (from_zero cluster.nodes)));
   sent = refl;
   good = tt;
   plain = tt;
 }
+
+-- ---- bans and cancellations
+
+-- what is said of each place of a list that has something for each node
+at_each : {X : Type 0} (P : ℕ → Option X → Type 0) (f : ℕ → X) (from many place : ℕ) → ((p : ℕ) → P p (Some (f p))) → ((p : ℕ) → from + many ≤ p → P p None) → P (from + place) (slice_get (map f (range_with_len from many)) place)
+at_each P f from zero place some none = none (from + place) (omega arith)
+at_each P f from (suc many) zero some none = let same : from ≡ from + zero = omega arith in subst (λ p. P p (Some (f from))) same (some from)
+at_each P f from (suc many) (suc place) some none =
+    let same : from + 1 + place ≡ from + suc place = omega arith in
+    subst (λ p. P p (slice_get (map f (range_with_len (from + 1) many)) place)) same (at_each P f (from + 1) many place some (λ p l. none p (omega (arith, l))))
+
+module _ (cluster : Cluster) where
+  each_node : {X : Type 0} (P : ℕ → Option X → Type 0) (f : ℕ → X) (xs : List X) → xs ≡ map f (range_with_len 0 cluster.nodes) → ((p : ℕ) → P p (Some (f p))) → ((p : ℕ) → cluster.nodes ≤ p → P p None) → (place : ℕ) → P place (slice_get xs place)
+  each_node P f xs same some none place =
+      let start : 0 + place ≡ place = omega arith in
+      subst (λ ys. P place (slice_get ys place)) (sym same) (subst (λ p. P p (slice_get (map f (range_with_len 0 cluster.nodes)) place)) start (at_each P f 0 cluster.nodes place some (λ p l. none p (omega (arith, l)))))
+
+  pub nothing_cancelled : (tables : List Table) (roots : ℕ → Option TaskId) (bans : List (FinMap task_id_cmp ℕ)) (cores : List Cancellations) (listings : BTreeSet Listing)
+      → tables ≡ tables_from 0 cluster.nodes cluster.slots → ((k : ℕ) → roots k ≡ None) → bans ≡ no_bans cluster.nodes → cores ≡ cores_from 0 cluster.nodes → ((l : Listing) → contains listing_cmp listings l ≡ false)
+      → Cancelling cluster (λ t. waiting_for t []) [] tables roots bans cores listings
+  nothing_cancelled tables roots bans cores listings tables_are roots_none bans_are cores_are none = record {
+    rows_are = each_node (λ p o. HasRows [] o) (λ p. new_table (p + 1) cluster.slots) tables tables_are (λ p. All-nil (IsRowOf [])) (λ p l. tt);
+    roots_are = roots_none;
+    bans_are = each_node (λ p o. HasBansAt cluster p [] o) (λ p. empty) bans bans_are (λ p q. get-empty task_id_cmp q) (λ p l. l);
+    cores_are = each_node (λ p o. HasCoreAt cluster (λ t. waiting_for t []) p [] o) (λ p. no_cancellations (p + 1)) cores cores_are (λ p t at. subst (IsEntryOf (waiting_for t []) t []) (sym (get-empty task_id_cmp t)) (refl, refl)) (λ p l. l);
+    listings_are = none;
+    one_task = λ c t u named named_too. absurd (cc);
+  }

@@ -27,7 +27,8 @@ use Rattle.task_events.specs.Answers.{shard_top, fetched}
 use Rattle.task_events.specs.Searches.{ask_or_end, work_or_end, are_answered, search_reply, failed_in, requests_of, query_of, fetches_of, tops_in, has_queried}
 use Rattle.world_steps.specs.Stored.{Stored, AreFew}
 use Rattle.world_steps.specs.Ties.{WorksFor, IsGoodReply, written, looked_at}
-use Rattle.world_steps.proofs.Answered.{none_awaited, all_answered}
+use Rattle.world_steps.specs.Facts.{none_awaited}
+use Rattle.world_steps.proofs.Answered.{all_answered}
 use Rattle.world_steps.proofs.PossibleHits.{hits_possible}
 use Rattle.world_steps.proofs.PossibleTops.{tops_possible}
 

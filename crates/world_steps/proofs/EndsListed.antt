@@ -1,4 +1,4 @@
--- What a node's table lists after the end of a task.
+-- What a node's table lists after a task has left.
 use Rattle.std.proofs.Common.{◌≡◌, ◌≢◌, ◌⊎◌, ◌==◌, ℕ, ◌+◌, ◌-◌, ◌≤◌, Bool, true, false, not, cond, List, [], ◌∷◌, ◌++◌, Option, Some, None, refl, sym, ap, ◌∙◌, inl, inr, filter, reverse, map, arith, subst}
 use Rattle.std.specs.Prelude.{slice_get, slice_set}
 use Rattle.std.proofs.lemmas.Bool.Decides.{nat_tests}
@@ -10,11 +10,9 @@ use Rattle.task_ids.specs.declared.task_info.TaskInfo.{TaskInfo}
 use Rattle.task_ids.specs.declared.cluster.Cluster.{Cluster}
 use Rattle.task_table.specs.Table.{Table, without_task}
 use Rattle.task_table.specs.Rows.{without_number}
-use Rattle.task_events.specs.declared.reply.Reply.{Reply}
 use Rattle.task_events.specs.declared.event.Event.{Event}
-use Rattle.task_events.specs.declared.event.Event.TheVariants.{End}
 use Rattle.task_events.specs.Same.{same_task}
-use Rattle.task_events.specs.Tasks.{live_tasks}
+use Rattle.task_events.specs.Tasks.{live_tasks, last_number}
 use Rattle.task_laws.proofs.Same.{same_tests}
 use Rattle.world_steps.specs.Ties.{IsTableAt, IsTableOf}
 use Rattle.world_steps.proofs.ByPlace.{set_same, set_other}
@@ -78,35 +76,37 @@ module _ (t : TaskId) where
       here true s rest = let off : (n == u.node) ≡ false = grind (arith, same_tests) in rw off rest
       here false s rest = ap (λ us. cond (n == u.node) (u ∷ us) us) rest
 
-  module _ (cluster : Cluster) (reply : Reply) (h : List Event) where
-    ended_here : (table : Table) → IsTableOf cluster t.node h table → IsTableOf cluster t.node (End t reply ∷ h) (without_task table t.number)
+  -- the event takes the task from the live ones, and no node gives a number
+  module _ (cluster : Cluster) (e : Event) (h : List Event) (left : live_tasks (e ∷ h) ≡ filter (λ u. not (same_task t u)) (live_tasks h)) (last : (n : ℕ) → last_number n (e ∷ h) ≡ last_number n h) where
+    ended_here : (table : Table) → IsTableOf cluster t.node h table → IsTableOf cluster t.node (e ∷ h) (without_task table t.number)
     ended_here table i = record {
       node_is = i.node_is;
       slots_are = i.slots_are;
-      last_is = i.last_is;
+      last_is = i.last_is ∙ sym (last t.node);
       lists = ids_without t.number table.live ∙ ap (filter (λ id. not (id.number == t.number))) i.lists
-          ∙ filter_turned (λ id. not (id.number == t.number)) (filter (λ u. t.node == u.node) (live_tasks h)) ∙ ap reverse (left_here (live_tasks h));
+          ∙ filter_turned (λ id. not (id.number == t.number)) (filter (λ u. t.node == u.node) (live_tasks h)) ∙ ap reverse (left_here (live_tasks h))
+          ∙ ap (λ ts. reverse (filter (λ u. t.node == u.node) ts)) (sym left);
     }
 
-    ended_there : (place : ℕ) → place + 1 ≢ t.node → (o : Option Table) → IsTableAt cluster place h o → IsTableAt cluster place (End t reply ∷ h) o
+    ended_there : (place : ℕ) → place + 1 ≢ t.node → (o : Option Table) → IsTableAt cluster place h o → IsTableAt cluster place (e ∷ h) o
     ended_there place other None i = i
     ended_there place other (Some table) i = record {
       node_is = i.node_is;
       slots_are = i.slots_are;
-      last_is = i.last_is;
-      lists = i.lists ∙ ap reverse (left_there (place + 1) other (live_tasks h));
+      last_is = i.last_is ∙ sym (last (place + 1));
+      lists = i.lists ∙ ap reverse (left_there (place + 1) other (live_tasks h)) ∙ ap (λ ts. reverse (filter (λ u. (place + 1) == u.node) ts)) (sym left);
     }
 
     pub end_listed : (tables : List Table) (table : Table) → ((place : ℕ) → IsTableAt cluster place h (slice_get tables place)) → 1 ≤ t.node → slice_get tables (t.node - 1) ≡ Some table
-        → (place : ℕ) → IsTableAt cluster place (End t reply ∷ h) (slice_get (slice_set tables (t.node - 1) (without_task table t.number)) place)
+        → (place : ℕ) → IsTableAt cluster place (e ∷ h) (slice_get (slice_set tables (t.node - 1) (without_task table t.number)) place)
     end_listed tables table listed low here place = by_case (cases_eq (t.node - 1) place)
       where
-        by_case : (t.node - 1 ≡ place) ⊎ (t.node - 1 ≢ place) → IsTableAt cluster place (End t reply ∷ h) (slice_get (slice_set tables (t.node - 1) (without_task table t.number)) place)
+        by_case : (t.node - 1 ≡ place) ⊎ (t.node - 1 ≢ place) → IsTableAt cluster place (e ∷ h) (slice_get (slice_set tables (t.node - 1) (without_task table t.number)) place)
         by_case (inl same) =
             let back : place + 1 ≡ t.node = omega arith in
             let is_of = subst (λ n. IsTableOf cluster n h table) back (subst (λ o. IsTableAt cluster place h o) (ap (slice_get tables) (sym same) ∙ here) (listed place)) in
-            subst (λ o. IsTableAt cluster place (End t reply ∷ h) o) (sym (ap (slice_get (slice_set tables (t.node - 1) (without_task table t.number))) (sym same) ∙ set_same tables (t.node - 1) table (without_task table t.number) here))
-            (subst (λ n. IsTableOf cluster n (End t reply ∷ h) (without_task table t.number)) (sym back) (ended_here table is_of))
+            subst (λ o. IsTableAt cluster place (e ∷ h) o) (sym (ap (slice_get (slice_set tables (t.node - 1) (without_task table t.number))) (sym same) ∙ set_same tables (t.node - 1) table (without_task table t.number) here))
+            (subst (λ n. IsTableOf cluster n (e ∷ h) (without_task table t.number)) (sym back) (ended_here table is_of))
         by_case (inr apart) =
-            let other : place + 1 ≢ t.node = (λ e. apart (omega arith)) in
+            let other : place + 1 ≢ t.node = (λ back. apart (omega arith)) in
             rw (set_other tables (t.node - 1) place (without_task table t.number) apart) (ended_there place other (slice_get tables place) (listed place))

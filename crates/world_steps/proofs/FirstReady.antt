@@ -1,5 +1,5 @@
 -- The first of the tasks that do not wait makes its step.
-use Rattle.std.proofs.Common.{◌≡◌, ◌≢◌, ◌<◌, Bool, true, false, ◌&&◌, List, [], ◌∷◌, length, map, Option, Some, None, refl, sym, ◌∙◌, inl, inr}
+use Rattle.std.proofs.Common.{◌≡◌, ◌≢◌, ◌≤◌, Bool, true, false, ◌&&◌, List, [], ◌∷◌, length, map, Option, Some, None, refl, sym, ◌∙◌, inl, inr}
 use Rattle.std.specs.Prelude.{is_some}
 use Rattle.std.specs.declared.cmp.Ordering.{Ordering}
 use Rattle.std.specs.declared.cmp.Ordering.TheVariants.{Less, Equal, Greater}
@@ -18,8 +18,11 @@ use Rattle.world_steps.specs.declared.acting.Stepped.{Stepped}
 use Rattle.world_steps.specs.declared.acting.Stepped.TheVariants.{Done, Waiting, NotRunning}
 use Rattle.world_steps.specs.declared.flight.Sent.{Sent}
 use Rattle.world_steps.specs.Flights.{message_of}
-use Rattle.world_steps.specs.Runs.{next_of, Steps, AnswersStep, IsReady, IsFirstReady, FirstMoves}
-use Rattle.world_steps.specs.World.{is_ready, HasRoom, IsPartly}
+use Rattle.world_steps.specs.declared.listing.Listing.{Listing}
+use Rattle.world_steps.specs.Listings.{is_open}
+use Rattle.world_steps.specs.Moves.{IsPartly}
+use Rattle.world_steps.specs.Runs.{next_of, Steps, AnswersStep, IsReady, IsFirstReady, FirstMoves, HasRoom}
+use Rattle.world_steps.specs.World.{is_ready}
 
 -- no entry, no message
 pub nothing_in_flight : (h : List Event) (queue : List Sent) (ms : List Message) → map (message_of h) queue ≡ map Some ms → length queue ≡ 0 → ms ≡ []
@@ -62,23 +65,23 @@ module _ (cluster : Cluster) (corpus : Corpus) (script : Script) (h : List Event
   makes_step t Waiting new r (l, waits, same) = absurd (r.1 waits)
   makes_step t NotRunning new r a = absurd (let x = sym r.0 ∙ a.0 in cc)
 
-  has_room : (t : TaskId) (stepped : Stepped) (new : List Event) → IsReady cluster corpus script t h → AnswersStep cluster corpus script t h stepped new → HasRoom stepped h → length h < MAX_EVENTS
+  has_room : (t : TaskId) (stepped : Stepped) (new : List Event) → IsReady cluster corpus script t h → AnswersStep cluster corpus script t h stepped new → HasRoom stepped new → length new ≤ MAX_EVENTS
   has_room t Done new r a room = room
   has_room t Waiting new r (l, waits, same) room = absurd (r.1 waits)
   has_room t NotRunning new r a room = absurd (let x = sym r.0 ∙ a.0 in cc)
 
   pub first_has_room : (set : BTreeSet TaskId) (t : TaskId) → ((q : TaskId) → contains task_id_cmp set q ≡ is_ready cluster corpus script h q) → contains task_id_cmp set t ≡ true → IsLowerBound task_id_cmp set t
-      → (stepped : Stepped) (new : List Event) → AnswersStep cluster corpus script t h stepped new → HasRoom stepped h → length h < MAX_EVENTS
+      → (stepped : Stepped) (new : List Event) → AnswersStep cluster corpus script t h stepped new → HasRoom stepped new → length new ≤ MAX_EVENTS
   first_has_room set t known member least stepped new a room = has_room t stepped new (first_ready set t known member least).0 a room
 
-  -- the step of the first ready task is a first move where nothing is in flight
+  -- the step of the first ready task is a first move where nothing is in flight and no listing is open
   pub first_move : (set : BTreeSet TaskId) (t : TaskId) → ((q : TaskId) → contains task_id_cmp set q ≡ is_ready cluster corpus script h q) → contains task_id_cmp set t ≡ true → IsLowerBound task_id_cmp set t
-      → in_flight h ≡ [] → (stepped : Stepped) (new : List Event) → AnswersStep cluster corpus script t h stepped new → FirstMoves cluster corpus script h new
-  first_move set t known member least none stepped new a =
+      → in_flight h ≡ [] → ((l : Listing) → is_open l h ≡ false) → (stepped : Stepped) (new : List Event) → AnswersStep cluster corpus script t h stepped new → FirstMoves cluster corpus script h new
+  first_move set t known member least none closed stepped new a =
       let first = first_ready set t known member least in
-      inr (none, (t, first, makes_step t stepped new first.0 a))
+      inr (inr (none, closed, (t, first, makes_step t stepped new first.0 a)))
 
   pub first_part : (set : BTreeSet TaskId) (t : TaskId) → ((q : TaskId) → contains task_id_cmp set q ≡ is_ready cluster corpus script h q) → contains task_id_cmp set t ≡ true → IsLowerBound task_id_cmp set t
-      → in_flight h ≡ [] → (new : List Event) → IsPartly (λ g n. Steps cluster corpus script t g n) h new → IsPartly (λ g n. FirstMoves cluster corpus script g n) h new
-  first_part set t known member least none new (inl same) = inl same
-  first_part set t known member least none new (inr steps) = inr (inr (none, (t, first_ready set t known member least, steps)))
+      → in_flight h ≡ [] → ((l : Listing) → is_open l h ≡ false) → (new : List Event) → IsPartly (Steps cluster corpus script t) h new → IsPartly (FirstMoves cluster corpus script) h new
+  first_part set t known member least none closed new (inl same) = inl same
+  first_part set t known member least none closed new (inr (whole, steps, part)) = inr (whole, inr (inr (none, closed, (t, first_ready set t known member least, steps))), part)

@@ -7,10 +7,10 @@ use Rattle.world_steps.specs.Scripts.{CanDo, CanRun}
 
 one_can : (nodes : ℕ) (before : List Command) (command : Command) → Fits nodes before command → CanDo nodes command
 one_can nodes before (Search index node body) fits = fits
-one_can nodes before (Cancel target reason wait) fits = absurd fits
+one_can nodes before (Cancel target reason wait) fits = tt
 one_can nodes before (Deliver nth) fits = tt
 one_can nodes before (Step task) fits = tt
-one_can nodes before (ListStep node parent) fits = absurd fits
+one_can nodes before (ListStep node parent) fits = tt
 one_can nodes before Settle fits = tt
 one_can nodes before History fits = tt
 

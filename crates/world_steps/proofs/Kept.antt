@@ -64,11 +64,11 @@ off_changed t o tasks after changed q differs = changed q ∙ ap (λ b. cond b o
 pub some_of : {A : Type 0} (o : Option A) (a : A) → o ≡ Some a → IsSome o
 some_of o a e = subst (λ x. IsSome x) (sym e) refl
 
--- a set that was changed at one id, and then has what is wanted there and had it everywhere else
-pub known_after : (t : TaskId) (b : Bool) (old new want : TaskId → Bool) → ((q : TaskId) → new q ≡ cond (is_at (task_id_cmp t) q) b (old q)) → want t ≡ b
-    → ((q : TaskId) → same_task t q ≡ false → old q ≡ want q) → (q : TaskId) → new q ≡ want q
-known_after t b old new want changed here others q = by_case (same_task_tells t q)
+-- a set that was changed at one id, and has what is wanted there
+pub known_at : (t : TaskId) (b : Bool) (old new want : TaskId → Bool) → ((q : TaskId) → new q ≡ cond (is_at (task_id_cmp t) q) b (old q)) → want t ≡ b
+    → (q : TaskId) → new q ≡ cond (same_task t q) (want q) (old q)
+known_at t b old new want changed here q = by_case (same_task_tells t q)
   where
-    by_case : ((same_task t q ≡ true) × (t ≡ q)) ⊎ ((same_task t q ≡ false) × (t ≢ q)) → new q ≡ want q
-    by_case (inl (is_one, same)) = changed q ∙ ap (λ x. cond x b (old q)) (is_at_task t q ∙ is_one) ∙ sym here ∙ ap want same
-    by_case (inr (differs, apart)) = changed q ∙ ap (λ x. cond x b (old q)) (is_at_task t q ∙ differs) ∙ others q differs
+    by_case : ((same_task t q ≡ true) × (t ≡ q)) ⊎ ((same_task t q ≡ false) × (t ≢ q)) → new q ≡ cond (same_task t q) (want q) (old q)
+    by_case (inl (is_one, same)) = changed q ∙ ap (λ x. cond x b (old q)) (is_at_task t q ∙ is_one) ∙ sym here ∙ ap want same ∙ sym (ap (λ x. cond x (want q) (old q)) is_one)
+    by_case (inr (differs, apart)) = changed q ∙ ap (λ x. cond x b (old q)) (is_at_task t q ∙ differs) ∙ sym (ap (λ x. cond x (want q) (old q)) differs)

@@ -1,36 +1,50 @@
 -- Some first moves and one more.
-use Rattle.std.proofs.Common.{◌≡◌, ◌<◌, ℕ, ◌+◌, ◌-◌, List, [], ◌∷◌, ◌++◌, length, refl, sym, ap, subst, ◌∙◌, inl, inr, arith}
+use Rattle.std.proofs.lemmas.List.{length-append}
+use Rattle.std.proofs.Common.{◌≡◌, ◌<◌, ◌≤◌, reverse, ℕ, ◌+◌, ◌-◌, List, [], ◌∷◌, ◌++◌, length, refl, sym, ap, subst, ◌∙◌, inl, inr, arith}
 use Rattle.task_ids.specs.declared.cluster.Cluster.{Cluster}
 use Rattle.task_ids.specs.declared.corpus.Corpus.{Corpus}
 use Rattle.task_events.specs.declared.event.Event.{Event}
 use Rattle.script_lang.specs.declared.command.Script.{Script}
+use Rattle.task_events.specs.declared.event.Event.TheVariants.{Refuse, Acked, End}
+use Rattle.world_steps.specs.Cancels.{due_answers, with_due}
+use Rattle.world_steps.specs.Moves.{IsPartly}
 use Rattle.world_steps.specs.Runs.{FirstMoves, Passes, PartlySettles}
 use Rattle.std.specs.BTreeSet.{BTreeSet}
 use Rattle.task_ids.specs.declared.task_id.TaskId.{TaskId}
 use Rattle.world_steps.specs.declared.state.State.{State}
 use Rattle.world_steps.specs.Stored.{AreFew}
 use Rattle.world_steps.specs.Ties.{IsTied, Keeps}
-use Rattle.world_steps.specs.World.{IsPartly, HasReady, HasSettled}
+use Rattle.world_steps.specs.World.{HasReady, HasSettled}
 
 module _ (cluster : Cluster) (corpus : Corpus) (script : Script) where
   further : (h : List Event) (between : List (List Event)) (m n : List Event) → Passes cluster corpus script h between m → FirstMoves cluster corpus script m n → Passes cluster corpus script h (between ++ n ∷ []) n
   further h [] m n same moves = (subst (λ x. FirstMoves cluster corpus script x n) (sym same) moves, refl)
   further h (next ∷ later) m n passes moves = (passes.0, further next later m n passes.1 moves)
 
-  pub one_more : (h m n : List Event) → PartlySettles cluster corpus script h m → FirstMoves cluster corpus script m n → PartlySettles cluster corpus script h n
+  abbrev pub HasPassed : List Event → List Event → Type 0
+  HasPassed h m = (between : List (List Event)) × Passes cluster corpus script h between m
+
+  pub one_more : (h m n : List Event) → HasPassed h m → FirstMoves cluster corpus script m n → HasPassed h n
   one_more h m n (between, passes) moves = (between ++ n ∷ [], further h between m n passes moves)
 
-  pub partly_more : (h m n : List Event) → PartlySettles cluster corpus script h m → IsPartly (λ g k. FirstMoves cluster corpus script g k) m n → PartlySettles cluster corpus script h n
-  partly_more h m n passes (inl same) = subst (PartlySettles cluster corpus script h) (sym same) passes
-  partly_more h m n passes (inr moves) = one_more h m n passes moves
+  pub partly_more : (h m n : List Event) → HasPassed h m → IsPartly (FirstMoves cluster corpus script) m n → PartlySettles cluster corpus script h n
+  partly_more h m n (between, passes) part = (between, m, passes, part)
 
-  -- a first move is one event
-  pub one_longer : (h new : List Event) → FirstMoves cluster corpus script h new → length new ≡ length h + 1
-  one_longer h new (inl (m, e, at, is, same)) = let x = ap length same in omega (arith, x)
-  one_longer h new (inr (none, (t, first, (e, live, next, same)))) = let x = ap length same in omega (arith, x)
+-- an event makes the past longer, with the answers that come due
+longer : (e : Event) (h : List Event) → length h < length (with_due e h)
+longer (Refuse t c) h = omega (arith, length-append (reverse (due_answers t (Refuse t c ∷ h))) (Refuse t c ∷ h))
+longer (End t reply) h = omega (arith, length-append (reverse (due_answers t (End t reply ∷ h))) (End t reply ∷ h))
+longer (Acked p n) h = omega (arith, length-append (reverse (due_answers p (Acked p n ∷ h))) (Acked p n ∷ h))
+longer e h = omega arith
+
+module _ (cluster : Cluster) (corpus : Corpus) (script : Script) where
+  pub move_longer : (h new : List Event) → FirstMoves cluster corpus script h new → length h < length new
+  move_longer h new (inl (m, e, at, is, same)) = rw same (longer e h)
+  move_longer h new (inr (inl (none, (l, first, (e, opened, is, same))))) = rw same (omega arith)
+  move_longer h new (inr (inr (none, closed, (t, first, (e, live, next, same))))) = rw same (longer e h)
 
 -- the measure of settling falls
-pub less_left : (most n m : ℕ) → n < most → m ≡ n + 1 → most - m < most - n
+pub less_left : (most n m : ℕ) → m ≤ most → n < m → most - m < most - n
 less_left most n m room longer = omega (arith, room, longer)
 
 -- settling goes on by a first move
@@ -58,6 +72,9 @@ module _ (start now next : State) (ready : BTreeSet TaskId) where
     passes = one_more start.cluster start.corpus.now start.script.now start.history now.history next.history s.passes (moves_from_start s.keeps moved);
   }
 
-  pub partly_on : HasSettled start now ready → IsPartly (λ h new. FirstMoves now.cluster now.corpus.now now.script.now h new) now.history next.history → PartlySettles start.cluster start.corpus.now start.script.now start.history next.history
-  partly_on s (inl same) = subst (PartlySettles start.cluster start.corpus.now start.script.now start.history) (sym same) s.passes
-  partly_on s (inr moved) = one_more start.cluster start.corpus.now start.script.now start.history now.history next.history s.passes (moves_from_start s.keeps moved)
+  pub partly_on : HasSettled start now ready → IsPartly (FirstMoves now.cluster now.corpus.now now.script.now) now.history next.history → PartlySettles start.cluster start.corpus.now start.script.now start.history next.history
+  partly_on s part =
+      partly_more start.cluster start.corpus.now start.script.now start.history now.history next.history s.passes
+      (subst (λ x. IsPartly (FirstMoves x start.corpus.now start.script.now) now.history next.history) s.keeps.cluster
+      (subst (λ x. IsPartly (FirstMoves now.cluster x start.script.now) now.history next.history) s.keeps.corpus
+      (subst (λ x. IsPartly (FirstMoves now.cluster now.corpus.now x) now.history next.history) s.keeps.script part)))

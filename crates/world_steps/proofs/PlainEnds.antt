@@ -38,7 +38,7 @@ module _ {X : Type 0} (P : X → Type 0) where
   all_mapped f each [] = tt
   all_mapped f each (y ∷ ys) = (each y, all_mapped f each ys)
 
-  all_joined : (xs ys : List X) → AllByRecursion P xs → AllByRecursion P ys → AllByRecursion P (xs ++ ys)
+  pub all_joined : (xs ys : List X) → AllByRecursion P xs → AllByRecursion P ys → AllByRecursion P (xs ++ ys)
   all_joined [] ys a b = b
   all_joined (x ∷ xs) ys a b = (a.0, all_joined xs ys a.1 b)
 
@@ -84,7 +84,7 @@ module _ (cluster : Cluster) (corpus : Corpus) (t : TaskId) (ask : SearchAsk) (a
         ∙ ap (λ answered. plain_answer t ask cluster.shards writes answered (failed_in ask cluster.shards asked)) (newest_versions writes cluster.shards asked newest)
 
 module _ (cluster : Cluster) (corpus : Corpus) (t : TaskId) (asked : List Asked) (requests : List Request) (awaited : List (Option ℕ)) (turns : ℕ) where
-  pub replies_plainly : (o : Option Request) (w : Work) (looked : List Doc) (end : Reply) → WorksFor cluster corpus t asked requests awaited turns o w → next_of w looked ≡ Finish end → EndsPlainly cluster corpus t o asked end
+  pub replies_plainly : (o : Option Request) (w : Work) (looked : List Doc) (end : Reply) → WorksFor cluster corpus t asked requests awaited turns o w → next_of w looked ≡ Finish end → EndsPlainly cluster corpus t None o asked end
   replies_plainly None w looked end x e = absurd x
   replies_plainly (Some (asks.Search ask)) (works.Search s) looked end x e =
       let searches = subst (SearchesFor cluster corpus t ask asked requests awaited) x.state_is x in

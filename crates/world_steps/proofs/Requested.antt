@@ -24,13 +24,13 @@ use Rattle.world_steps.proofs.ByPlace.{push_at}
 pub length-grown : {X : Type 0} (xs : List X) (x : X) → length (xs ++ x ∷ []) ≡ length xs + 1
 length-grown xs x = omega (arith, length-append xs (x ∷ []))
 
-get_or-grown_other : (xs : List (Option ℕ)) (x : Option ℕ) (k : ℕ) → k ≢ length xs → get_or (xs ++ x ∷ []) k None ≡ get_or xs k None
+pub get_or-grown_other : (xs : List (Option ℕ)) (x : Option ℕ) (k : ℕ) → k ≢ length xs → get_or (xs ++ x ∷ []) k None ≡ get_or xs k None
 get_or-grown_other [] x zero d = absurd (d (omega arith))
 get_or-grown_other [] x (suc k) d = refl
 get_or-grown_other (y ∷ ys) x zero d = refl
 get_or-grown_other (y ∷ ys) x (suc k) d = get_or-grown_other ys x k (λ e. d (ap suc e))
 
-get_or-set_none : (xs : List (Option ℕ)) (k : ℕ) → get_or (slice_set xs k None) k None ≡ None
+pub get_or-set_none : (xs : List (Option ℕ)) (k : ℕ) → get_or (slice_set xs k None) k None ≡ None
 get_or-set_none [] k = refl
 get_or-set_none (x ∷ xs) zero = refl
 get_or-set_none (x ∷ xs) (suc k) = get_or-set_none xs k
@@ -93,7 +93,7 @@ module _ (cluster : Cluster) where
   requested_at t k (_ ∷ h) l = requested_at t k h l.1
 
   -- an answer is in flight only to an ask with a number from 1
-  answered_number : (p : TaskId) (j : ℕ) (h : List Event) → AskFacts h → 0 < number_in_flight (is_answer p j) h → 0 < j
+  pub answered_number : (p : TaskId) (j : ℕ) (h : List Event) → AskFacts h → 0 < number_in_flight (is_answer p j) h → 0 < j
   answered_number p j h f i = grind (arith, same_tests, answers_in_flight p j h, f.place p j, f.first_ask p)
 
   awaited_after_ask : (t p : TaskId) (k j n : ℕ) (r : Request) (h : List Event) → j ≡ last_ask p h + 1 → length (awaited_by t h) ≡ last_ask t h

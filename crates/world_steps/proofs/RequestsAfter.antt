@@ -20,6 +20,7 @@ use Rattle.task_events.specs.Same.{same_task}
 use Rattle.task_events.specs.Tasks.{live_on}
 use Rattle.task_events.specs.Asks.{request_of_ask}
 use Rattle.task_events.specs.Allowed.{TakesSlot}
+use Rattle.task_events.specs.Lawful.{AwaitsNoMark}
 use Rattle.task_events.specs.Messages.{Message, in_flight}
 use Rattle.task_events.specs.Messages.Message.{Request, Answer}
 use Rattle.world_steps.specs.declared.flight.Sent.{Sent}
@@ -31,7 +32,6 @@ use Rattle.world_steps.specs.Moves.{Delivers}
 use Rattle.world_steps.specs.Roots.{root_request}
 use Rattle.world_steps.specs.Ties.{Ties, IsGood, IsGoodReply}
 use Rattle.world_steps.proofs.Arrivals.{Arrives}
-use Rattle.world_steps.proofs.Calm.{no_mark_awaited}
 use Rattle.world_steps.proofs.FactsAfter.{at_put}
 use Rattle.world_steps.proofs.FlightAfter.{all_stay, event_newest}
 use Rattle.world_steps.proofs.Kept.{kept_after, kept_same}
@@ -51,7 +51,7 @@ good_rejection cluster corpus n (asks.Fetch ask) = (refl, tt, tt)
 abbrev pub rejected : Token → ℕ → Sent
 rejected token at = sent.Answer (record { task = None; parent = Some token.parent; ask = token.ask }) at
 
-module _ (cluster : Cluster) (corpus : Corpus) (script : Script) (h : List Event) (tasks : TaskId → Option Running) (tables : List Table) (flight : List Sent) (ties : Ties cluster corpus script h tasks tables flight) (nth : ℕ) (token : Token) (to at : ℕ) (arrives : Arrives cluster h nth token to at) where
+module _ (cluster : Cluster) (corpus : Corpus) (script : Script) (h : List Event) (tasks : TaskId → Option Running) (tables : List Table) (flight : List Sent) (ties : Ties cluster corpus script h tasks tables flight) (awaits : AwaitsNoMark h) (nth : ℕ) (token : Token) (to at : ℕ) (arrives : Arrives cluster h nth token to at) where
   -- the child takes a slot
   module _ (t : TaskId) (task : NewTask) (after : List Table) (put : IsPutOn tables to t task after) where
     node_is : t.node ≡ to
@@ -64,8 +64,7 @@ module _ (cluster : Cluster) (corpus : Corpus) (script : Script) (h : List Event
         → kept t ≡ Some running → ((q : TaskId) → same_task t q ≡ false → kept q ≡ tasks q)
         → Ties cluster corpus script (Put t token.parent token.ask ∷ h) kept after (remove flight nth)
     after_put running kept is on here others = record {
-      lawful = (record { requested = arrives.requested; node = arrives.node ∙ ap Some (sym node_is); takes = takes }, ties.lawful, no_mark_awaited h ties.calm);
-      calm = ties.calm;
+      lawful = (record { requested = arrives.requested; node = arrives.node ∙ ap Some (sym node_is); takes = takes }, ties.lawful, awaits);
       kept = kept_after cluster corpus (root_request script) t event h tasks kept refl ties.kept (rw here (runs_first cluster corpus t (Some token) true arrives.asked _ running facts is on)) others;
       listed = put_listed cluster h tables ties.listed to arrives.low arrives.high t task after put event (record { last = λ n. refl; live = refl });
       sent = all_stay event h (remove flight nth) (remove (in_flight h) nth) (pairs_left (message_of h) flight (in_flight h) nth ties.sent) ∙ ap (map Some) (sym arrives.taken);
@@ -96,8 +95,7 @@ module _ (cluster : Cluster) (corpus : Corpus) (script : Script) (h : List Event
 
     pub after_reject : Ties cluster corpus script (Reject to token.parent token.ask ∷ h) tasks tables (remove flight nth ++ rejected token (length h) ∷ [])
     after_reject = record {
-      lawful = (record { requested = arrives.requested; node = arrives.node; full = full }, ties.lawful, no_mark_awaited h ties.calm);
-      calm = ties.calm;
+      lawful = (record { requested = arrives.requested; node = arrives.node; full = full }, ties.lawful, awaits);
       kept = kept_same cluster corpus (root_request script) event h tasks refl ties.kept;
       listed = λ place. listed_same cluster event h (λ n. refl) refl place _ (ties.listed place);
       sent = map-append (message_of (event ∷ h)) (remove flight nth) (answer ∷ []) ∙ ap (λ ms. ms ++ message_of (event ∷ h) answer ∷ []) others ∙ ap (λ m. map Some (remove (in_flight h) nth) ++ m ∷ []) this

@@ -1,14 +1,12 @@
 -- Where it has settled, nothing is live.
-use Rattle.std.proofs.Common.{◌≡◌, ◌≢◌, ℕ, zero, suc, ◌+◌, Bool, true, false, not, List, [], ◌∷◌, map, get_or, Option, Some, None, refl, sym, ap, ◌∙◌, arith}
-use Rattle.std.specs.Prelude.{is_some, ◌==◌}
-use Rattle.std.specs.List.{list_any}
+use Rattle.std.proofs.Common.{◌≡◌, ◌≢◌, ℕ, Bool, true, false, not, List, [], ◌∷◌, map, Option, Some, None, refl, sym, ap, ◌∙◌}
+use Rattle.std.specs.Prelude.{is_some}
 use Rattle.task_ids.specs.declared.task_id.TaskId.{TaskId}
 use Rattle.task_ids.specs.declared.cluster.Cluster.{Cluster}
 use Rattle.task_ids.specs.declared.corpus.Corpus.{Corpus}
 use Rattle.task_ids.specs.declared.doc.Doc.{Doc}
 use Rattle.task_table.specs.Table.{Table}
 use Rattle.task_events.specs.declared.event.Event.{Event}
-use Rattle.task_events.specs.declared.event.Event.TheVariants.{Begin, Root, RootRejected, Ask, Put, Reject, Pass, NotFound, Listed, Acked, BanGone, Work, Write, Answered, End, AnswerPlaced, AnswerDone, Tick}
 use Rattle.task_events.specs.declared.request.Request.{Request}
 use Rattle.task_events.specs.declared.request.Request.TheVariants as asks
 use Rattle.task_events.specs.declared.reply.Reply.{Reply}
@@ -21,46 +19,20 @@ use Rattle.task_events.specs.Laws.{IsAtRest, IsLeaf, IsDrained}
 use Rattle.task_events.specs.Searches.{are_answered, ask_or_end, work_or_end}
 use Rattle.task_events.specs.Steps.{request_of, event_of}
 use Rattle.task_events.specs.Tasks.{is_live, is_new}
-use Rattle.task_laws.proofs.Pending.{is_pending}
 use Rattle.task_laws.proofs.Rest.{leaf}
-use Rattle.task_laws.proofs.Same.{same_tests}
 use Rattle.task_work.specs.declared.work.Work.{Work as Doing}
 use Rattle.task_work.specs.declared.work.Work.TheVariants as works
 use Rattle.task_work.specs.Works.{next_of, does_wait}
 use Rattle.script_lang.specs.declared.command.Script.{Script}
 use Rattle.world_steps.specs.declared.flight.Sent.{Sent}
 use Rattle.world_steps.specs.declared.running.Running.{Running}
-use Rattle.world_steps.specs.Facts.{awaited_by}
+use Rattle.world_steps.specs.Facts.{none_awaited}
 use Rattle.world_steps.specs.Roots.{root_request}
 use Rattle.world_steps.specs.Runs as runs
-use Rattle.world_steps.specs.Ties.{Ties, IsCalm, WorksFor}
-use Rattle.world_steps.proofs.Answered.{none_awaited}
-use Rattle.world_steps.proofs.Calm.{unmarked}
-use Rattle.world_steps.proofs.Plans.{next_new, next_old, writes_at}
-use Rattle.world_steps.proofs.Requested.{awaited_at}
+use Rattle.world_steps.specs.Ties.{Ties, WorksFor}
+use Rattle.world_steps.proofs.Answered.{none_to_await}
+use Rattle.world_steps.proofs.Plans.{next_new, next_old, ends_marked, writes_at}
 use Rattle.world_steps.proofs.StepsAfter.{kept_running, is_kept}
-
-no_listing : (h : List Event) → IsCalm h → (n : ℕ) (p : TaskId) → listing_is_open n p h ≡ false
-no_listing [] c n p = refl
-no_listing (Begin k ∷ h) c n p = no_listing h c n p
-no_listing (Root k u ∷ h) c n p = no_listing h c n p
-no_listing (RootRejected k m ∷ h) c n p = no_listing h c n p
-no_listing (Ask q k m r ∷ h) c n p = no_listing h c n p
-no_listing (Put u q k ∷ h) c n p = no_listing h c n p
-no_listing (Reject m q k ∷ h) c n p = no_listing h c n p
-no_listing (Pass u ∷ h) c n p = no_listing h c n p
-no_listing (NotFound k ∷ h) c n p = no_listing h c n p
-no_listing (Listed m q ∷ h) c n p = grind (arith, same_tests, no_listing h c n p)
-no_listing (Acked q m ∷ h) c n p = no_listing h c n p
-no_listing (BanGone m q ∷ h) c n p = no_listing h c n p
-no_listing (Work u ∷ h) c n p = no_listing h c n p
-no_listing (Write i s o d ∷ h) c n p = no_listing h c n p
-no_listing (Answered q k ∷ h) c n p = no_listing h c n p
-no_listing (End u r ∷ h) c n p = no_listing h c n p
-no_listing (AnswerPlaced k ∷ h) c n p = no_listing h c n p
-no_listing (AnswerDone k ∷ h) c n p = no_listing h c n p
-no_listing (Tick ms ∷ h) c n p = no_listing h c n p
-no_listing (_ ∷ h) c n p = absurd c
 
 -- with all answers a search does not wait, and other work never does
 ends_or_asks : (next : Option Request) (answered : Bool) (reply : Reply) → answered ≡ true → does_wait (ask_or_end next answered reply) ≡ false
@@ -95,11 +67,6 @@ module _ (cluster : Cluster) (corpus : Corpus) (t : TaskId) (asked : List Asked)
   goes_on (Some (asks.Fetch ask)) (works.Search s) writes w none = absurd w
   goes_on (Some (asks.Fetch ask)) (works.Query q top) writes w none = absurd w
 
-none_from : (awaited : List (Option ℕ)) → ((k : ℕ) → is_some (get_or awaited k None) ≡ false) → none_awaited awaited ≡ true
-none_from [] f = refl
-none_from (None ∷ awaited) f = none_from awaited (λ k. f (suc k))
-none_from (Some n ∷ awaited) f = absurd (let x = f zero in cc)
-
 has_event : (cluster : Cluster) (t : TaskId) (h : List Event) (d : Do) → does_wait d ≡ false → event_of cluster t h d ≡ None → ⊥
 has_event cluster t h (AskNext request) goes none = cc
 has_event cluster t h Turn goes none = cc
@@ -107,9 +74,6 @@ has_event cluster t h (Wait due) goes none = cc
 has_event cluster t h (Finish reply) goes none = cc
 
 module _ (cluster : Cluster) (corpus : Corpus) (script : Script) (h : List Event) (tasks : TaskId → Option Running) (tables : List Table) (flight : List Sent) (ties : Ties cluster corpus script h tasks tables flight) where
-  none_to_answer : (t : TaskId) → unanswered t h ≡ [] → none_awaited (awaited_by t h) ≡ true
-  none_to_answer t e = none_from (awaited_by t h) (λ k. sym (awaited_at cluster t k h ties.lawful) ∙ is_pending t (k + 1) h ∙ ap (list_any (λ a. a.ask == k + 1)) e)
-
   -- a task with no ask unanswered makes a step
   leaf_moves : (u : TaskId) → IsLeaf u h → runs.next_of cluster corpus script u h ≢ None
   leaf_moves u l = by_kept (tasks u) refl
@@ -119,22 +83,33 @@ module _ (cluster : Cluster) (corpus : Corpus) (script : Script) (h : List Event
       by_kept (Some r) e = λ none.
           let writes = writes_at cluster corpus script h tasks tables flight ties u in
           let works = (kept_running cluster corpus script h tasks tables flight ties u l.live r e).works in
-          let next = next_old cluster corpus script h tasks tables flight ties u l.live l.passed r e in
-          has_event cluster u h (next_of r.work writes) (goes_on cluster corpus u _ _ _ _ (request_of (root_request script) u h) r.work writes works (none_to_answer u l.answered)) (sym next ∙ none)
+          let next = next_old cluster corpus script h tasks tables flight ties u l.live l.passed l.unmarked r e in
+          has_event cluster u h (next_of r.work writes) (goes_on cluster corpus u _ _ _ _ (request_of (root_request script) u h) r.work writes works (none_to_await cluster u h ties.lawful l.answered)) (sym next ∙ none)
 
   pub drained : runs.IsSettled cluster corpus script h → IsDrained h
-  drained s = record { nothing_in_flight = s.nothing_in_flight; no_listing = no_listing h ties.calm; nothing_live = λ t. gone t (is_live t h) refl }
+  drained s = record { nothing_in_flight = s.nothing_in_flight; no_listing = closed; nothing_live = λ t. gone t (is_live t h) refl }
     where
+      closed : (n : ℕ) (p : TaskId) → listing_is_open n p h ≡ false
+      closed n p = s.no_listing (record { node = n; parent = p })
+
       not_new : (t : TaskId) → is_live t h ≡ true → (b : Bool) → is_new t h ≡ b → is_new t h ≡ false
       not_new t l false n = n
       not_new t l true n = absurd (let waits = s.all_wait t l in let moves = next_new cluster corpus script h tasks tables flight ties t n in cc)
 
+      -- a marked task with all answers would end
+      waits_for_answers : (t : TaskId) → is_live t h ≡ true → (o : Option ℕ) → mark_of t h ≡ o → o ≢ None → unanswered t h ≢ []
+      waits_for_answers t l None m marked = absurd (marked refl)
+      waits_for_answers t l (Some c) m marked = λ none.
+          let ends = ends_marked cluster corpus script h tasks tables flight ties t c (not_new t l (is_new t h) refl) m none in
+          let waits = s.all_wait t l in
+          cc
+
       rest : IsAtRest h
       rest = record {
         nothing_in_flight = s.nothing_in_flight;
-        no_listing = no_listing h ties.calm;
+        no_listing = closed;
         no_first_step = λ t l. not_new t l (is_new t h) refl;
-        no_cancelled_end = λ t l marked. absurd (marked (unmarked h ties.calm t));
+        no_cancelled_end = λ t l marked. waits_for_answers t l (mark_of t h) refl marked;
       }
 
       gone : (t : TaskId) (b : Bool) → is_live t h ≡ b → is_live t h ≡ false

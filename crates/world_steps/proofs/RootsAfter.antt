@@ -15,13 +15,13 @@ use Rattle.task_events.specs.Same.{same_task}
 use Rattle.task_events.specs.Tasks.{live_on}
 use Rattle.task_events.specs.Cancels.{last_command, beginning}
 use Rattle.task_events.specs.Allowed.{TakesSlot}
+use Rattle.task_events.specs.Lawful.{AwaitsNoMark}
 use Rattle.world_steps.specs.declared.flight.Sent.{Sent}
 use Rattle.world_steps.specs.declared.running.Running.{Running}
 use Rattle.world_steps.specs.Facts.{Facts, facts_of}
 use Rattle.world_steps.specs.Moves.{IsStart}
 use Rattle.world_steps.specs.Roots.{root_request}
 use Rattle.world_steps.specs.Ties.{Ties}
-use Rattle.world_steps.proofs.Calm.{no_mark_awaited}
 use Rattle.world_steps.proofs.FactsAfter.{at_root}
 use Rattle.world_steps.proofs.FlightAfter.{all_stay}
 use Rattle.world_steps.proofs.Kept.{kept_after, kept_same}
@@ -30,11 +30,10 @@ use Rattle.world_steps.proofs.Started.{started, first, runs_first}
 use Rattle.world_steps.proofs.Tables.{IsPutOn, put_node, put_takes, put_listed}
 use Rattle.world_steps.proofs.Unborn.{blank, unborn}
 
-module _ (cluster : Cluster) (corpus : Corpus) (script : Script) (h : List Event) (tasks : TaskId → Option Running) (tables : List Table) (flight : List Sent) (ties : Ties cluster corpus script h tasks tables flight) (command : ℕ) where
+module _ (cluster : Cluster) (corpus : Corpus) (script : Script) (h : List Event) (tasks : TaskId → Option Running) (tables : List Table) (flight : List Sent) (ties : Ties cluster corpus script h tasks tables flight) (awaits : AwaitsNoMark h) (command : ℕ) where
   pub after_begin : last_command h + 1 ≡ command → Ties cluster corpus script (Begin command ∷ h) tasks tables flight
   after_begin next = record {
-    lawful = (sym next, ties.lawful, no_mark_awaited h ties.calm);
-    calm = ties.calm;
+    lawful = (sym next, ties.lawful, awaits);
     kept = kept_same cluster corpus (root_request script) (Begin command) h tasks refl ties.kept;
     listed = λ place. listed_same cluster (Begin command) h (λ n. refl) refl place _ (ties.listed place);
     sent = all_stay (Begin command) h flight _ ties.sent;
@@ -46,8 +45,7 @@ module _ (cluster : Cluster) (corpus : Corpus) (script : Script) (h : List Event
     -- no slot is free
     pub after_root_rejected : cluster.slots ≤ live_on node h → Ties cluster corpus script (RootRejected command node ∷ h) tasks tables flight
     after_root_rejected full = record {
-      lawful = (record { begins = begun; low = low; high = high; full = full }, ties.lawful, no_mark_awaited h ties.calm);
-      calm = ties.calm;
+      lawful = (record { begins = begun; low = low; high = high; full = full }, ties.lawful, awaits);
       kept = kept_same cluster corpus (root_request script) (RootRejected command node) h tasks refl ties.kept;
       listed = λ place. listed_same cluster (RootRejected command node) h (λ n. refl) refl place _ (ties.listed place);
       sent = all_stay (RootRejected command node) h flight _ ties.sent;
@@ -70,8 +68,7 @@ module _ (cluster : Cluster) (corpus : Corpus) (script : Script) (h : List Event
           → kept t ≡ Some running → ((q : TaskId) → same_task t q ≡ false → kept q ≡ tasks q)
           → Ties cluster corpus script (Root command t ∷ h) kept after flight
       after_root request running kept asked is on here others = record {
-        lawful = (record { begins = begun; in_cluster = rw node_is high; takes = takes }, ties.lawful, no_mark_awaited h ties.calm);
-        calm = ties.calm;
+        lawful = (record { begins = begun; in_cluster = rw node_is high; takes = takes }, ties.lawful, awaits);
         kept = kept_after cluster corpus (root_request script) t (Root command t) h tasks kept refl ties.kept (rw here (runs_first cluster corpus t None false request _ running facts is on)) others;
         listed = put_listed cluster h tables ties.listed node low high t task after put (Root command t) (record { last = λ n. refl; live = refl });
         sent = all_stay (Root command t) h flight _ ties.sent;

@@ -8,6 +8,8 @@ use Rattle.task_table.specs.Table.{Table}
 use Rattle.task_events.specs.declared.event.Event.{Event}
 use Rattle.task_events.specs.declared.event.Event.TheVariants.{Pass}
 use Rattle.task_events.specs.Same.{same_task}
+use Rattle.task_events.specs.Bans.{ban_over}
+use Rattle.task_events.specs.Lawful.{AwaitsNoMark}
 use Rattle.task_events.specs.Tasks.{is_live, is_new}
 use Rattle.script_lang.specs.declared.command.Script.{Script}
 use Rattle.world_steps.specs.declared.flight.Sent.{Sent}
@@ -15,7 +17,6 @@ use Rattle.world_steps.specs.declared.running.Running.{Running}
 use Rattle.world_steps.specs.Facts.{facts_of}
 use Rattle.world_steps.specs.Roots.{root_request}
 use Rattle.world_steps.specs.Ties.{Ties, Runs}
-use Rattle.world_steps.proofs.Calm.{no_ban_over, no_mark_awaited}
 use Rattle.world_steps.proofs.FactsAfter.{at_pass}
 use Rattle.world_steps.proofs.FlightAfter.{all_stay}
 use Rattle.world_steps.proofs.Kept.{kept_after}
@@ -30,12 +31,11 @@ module _ (cluster : Cluster) (corpus : Corpus) (script : Script) (h : List Event
   pub is_kept : (t : TaskId) → is_live t h ≡ true → tasks t ≡ None → ⊥
   is_kept t l e = let gone = rw e at (ties.kept t) in cc
 
-  pub after_pass : (t : TaskId) (r : Running) (after : TaskId → Option Running) → is_live t h ≡ true → is_new t h ≡ true → tasks t ≡ Some r
+  pub after_pass : (t : TaskId) (r : Running) (after : TaskId → Option Running) → AwaitsNoMark h → is_live t h ≡ true → is_new t h ≡ true → ban_over t h ≡ None → tasks t ≡ Some r
       → after t ≡ Some (record r { is_new = false }) → ((q : TaskId) → same_task t q ≡ false → after q ≡ tasks q)
       → Ties cluster corpus script (Pass t ∷ h) after tables flight
-  after_pass t r after l n e here others = record {
-    lawful = (record { live = l; first = n; no_ban = no_ban_over h ties.calm t }, ties.lawful, no_mark_awaited h ties.calm);
-    calm = ties.calm;
+  after_pass t r after awaits l n no_ban e here others = record {
+    lawful = (record { live = l; first = n; no_ban = no_ban }, ties.lawful, awaits);
     kept = kept_after cluster corpus (root_request script) t (Pass t) h tasks after refl ties.kept (rw here (rw (at_pass (root_request script) t h) (passed (kept_running t l r e)))) others;
     listed = λ place. listed_same cluster (Pass t) h (λ n. refl) refl place _ (ties.listed place);
     sent = all_stay (Pass t) h flight _ ties.sent;

@@ -1,9 +1,9 @@
 -- No move begins a command, so what a command does is its turn.
-use Rattle.std.proofs.Common.{◌≡◌, ℕ, suc, Bool, true, false, ◌||◌, List, [], ◌∷◌, ◌++◌, Option, Some, None, refl, sym, ap, subst, ◌∙◌, inl, inr}
-use Rattle.std.specs.Prelude.{option_map}
+use Rattle.std.proofs.Common.{◌≡◌, ◌≤◌, ◌<◌, ◌+◌, ℕ, suc, Bool, length, reverse, map, filter, arith, true, false, ◌||◌, List, [], ◌∷◌, ◌++◌, Option, Some, None, refl, sym, ap, subst, ◌∙◌, inl, inr}
+use Rattle.std.specs.Prelude.{option_map, is_some, if◌then◌else◌}
 use Rattle.std.specs.List.{list_any}
 use Rattle.std.specs.Option.{option_map_or}
-use Rattle.std.proofs.lemmas.List.{append_assoc}
+use Rattle.std.proofs.lemmas.List.{append_assoc, reverse-append, length-append}
 use Rattle.std.proofs.lemmas.List.Folds.{list_any-append}
 use Rattle.task_ids.specs.declared.task_id.TaskId.{TaskId}
 use Rattle.task_ids.specs.declared.cluster.Cluster.{Cluster}
@@ -11,24 +11,30 @@ use Rattle.task_ids.specs.declared.corpus.Corpus.{Corpus}
 use Rattle.task_events.specs.declared.step.Do.{Do}
 use Rattle.task_events.specs.declared.step.Do.TheVariants.{AskNext, Turn, Wait, Finish}
 use Rattle.task_events.specs.declared.event.Event.{Event}
-use Rattle.task_events.specs.declared.event.Event.TheVariants.{Begin}
+use Rattle.task_events.specs.declared.event.Event.TheVariants.{Begin, Refuse, Cancel, NotFound, Mark, Listed, Acked, End, AnswerPlaced, AnswerDone}
 use Rattle.task_events.specs.Asks.{Pending, unanswered}
 use Rattle.task_events.specs.Bans.{mark_of, ban_over}
 use Rattle.task_events.specs.Cancels.{last_command}
 use Rattle.task_events.specs.Messages.{Message}
 use Rattle.task_events.specs.Messages.Message.{Request, Answer, Ban, Ack, Unban}
 use Rattle.task_events.specs.Steps.{event_of, first_step, cancelled_step, step_from, planned_step, request_of}
-use Rattle.task_events.specs.Tasks.{is_new}
+use Rattle.task_events.specs.Tasks.{is_live, is_new}
 use Rattle.task_events.specs.Turns.{is_begin}
 use Rattle.script_lang.specs.declared.command.Script.{Script}
 use Rattle.script_lang.specs.declared.command.Command.{Command}
 use Rattle.script_lang.specs.declared.command.Command.TheVariants.{Search, Cancel, Deliver, Step, ListStep, Settle, History}
 use Rattle.world_steps.specs.declared.acting.Stepped.{Stepped}
 use Rattle.world_steps.specs.declared.acting.Stepped.TheVariants.{Done, Waiting, NotRunning}
+use Rattle.script_lang.specs.declared.command.CancelTarget.{CancelTarget}
+use Rattle.world_steps.specs.declared.listing.Listing.{Listing}
+use Rattle.world_steps.specs.declared.listings.ListStep.{ListStep as ListingAnswer}
+use Rattle.world_steps.specs.declared.listings.ListStep.TheVariants.{Done as Listing_done, NoListing}
+use Rattle.world_steps.specs.Cancels.{after_cancel, after_cancel_of, answer_to, due_answers, is_due, target_of, waiting_for, waits_for_end, with_answers, with_cancel, with_due}
+use Rattle.world_steps.specs.Listings.{AnswersListing, IsListStep, ListSteps}
 use Rattle.world_steps.specs.Moves.{IsDelivery, Delivers, IsStart, Starts}
 use Rattle.world_steps.specs.Roots.{root_request}
 use Rattle.world_steps.specs.Runs.{next_of, AnswersStep, FirstMoves, Passes, Settles}
-use Rattle.world_steps.specs.Scripts.{can_start, StartsWhere, DeliversWhere, Does, Commands, Drains, IsTurn, closing}
+use Rattle.world_steps.specs.Scripts.{can_start, StartsWhere, DeliversWhere, ListsWhere, Does, Commands, Drains, IsTurn, closing}
 
 -- some events came after, with none of which a command began
 abbrev pub Follows : List Event → List Event → Type 0
@@ -40,9 +46,64 @@ stays h new same = ([], same, refl)
 one_event : (h new : List Event) (e : Event) → is_begin e ≡ false → new ≡ e ∷ h → Follows h new
 one_event h new e begins same = (e ∷ [], same, rw begins refl)
 
-then : (h m new : List Event) → Follows h m → Follows m new → Follows h new
-then h m new (first, is_m, none) (later, is_new, nor) =
+after_both : (h m new : List Event) → Follows h m → Follows m new → Follows h new
+after_both h m new (first, is_m, none) (later, is_new, nor) =
     (later ++ first, is_new ∙ ap (λ x. later ++ x) is_m ∙ sym (append_assoc later first h), list_any-append is_begin later first ∙ rw nor none)
+
+-- ---- answers that come due
+
+-- no answer begins a command
+none_begins : (h : List Event) (cs : List ℕ) → list_any is_begin (reverse (map (answer_to h) cs)) ≡ false
+none_begins h [] = refl
+none_begins h (c ∷ cs) = ap (list_any is_begin) (reverse-append (answer_to h c ∷ []) (map (answer_to h) cs)) ∙ list_any-append is_begin (reverse (map (answer_to h) cs)) (answer_to h c ∷ []) ∙ rw (none_begins h cs) (by_kind (waits_for_end c h))
+  where
+    by_kind : (b : Bool) → (is_begin (if b then AnswerDone c else AnswerPlaced c) || false) ≡ false
+    by_kind true = refl
+    by_kind false = refl
+
+answered_after : (t : TaskId) (h : List Event) → Follows h (with_answers t h)
+answered_after t h = (reverse (due_answers t h), refl, none_begins h (filter (is_due t h) (waiting_for t h)))
+
+pub due_after : (e : Event) (h : List Event) → is_begin e ≡ false → Follows h (with_due e h)
+due_after (Refuse t c) h b = after_both h (Refuse t c ∷ h) _ (one_event h _ (Refuse t c) refl refl) (answered_after t (Refuse t c ∷ h))
+due_after (End t reply) h b = after_both h (End t reply ∷ h) _ (one_event h _ (End t reply) refl refl) (answered_after t (End t reply ∷ h))
+due_after (Acked p n) h b = after_both h (Acked p n ∷ h) _ (one_event h _ (Acked p n) refl refl) (answered_after p (Acked p n ∷ h))
+due_after e h b = one_event h _ e b refl
+
+-- ---- cancels
+
+named_after : (b : Bool) (c : ℕ) (t : TaskId) (wait : Bool) (h : List Event) → Follows h (if b then Cancel c t wait ∷ h else Mark t c ∷ Cancel c t wait ∷ h)
+named_after true c t wait h = (Cancel c t wait ∷ [], refl, refl)
+named_after false c t wait h = (Mark t c ∷ Cancel c t wait ∷ [], refl, refl)
+
+cancelled_after : (c : ℕ) (wait : Bool) (h : List Event) (o : Option TaskId) → Follows h (after_cancel_of c wait h o)
+cancelled_after c wait h None = (NotFound c ∷ [], refl, refl)
+cancelled_after c wait h (Some t) = by_live (is_live t h)
+  where
+    by_live : (b : Bool) → Follows h (if b then with_answers t (with_cancel c t wait h) else NotFound c ∷ h)
+    by_live true = after_both h (with_cancel c t wait h) _ (named_after (is_some (mark_of t h)) c t wait h) (answered_after t (with_cancel c t wait h))
+    by_live false = (NotFound c ∷ [], refl, refl)
+
+pub cancel_after : (c : ℕ) (target : CancelTarget) (wait : Bool) (h new : List Event) → new ≡ after_cancel c target wait h → Follows h new
+cancel_after c target wait h new same = subst (Follows h) (sym same) (cancelled_after c wait h (target_of target h))
+
+-- ---- listings
+
+by_listing : (l : Listing) (h : List Event) (e : Event) → IsListStep l h e → is_begin e ≡ false
+by_listing l h (Mark t c) s = refl
+by_listing l h (Listed n p) s = refl
+by_listing l h _ s = absurd s
+
+pub listed_after : (l : Listing) (h new : List Event) → ListSteps l h new → Follows h new
+listed_after l h new (e, opened, is, same) = one_event h new e (by_listing l h e is) same
+
+pub listed_where : (l : Listing) (h new : List Event) → ListsWhere l h new → Follows h new
+listed_where l h new (inl s) = listed_after l h new s
+listed_where l h new (inr (closed, same)) = stays h new same
+
+pub listing_answered : (l : Listing) (h : List Event) (stepped : ListingAnswer) (new : List Event) → AnswersListing l h stepped new → Follows h new
+listing_answered l h Listing_done new s = listed_after l h new s
+listing_answered l h NoListing new (closed, same) = stays h new same
 
 module _ (cluster : Cluster) (h : List Event) where
   not_begun : (m : Message) (k : ℕ) → IsDelivery cluster h m (Begin k) → ⊥
@@ -62,9 +123,9 @@ module _ (cluster : Cluster) (h : List Event) where
   by_start command node started _ s = refl
 
   pub delivered : (nth : ℕ) (new : List Event) → Delivers cluster h nth new → Follows h new
-  delivered nth new (m, e, at, is, same) = one_event h new e (by_delivery m e is) same
+  delivered nth new (m, e, at, is, same) = subst (Follows h) (sym same) (due_after e h (by_delivery m e is))
 
-  started_there : (command node : ℕ) (started : Bool) (new : List Event) → Starts cluster h command node started new → Follows h new
+  pub started_there : (command node : ℕ) (started : Bool) (new : List Event) → Starts cluster h command node started new → Follows h new
   started_there command node started new (e, is, same) = one_event h new e (by_start command node started e is) same
 
 module _ (cluster : Cluster) (t : TaskId) (h : List Event) where
@@ -92,37 +153,38 @@ module _ (cluster : Cluster) (t : TaskId) (h : List Event) where
   by_step false None (Some d) e same = by_plan d e same
 
 module _ (cluster : Cluster) (corpus : Corpus) (script : Script) where
-  stepped_there : (t : TaskId) (h new : List Event) (stepped : Stepped) → AnswersStep cluster corpus script t h stepped new → Follows h new
+  pub stepped_there : (t : TaskId) (h new : List Event) (stepped : Stepped) → AnswersStep cluster corpus script t h stepped new → Follows h new
   stepped_there t h new Done (e, live, next, same) =
-      one_event h new e (by_step cluster t h (is_new t h) (mark_of t h) (option_map (λ request. planned_step cluster corpus t request h) (request_of (root_request script) t h)) e next) same
+      subst (Follows h) (sym same) (due_after e h (by_step cluster t h (is_new t h) (mark_of t h) (option_map (λ request. planned_step cluster corpus t request h) (request_of (root_request script) t h)) e next))
   stepped_there t h new Waiting (live, waits, same) = stays h new same
   stepped_there t h new NotRunning (gone, same) = stays h new same
 
-  moved : (h new : List Event) → FirstMoves cluster corpus script h new → Follows h new
+  pub moved : (h new : List Event) → FirstMoves cluster corpus script h new → Follows h new
   moved h new (inl d) = delivered cluster h 0 new d
-  moved h new (inr (none, (t, first, steps))) = stepped_there t h new Done steps
+  moved h new (inr (inl (none, (l, first, lists)))) = listed_after l h new lists
+  moved h new (inr (inr (none, closed, (t, first, steps)))) = stepped_there t h new Done steps
 
   passed : (h : List Event) (between : List (List Event)) (new : List Event) → Passes cluster corpus script h between new → Follows h new
   passed h [] new same = stays h new (sym same)
-  passed h (next ∷ later) new (m, p) = then h next new (moved h next m) (passed next later new p)
+  passed h (next ∷ later) new (m, p) = after_both h next new (moved h next m) (passed next later new p)
 
   pub settled : (h new : List Event) → Settles cluster corpus script h new → Follows h new
   settled h new (rests, (between, p)) = passed h between new p
 
-  started_where : (b : Bool) (k node : ℕ) (h new : List Event) → StartsWhere cluster b k node h new → Follows h new
+  pub started_where : (b : Bool) (k node : ℕ) (h new : List Event) → StartsWhere cluster b k node h new → Follows h new
   started_where true k node h new (started, s) = started_there cluster h k node started new s
   started_where false k node h new same = stays h new same
 
-  delivered_where : (nth : ℕ) (h new : List Event) → DeliversWhere cluster nth h new → Follows h new
+  pub delivered_where : (nth : ℕ) (h new : List Event) → DeliversWhere cluster nth h new → Follows h new
   delivered_where nth h new (inl d) = delivered cluster h nth new d
   delivered_where nth h new (inr (none, same)) = stays h new same
 
   done : (k : ℕ) (command : Command) (h new : List Event) → Does cluster corpus script k command h new → Follows h new
   done k (Search index node body) h new d = started_where (can_start corpus index body) k node h new d
-  done k (Cancel target reason wait) h new d = absurd d
+  done k (Cancel target reason wait) h new d = cancel_after k target wait h new d
   done k (Deliver nth) h new d = delivered_where nth h new d
   done k (Step task) h new (stepped, a) = stepped_there task h new stepped a
-  done k (ListStep node parent) h new d = absurd d
+  done k (ListStep node parent) h new d = listed_where (record { node = node; parent = parent }) h new d
   done k Settle h new d = settled h new d
   done k History h new same = stays h new same
 

@@ -16,6 +16,8 @@ use Rattle.task_events.specs.declared.step.Do.TheVariants.{Turn}
 use Rattle.task_events.specs.declared.event.Event.{Event}
 use Rattle.task_events.specs.declared.event.Event.TheVariants.{Work as worked}
 use Rattle.task_events.specs.Same.{same_task}
+use Rattle.task_events.specs.Bans.{mark_of}
+use Rattle.task_events.specs.Lawful.{AwaitsNoMark}
 use Rattle.search_phase.specs.Queries.{QueryState, without_keys, looked, version_at}
 use Rattle.task_events.specs.Searches.{is_done, ask_or_end}
 use Rattle.task_events.specs.Steps.{turns_of}
@@ -27,7 +29,6 @@ use Rattle.world_steps.specs.Stored.{Stored}
 use Rattle.world_steps.specs.Facts.{facts_of}
 use Rattle.world_steps.specs.Roots.{root_request}
 use Rattle.world_steps.specs.Ties.{Ties, Runs, WorksFor, written, looked_at}
-use Rattle.world_steps.proofs.Calm.{unmarked, no_mark_awaited}
 use Rattle.world_steps.proofs.FactsAfter.{at_work}
 use Rattle.world_steps.proofs.FlightAfter.{all_stay}
 use Rattle.world_steps.proofs.Kept.{kept_after}
@@ -98,13 +99,12 @@ module _ (cluster : Cluster) (corpus : Corpus) (t : TaskId) (asked : List Asked)
   turned (Some r) w a next on = absurd a
 
 module _ (cluster : Cluster) (corpus : Corpus) (script : Script) (h : List Event) (tasks : TaskId → Option Running) (tables : List Table) (flight : List Sent) (ties : Ties cluster corpus script h tasks tables flight) where
-  pub after_turn : (t : TaskId) (r : Running) (w : Work) (after : TaskId → Option Running) → is_live t h ≡ true → is_new t h ≡ false → tasks t ≡ Some r
+  pub after_turn : (t : TaskId) (r : Running) (w : Work) (after : TaskId → Option Running) → AwaitsNoMark h → is_live t h ≡ true → is_new t h ≡ false → mark_of t h ≡ None → tasks t ≡ Some r
       → next_of r.work (looked_at (stored_of cluster corpus) r.work) ≡ Turn → w ≡ with_turn r.work (looked_at (stored_of cluster corpus) r.work) → IsWorkOn w (looked_at (stored_of cluster corpus) r.work)
       → after t ≡ Some (record r { work = w }) → ((q : TaskId) → same_task t q ≡ false → after q ≡ tasks q)
       → Ties cluster corpus script (worked t ∷ h) after tables flight
-  after_turn t r w after l n e next turn on here others = record {
-    lawful = (record { goes_on = record { live = l; passed = n }; unmarked = unmarked h ties.calm t }, ties.lawful, no_mark_awaited h ties.calm);
-    calm = ties.calm;
+  after_turn t r w after awaits l n unmarked e next turn on here others = record {
+    lawful = (record { goes_on = record { live = l; passed = n }; unmarked = unmarked }, ties.lawful, awaits);
     kept = kept_after cluster corpus (root_request script) t (worked t) h tasks after refl ties.kept (rw here (rw (at_work (root_request script) t h) (further (kept_running cluster corpus script h tasks tables flight ties t l r e)))) others;
     listed = λ place. listed_same cluster (worked t) h (λ n. refl) refl place _ (ties.listed place);
     sent = all_stay (worked t) h flight _ ties.sent;

@@ -1,5 +1,6 @@
 -- What the past says of one task.
-use Rattle.std.specs.Prelude.{ℕ, ◌-◌, Bool, false, List, [], ◌∷◌, ◌++◌, Option, Some, None, option_map, slice_set, if◌then◌else◌}
+use Rattle.std.specs.Prelude.{ℕ, ◌-◌, Bool, false, List, [], ◌∷◌, ◌++◌, Option, Some, None, is_some, not, option_map, slice_set, if◌then◌else◌}
+use Rattle.std.specs.List.{list_all}
 use Rattle.std.specs.Option.{option_map_or}
 use Rattle.task_ids.specs.declared.task_id.TaskId.{TaskId}
 use Rattle.child_track.specs.Token.{Token}
@@ -19,6 +20,10 @@ awaited_by t [] = []
 awaited_by t (Ask p k n r ∷ h) = if same_task t p then awaited_by t h ++ Some n ∷ [] else awaited_by t h
 awaited_by t (Answered p k ∷ h) = if same_task t p then slice_set (awaited_by t h) (k - 1) None else awaited_by t h
 awaited_by t (_ ∷ h) = awaited_by t h
+
+-- all asks are answered
+abbrev pub none_awaited : List (Option ℕ) → Bool
+none_awaited awaited = list_all (λ o. not (is_some o)) awaited
 
 -- the requests that a task has made, in order
 abbrev pub requested_by : TaskId → List Event → List Request

@@ -9,7 +9,9 @@ use Rattle.task_events.specs.declared.event.Event.{Event}
 use Rattle.task_events.specs.declared.event.Event.TheVariants.{Ask, Reject, Refuse, End}
 use Rattle.task_events.specs.Tasks.{no_counts}
 use Rattle.task_events.specs.Messages.{Message}
-use Rattle.task_events.specs.Messages.Message.{Request, Answer}
+use Rattle.task_events.specs.Messages.Message.{Request, Answer, Ban, Ack, Unban}
+use Rattle.world_steps.specs.declared.flight.Notice.{Notice}
+use Rattle.world_steps.specs.declared.flight.Notice.TheVariants as notices
 use Rattle.world_steps.specs.declared.flight.Sent.{Sent}
 use Rattle.world_steps.specs.declared.flight.Sent.TheVariants as sent
 
@@ -30,10 +32,22 @@ reply_in (Refuse t c) = Some (Cancelled t c no_counts)
 reply_in (End t r) = Some r
 reply_in _ = None
 
--- the message of an entry: what it says stands at its place in the past
+-- the message that one about bans is
+abbrev pub message_of_notice : Notice → Message
+message_of_notice (notices.Ban parent cancel to) = Ban parent cancel to
+message_of_notice (notices.Ack parent from) = Ack parent from
+message_of_notice (notices.Unban parent to) = Unban parent to
+
+-- the message of an entry: what a request or an answer says stands at its place in the past
 abbrev pub message_of : List Event → Sent → Option Message
 message_of h (sent.Request token to at) = option_map (λ r. Request token.parent token.ask to r) (option_and_then request_in (event_at at h))
 message_of h (sent.Answer receipt at) = option_and_then (λ p. option_map (λ r. Answer p receipt.ask r) (option_and_then reply_in (event_at at h))) receipt.parent
+message_of h (sent.Notice notice) = Some (message_of_notice notice)
+
+-- the message about bans that an entry is
+abbrev pub notice_at : Option Sent → Option Notice
+notice_at (Some (sent.Notice notice)) = Some notice
+notice_at _ = None
 
 -- an entry of the queue that is a request, and one that is an answer
 abbrev pub is_request_entry : Option Sent → Bool

@@ -1,5 +1,5 @@
 -- What each search that has ended replied: the plain answer.
-use Rattle.std.specs.Prelude.{◌≡◌, ℕ, Bool, List, [], ◌∷◌, length, map, filter, slice_get, Option, Some, is_some, option_and_then, ⊤}
+use Rattle.std.specs.Prelude.{◌≡◌, ℕ, Bool, List, [], ◌∷◌, length, map, filter, slice_get, Option, Some, None, is_some, option_and_then, ⊤}
 use Rattle.std.specs.List.{range_with_len}
 use Rattle.task_ids.specs.declared.task_id.TaskId.{TaskId}
 use Rattle.task_ids.specs.declared.cluster.Cluster.{Cluster}
@@ -9,6 +9,9 @@ use Rattle.task_events.specs.declared.request.SearchAsk.{SearchAsk}
 use Rattle.task_events.specs.declared.request.Request.{Request}
 use Rattle.task_events.specs.declared.request.Request.TheVariants.{Search}
 use Rattle.task_events.specs.declared.reply.Reply.{Reply}
+use Rattle.task_events.specs.declared.reply.Reply.TheVariants.{Cancelled}
+use Rattle.task_events.specs.Tasks.{no_counts}
+use Rattle.task_events.specs.Bans.{mark_of}
 use Rattle.task_events.specs.declared.step.Asked.{Asked}
 use Rattle.task_events.specs.declared.event.Event.{Event}
 use Rattle.task_events.specs.declared.event.Event.TheVariants.{End}
@@ -33,13 +36,14 @@ plain_end cluster corpus t ask asked =
     let writes = writes_of corpus cluster.shards ask.index in
     plain_answer t ask cluster.shards writes (answering writes cluster.shards asked) (failed_in ask cluster.shards asked)
 
--- the reply with which a task ends, by what it was asked to do and what was answered
-abbrev pub EndsPlainly : Cluster → Corpus → TaskId → Option Request → List Asked → Reply → Type 0
-EndsPlainly cluster corpus t (Some (Search ask)) asked reply = reply ≡ plain_end cluster corpus t ask asked
-EndsPlainly cluster corpus t _ asked reply = ⊤
+-- The reply with which a task ends. That of a marked task is cancelled, with the number of its mark; of another it goes by what it was asked to do and what was answered.
+abbrev pub EndsPlainly : Cluster → Corpus → TaskId → Option ℕ → Option Request → List Asked → Reply → Type 0
+EndsPlainly cluster corpus t (Some c) request asked reply = reply ≡ Cancelled t c no_counts
+EndsPlainly cluster corpus t None (Some (Search ask)) asked reply = reply ≡ plain_end cluster corpus t ask asked
+EndsPlainly cluster corpus t None _ asked reply = ⊤
 
--- Each search that has ended replied with the plain answer.
+-- Each search that has ended replied with the plain answer, unless it was cancelled.
 abbrev pub AnswersPlainly : Cluster → Corpus → Script → List Event → Type 0
 AnswersPlainly cluster corpus script [] = ⊤
-AnswersPlainly cluster corpus script (End t reply ∷ h) = EndsPlainly cluster corpus t (request_of (root_request script) t h) (asked_by t h) reply × AnswersPlainly cluster corpus script h
+AnswersPlainly cluster corpus script (End t reply ∷ h) = EndsPlainly cluster corpus t (mark_of t h) (request_of (root_request script) t h) (asked_by t h) reply × AnswersPlainly cluster corpus script h
 AnswersPlainly cluster corpus script (_ ∷ h) = AnswersPlainly cluster corpus script h

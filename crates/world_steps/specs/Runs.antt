@@ -1,11 +1,12 @@
 -- Steps, first moves, and settling: what they append to the past.
-use Rattle.std.specs.Prelude.{◌≡◌, ◌≢◌, ℕ, Bool, true, List, [], ◌∷◌, ◌⊎◌, Option, Some, None, false}
+use Rattle.std.specs.Prelude.{◌≡◌, ◌≢◌, ℕ, Bool, true, List, [], ◌∷◌, ◌⊎◌, Option, Some, None, false, length, ◌≤◌, ⊤}
 use Rattle.task_ids.specs.declared.task_id.TaskId.{TaskId}
 use Rattle.task_ids.specs.declared.cluster.Cluster.{Cluster}
 use Rattle.task_ids.specs.declared.corpus.Corpus.{Corpus}
 use Rattle.task_ids.specs.TaskIdOrder.{task_id_cmp}
 use Rattle.std.specs.Ordering.{is_le}
 use Rattle.task_events.specs.declared.event.Event.{Event}
+use Rattle.task_events.specs.declared.history.TheConstants.{MAX_EVENTS}
 use Rattle.task_events.specs.Tasks.{is_live}
 use Rattle.task_events.specs.Messages.{in_flight}
 use Rattle.task_events.specs.Steps.{next_step}
@@ -13,16 +14,19 @@ use Rattle.script_lang.specs.declared.command.Script.{Script}
 use Rattle.world_steps.specs.declared.acting.Stepped.{Stepped}
 use Rattle.world_steps.specs.declared.acting.Stepped.TheVariants.{Done, Waiting, NotRunning}
 use Rattle.world_steps.specs.Roots.{root_request}
-use Rattle.world_steps.specs.Moves.{Delivers}
+use Rattle.world_steps.specs.Cancels.{with_due}
+use Rattle.world_steps.specs.declared.listing.Listing.{Listing}
+use Rattle.world_steps.specs.Listings.{is_open, IsFirstListing, ListSteps}
+use Rattle.world_steps.specs.Moves.{Delivers, IsPartly}
 
 module _ (cluster : Cluster) (corpus : Corpus) (script : Script) where
   -- what a live task does next, and nothing where it waits
   abbrev pub next_of : TaskId → List Event → Option Event
   next_of t h = next_step cluster corpus (root_request script) t h
 
-  -- the past after a step of a task
+  -- the past after a step of a task, and after the answers that come due with it
   abbrev pub Steps : TaskId → List Event → List Event → Type 0
-  Steps t h new = (e : Event) × (is_live t h ≡ true) × (next_of t h ≡ Some e) × (new ≡ e ∷ h)
+  Steps t h new = (e : Event) × (is_live t h ≡ true) × (next_of t h ≡ Some e) × (new ≡ with_due e h)
 
   -- what a step of a task answers, and the past after it
   abbrev pub AnswersStep : TaskId → List Event → Stepped → List Event → Type 0
@@ -38,13 +42,17 @@ module _ (cluster : Cluster) (corpus : Corpus) (script : Script) where
   abbrev pub IsFirstReady : TaskId → List Event → Type 0
   IsFirstReady t h = IsReady t h × ((u : TaskId) → IsReady u h → is_le (task_id_cmp t u) ≡ true)
 
-  -- The move that settling makes next: the oldest message is delivered, or where none is in flight the first ready task makes its step.
+  -- The move that settling makes next: the oldest message is delivered; where none is in flight the first open listing makes a step; where there is none either, the first ready task.
   abbrev pub FirstMoves : List Event → List Event → Type 0
-  FirstMoves h new = Delivers cluster h 0 new ⊎ ((in_flight h ≡ []) × ((t : TaskId) × IsFirstReady t h × Steps t h new))
+  FirstMoves h new =
+      Delivers cluster h 0 new
+      ⊎ ((in_flight h ≡ []) × ((l : Listing) × IsFirstListing l h × ListSteps l h new))
+      ⊎ ((in_flight h ≡ []) × ((l : Listing) → is_open l h ≡ false) × ((t : TaskId) × IsFirstReady t h × Steps t h new))
 
-  -- Nothing is in flight, and every live task waits.
+  -- Nothing is in flight, no listing is open, and every live task waits.
   pub record IsSettled (h : List Event) : Type 0 where
     pub nothing_in_flight : in_flight h ≡ []
+    pub no_listing : (l : Listing) → is_open l h ≡ false
     pub all_wait : (t : TaskId) → is_live t h ≡ true → next_of t h ≡ None
 
   -- the past after some first moves, through these pasts
@@ -56,6 +64,12 @@ module _ (cluster : Cluster) (corpus : Corpus) (script : Script) where
   abbrev pub Settles : List Event → List Event → Type 0
   Settles h new = IsSettled new × ((between : List (List Event)) × Passes h between new)
 
-  -- some first moves, and perhaps one more
+  -- some first moves, and perhaps a first part of one more
   abbrev pub PartlySettles : List Event → List Event → Type 0
-  PartlySettles h new = (between : List (List Event)) × Passes h between new
+  PartlySettles h new = (between : List (List Event)) × (now : List Event) × Passes h between now × IsPartly FirstMoves now new
+
+-- where a task made its step there was room for what it appended
+abbrev pub HasRoom : Stepped → List Event → Type 0
+HasRoom Done h = length h ≤ MAX_EVENTS
+HasRoom Waiting h = ⊤
+HasRoom NotRunning h = ⊤

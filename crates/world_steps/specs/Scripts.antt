@@ -16,7 +16,10 @@ use Rattle.script_lang.specs.declared.command.Command.{Command}
 use Rattle.script_lang.specs.declared.command.Command.TheVariants.{Search, Cancel, Deliver, Step, ListStep, Settle, History}
 use Rattle.script_lang.specs.declared.command.Script.{Script}
 use Rattle.world_steps.specs.declared.acting.Stepped.{Stepped}
-use Rattle.world_steps.specs.Moves.{Delivers, Starts, NodeLacksNumber}
+use Rattle.world_steps.specs.declared.listing.Listing.{Listing}
+use Rattle.world_steps.specs.Cancels.{after_cancel}
+use Rattle.world_steps.specs.Listings.{is_open, ListSteps}
+use Rattle.world_steps.specs.Moves.{Delivers, Starts, NodeLacksNumber, IsPartly}
 use Rattle.world_steps.specs.Roots.{body_or_none, command_at}
 use Rattle.world_steps.specs.Stored.{has_index}
 use Rattle.world_steps.specs.Runs.{AnswersStep, Settles, PartlySettles}
@@ -27,13 +30,13 @@ IsTurn k h new = (events : List Event) × (new ≡ events ++ Begin k ∷ h) × (
 
 -- ---- the scripts that run
 
--- a command that the world can do: a search starts on a node of the cluster; cancels and listings are not built yet
+-- a command that the world can do: a search starts on a node of the cluster, and the number of a command is that of a cancel
 abbrev pub CanDo : ℕ → Command → Type 0
 CanDo nodes (Search index node body) = (1 ≤ node) × (node ≤ nodes)
-CanDo nodes (Cancel target reason wait) = ⊥
+CanDo nodes (Cancel target reason wait) = ⊤
 CanDo nodes (Deliver nth) = ⊤
 CanDo nodes (Step task) = ⊤
-CanDo nodes (ListStep node parent) = ⊥
+CanDo nodes (ListStep node parent) = ⊤
 CanDo nodes Settle = ⊤
 CanDo nodes History = ⊤
 
@@ -61,21 +64,25 @@ StartsWhere cluster false k node h new = new ≡ h
 abbrev pub DeliversWhere : Cluster → ℕ → List Event → List Event → Type 0
 DeliversWhere cluster nth h new = Delivers cluster h nth new ⊎ ((length (in_flight h) ≤ nth) × (new ≡ h))
 
+-- an open listing makes a step; where it is not open, nothing happens
+abbrev pub ListsWhere : Listing → List Event → List Event → Type 0
+ListsWhere l h new = ListSteps l h new ⊎ ((is_open l h ≡ false) × (new ≡ h))
+
 module _ (cluster : Cluster) (corpus : Corpus) (script : Script) where
   -- what a command with this number appends after its beginning
   abbrev pub Does : ℕ → Command → List Event → List Event → Type 0
   Does k (Search index node body) h new = StartsWhere cluster (can_start corpus index body) k node h new
-  Does k (Cancel target reason wait) h new = ⊥
+  Does k (Cancel target reason wait) h new = new ≡ after_cancel k target wait h
   Does k (Deliver nth) h new = DeliversWhere cluster nth h new
   Does k (Step task) h new = (stepped : Stepped) × AnswersStep cluster corpus script task h stepped new
-  Does k (ListStep node parent) h new = ⊥
+  Does k (ListStep node parent) h new = ListsWhere (record { node = node; parent = parent }) h new
   Does k Settle h new = Settles cluster corpus script h new
   Does k History h new = new ≡ h
 
   -- a first part of that
   abbrev pub PartlyDoes : ℕ → Command → List Event → List Event → Type 0
   PartlyDoes k Settle h new = PartlySettles cluster corpus script h new
-  PartlyDoes k command h new = (new ≡ h) ⊎ Does k command h new
+  PartlyDoes k command h new = IsPartly (Does k command) h new
 
   -- the past after the command of this number, and after a first part of it
   abbrev pub Commands : ℕ → List Event → List Event → Type 0

@@ -1,9 +1,11 @@
 -- What the world's tables say of the past.
-use Rattle.std.specs.Prelude.{◌≡◌, ℕ, ◌+◌, ◌≤◌, true, false, List, [], ◌∷◌, map, filter, reverse, length, ◌==◌, slice_get, Option, Some, None, unwrap_or, is_some, not, take, ⊤}
+use Rattle.std.specs.Prelude.{◌≡◌, ℕ, ◌+◌, ◌≤◌, true, false, Bool, List, [], ◌∷◌, map, filter, reverse, length, ◌==◌, slice_get, Option, Some, None, unwrap_or, is_some, not, ◌||◌, if◌then◌else◌, take, ⊤}
 use Rattle.std.specs.List.{AllByRecursion, range_with_len}
 use Rattle.std.specs.BTreeMap.{BTreeMap, get}
+use Rattle.std.specs.Ordering.{nat_cmp}
 use Rattle.task_ids.specs.declared.task_id.TaskId.{TaskId}
 use Rattle.task_ids.specs.declared.cluster.Cluster.{Cluster}
+use Rattle.task_ids.specs.Limits.{IsCancel}
 use Rattle.task_ids.specs.TaskIdOrder.{task_id_cmp}
 use Rattle.task_ids.specs.declared.corpus.Corpus.{Corpus}
 use Rattle.task_ids.specs.declared.doc.Doc.{Doc}
@@ -12,9 +14,10 @@ use Rattle.search_phase.specs.Queries.{QueryState, version_at}
 use Rattle.search_phase.specs.Fetches.{FetchState}
 use Rattle.task_work.specs.declared.work.Work.{Work}
 use Rattle.task_work.specs.declared.work.Work.TheVariants as works
-use Rattle.search_phase.specs.Searching.{Searching, EachAnswer, IsHonest}
+use Rattle.search_phase.specs.Searching.{Searching, EachAnswer, IsHonest, does_wait}
 use Rattle.task_work.specs.Works.{IsWorkOn, next_of}
 use Rattle.task_events.specs.declared.step.Do.{Do}
+use Rattle.child_track.specs.Track.{unanswered}
 use Rattle.world_steps.specs.Stored.{Stored, AreFew}
 use Rattle.script_lang.specs.declared.command.Script.{Script}
 use Rattle.task_events.specs.declared.request.Request.{Request}
@@ -29,14 +32,13 @@ use Rattle.task_events.specs.declared.reply.Hit.{Hit}
 use Rattle.task_events.specs.Documents.{writes_of}
 use Rattle.task_events.specs.declared.step.Asked.{Asked}
 use Rattle.task_events.specs.declared.event.Event.{Event}
-use Rattle.task_events.specs.declared.event.Event.TheVariants.{Refuse, Cancel, Mark, BanPut}
 use Rattle.task_events.specs.Tasks.{live_tasks, last_number}
 use Rattle.task_events.specs.Asks.{request_of_ask}
 use Rattle.task_events.specs.Possible.{can_have}
 use Rattle.task_events.specs.Searches.{requests_of}
 use Rattle.task_events.specs.Messages.{Message, in_flight}
-use Rattle.task_events.specs.Messages.Message.{Answer}
-use Rattle.task_events.specs.Lawful.{Lawful}
+use Rattle.task_events.specs.Messages.Message.{Answer, Ban}
+use Rattle.task_events.specs.Lawful.{AwaitsNoMark, Lawful}
 use Rattle.world_steps.specs.declared.running.Running.{Running}
 use Rattle.world_steps.specs.declared.state.State.{State}
 use Rattle.world_steps.specs.Roots.{root_request}
@@ -44,6 +46,8 @@ use Rattle.world_steps.specs.declared.flight.Sent.{Sent}
 use Rattle.world_steps.specs.Facts.{Facts, facts_of, token_from, track_from}
 use Rattle.world_steps.specs.Flights.{message_of}
 use Rattle.world_steps.specs.Plain.{AnswersPlainly}
+use Rattle.world_steps.specs.Cancels.{waiting_for}
+use Rattle.world_steps.specs.Cancelling.{Cancelling}
 
 -- the writes of a shard of an index
 abbrev pub written : Cluster → Corpus → List ℕ → ℕ → List Doc
@@ -130,23 +134,14 @@ abbrev pub IsTableAt : Cluster → ℕ → List Event → Option Table → Type 
 IsTableAt cluster place h None = cluster.nodes ≤ place
 IsTableAt cluster place h (Some table) = IsTableOf cluster (place + 1) h table
 
--- Nothing was cancelled so far.
-abbrev pub IsCalm : List Event → Type 0
-IsCalm [] = ⊤
-IsCalm (Refuse t c ∷ h) = ⊥
-IsCalm (Cancel c t wait ∷ h) = ⊥
-IsCalm (Mark t c ∷ h) = ⊥
-IsCalm (BanPut n p c ∷ h) = ⊥
-IsCalm (_ ∷ h) = IsCalm h
-
--- an answer in flight is one that its request can have, and says what its shard's writes say
+-- an answer in flight is one that its request can have, and says what its shard's writes say; and a ban has the number of a cancel
 abbrev pub IsGood : Cluster → Corpus → List Event → Message → Type 0
 IsGood cluster corpus h (Answer p k reply) = (r : Request) → request_of_ask p k h ≡ Some r → IsGoodReply cluster corpus r reply
+IsGood cluster corpus h (Ban p c n) = IsCancel c
 IsGood cluster corpus h _ = ⊤
 
 pub record Ties (cluster : Cluster) (corpus : Corpus) (script : Script) (h : List Event) (tasks : TaskId → Option Running) (tables : List Table) (flight : List Sent) : Type 0 where
   pub lawful : Lawful cluster h
-  pub calm : IsCalm h
   pub kept : (t : TaskId) → IsKept cluster corpus t (facts_of (root_request script) t h) (tasks t)
   pub listed : (place : ℕ) → IsTableAt cluster place h (slice_get tables place)
   pub sent : map (message_of h) flight ≡ map Some (in_flight h)
@@ -157,9 +152,19 @@ pub record Ties (cluster : Cluster) (corpus : Corpus) (script : Script) (h : Lis
 abbrev pub task_at : BTreeMap TaskId Running → TaskId → Option Running
 task_at tasks t = get task_id_cmp tasks t
 
--- the tables say of the past what they should
-abbrev pub IsTied : State → Type 0
-IsTied s = Ties s.cluster s.corpus.now s.script.now s.history (task_at s.tasks) s.tables.items s.flight
+-- the tables of tasks and messages say of the past what they should
+abbrev pub HasTies : State → Type 0
+HasTies s = Ties s.cluster s.corpus.now s.script.now s.history (task_at s.tasks) s.tables.items s.flight
+
+-- and so do the tables of bans and cancellations, where these cancels wait for the cancellation of each task
+abbrev pub HasCancels : (TaskId → List ℕ) → State → Type 0
+HasCancels waiting s = Cancelling s.cluster waiting s.history s.tables.items (get nat_cmp s.roots) s.bans.items s.cores.items s.listings
+
+-- all tables say of the past what they should
+pub record IsTied (s : State) : Type 0 where
+  pub ties : HasTies s
+  pub cancels : HasCancels (λ t. waiting_for t s.history) s
+  pub awaits : AwaitsNoMark s.history
 
 -- the cluster, the documents and the script stay
 pub record Keeps (old new : State) : Type 0 where
@@ -183,3 +188,7 @@ abbrev pub looked_at : Stored → Work → List Doc
 looked_at stored (works.Search s) = []
 looked_at stored (works.Query q top) = writes_of stored.corpus stored.shards q.ask.index q.ask.shard
 looked_at stored (works.Fetch f hits) = writes_of stored.corpus stored.shards f.ask.index f.ask.shard
+
+-- The kept task does not wait: it has not passed; or it is marked and its asks are answered; or its work goes on.
+abbrev pub goes_on : Running → List Doc → Bool
+goes_on running writes = running.is_new || (if is_some running.track.closed then unanswered running.track == 0 else not (does_wait (next_of running.work writes)))

@@ -1,25 +1,22 @@
 -- What contracts see of a world, and what its tables keep.
-use Rattle.std.specs.Prelude.{◌≡◌, ◌⊎◌, ℕ, false, Bool, ◌&&◌, List, [], ◌∷◌, Option, Some, None, is_some, map, length, ◌<◌, ◌+◌, ⊤}
+use Rattle.std.specs.Prelude.{◌≡◌, ℕ, false, Bool, ◌&&◌, List, [], ◌∷◌, Option, Some, None, is_some, map, length, drop, ◌≤◌, ◌+◌, ◌-◌}
 use Rattle.std.specs.List.{range_with_len}
 use Rattle.std.specs.BTreeSet.{BTreeSet, contains}
+use Rattle.std.specs.FinMap.{FinMap, empty}
+use Rattle.cancel_core.specs.Cancellations.{Cancellations, no_cancellations}
 use Rattle.task_ids.specs.declared.task_id.TaskId.{TaskId}
 use Rattle.task_ids.specs.declared.cluster.Cluster.{Cluster}
 use Rattle.task_ids.specs.declared.corpus.Corpus.{Corpus}
 use Rattle.task_ids.specs.TaskIdOrder.{task_id_cmp}
 use Rattle.task_events.specs.declared.event.Event.{Event}
 use Rattle.task_events.specs.declared.stop.Stop.{Stop}
-use Rattle.task_events.specs.declared.stop.Stop.TheVariants.{HistoryFull, NumbersSpent, Memory}
-use Rattle.task_events.specs.Same.{same_task}
 use Rattle.task_events.specs.Tasks.{is_live}
 use Rattle.task_events.specs.Lawful.{Lawful}
 use Rattle.script_lang.specs.declared.command.Script.{Script}
-use Rattle.task_events.specs.declared.history.TheConstants.{MAX_EVENTS}
-use Rattle.world_steps.specs.declared.acting.Stepped.{Stepped}
-use Rattle.world_steps.specs.declared.acting.Stepped.TheVariants.{Done, Waiting, NotRunning}
 use Rattle.task_table.specs.Table.{Table, new_table}
 use Rattle.world_steps.specs.declared.state.State.{State}
 use Rattle.world_steps.specs.Plain.{AnswersPlainly}
-use Rattle.world_steps.specs.Runs.{next_of, PartlySettles}
+use Rattle.world_steps.specs.Runs.{next_of, Passes}
 use Rattle.world_steps.specs.Scripts.{CanRun}
 use Rattle.world_steps.specs.Ties.{IsTied, HasShards, Keeps}
 
@@ -45,17 +42,13 @@ ready_in s t = is_ready s.cluster s.corpus.now s.script.now s.history t
 abbrev pub HasReady : State → BTreeSet TaskId → Type 0
 HasReady s ready = (t : TaskId) → contains task_id_cmp ready t ≡ ready_in s t
 
--- all but one task are known so
-abbrev pub KnowsOthers : State → BTreeSet TaskId → TaskId → Type 0
-KnowsOthers s ready task = (t : TaskId) → same_task task t ≡ false → contains task_id_cmp ready t ≡ ready_in s t
+-- the past of so many events from the first on
+abbrev pub past_of : ℕ → List Event → List Event
+past_of n h = drop (length h - n) h
 
-abbrev pub past_before : List Event → List Event
-past_before [] = []
-past_before (e ∷ h) = h
-
--- the set has the tasks that did not wait before the newest event
-abbrev pub HadReady : State → BTreeSet TaskId → Type 0
-HadReady s ready = (t : TaskId) → contains task_id_cmp ready t ≡ is_ready s.cluster s.corpus.now s.script.now (past_before s.history) t
+-- the set has the tasks that did not wait when there were so many events
+abbrev pub HadReady : State → ℕ → BTreeSet TaskId → Type 0
+HadReady s before ready = (t : TaskId) → contains task_id_cmp ready t ≡ is_ready s.cluster s.corpus.now s.script.now (past_of before s.history) t
 
 -- Where the world goes on, its tables say of the past what they should, it knows which tasks wait, and it can do each command.
 pub record GoesOn (s : State) (ready : BTreeSet TaskId) : Type 0 where
@@ -63,8 +56,9 @@ pub record GoesOn (s : State) (ready : BTreeSet TaskId) : Type 0 where
   pub shards : HasShards s
   pub ready_known : HasReady s ready
   pub can_run : CanRun s.cluster.nodes s.script.now.commands
+  pub few : length s.script.now.commands ≤ 65535
 
--- The past is lawful, and each search that has ended replied with the plain answer.
+-- The past is lawful, and each search that has ended replied with the plain answer, unless it was cancelled.
 pub record KeepsLaws (s : State) : Type 0 where
   pub lawful : Lawful s.cluster s.history
   pub plain : AnswersPlainly s.cluster s.corpus.now s.script.now s.history
@@ -74,19 +68,9 @@ abbrev pub IsWorld : State → BTreeSet TaskId → Option Stop → Type 0
 IsWorld s ready None = GoesOn s ready
 IsWorld s ready (Some stop) = KeepsLaws s
 
--- The past is as it was, or the move happened.
-abbrev pub IsPartly : (List Event → List Event → Type 0) → List Event → List Event → Type 0
-IsPartly Moves h new = (new ≡ h) ⊎ Moves h new
-
 -- all but the past stays
 abbrev pub with_past : WorldView → List Event → WorldView
 with_past w past = record w { past = past }
-
--- Where memory did not run out, the past is as it was.
-abbrev pub IsWhole : Stop → List Event → List Event → Type 0
-IsWhole Memory h new = ⊤
-IsWhole HistoryFull h new = new ≡ h
-IsWhole NumbersSpent h new = new ≡ h
 
 -- Settling has come so far: the tables say of the past what they should, and the past is made by first moves.
 pub record HasSettled (start now : State) (ready : BTreeSet TaskId) : Type 0 where
@@ -94,14 +78,15 @@ pub record HasSettled (start now : State) (ready : BTreeSet TaskId) : Type 0 whe
   pub shards : HasShards now
   pub known : HasReady now ready
   pub keeps : Keeps start now
-  pub passes : PartlySettles start.cluster start.corpus.now start.script.now start.history now.history
-
--- where the task made its step there was room for one more event
-abbrev pub HasRoom : Stepped → List Event → Type 0
-HasRoom Done h = length h < MAX_EVENTS
-HasRoom Waiting h = ⊤
-HasRoom NotRunning h = ⊤
+  pub passes : (between : List (List Event)) × Passes start.cluster start.corpus.now start.script.now start.history between now.history
 
 -- the empty tables of so many nodes, of which the first follows this one
 abbrev pub tables_from : ℕ → ℕ → ℕ → List Table
 tables_from node nodes slots = map (λ place. new_table (place + 1) slots) (range_with_len node nodes)
+
+-- no ban stands on so many nodes, of which the first follows this one, and nothing is cancelled there
+abbrev pub cores_from : ℕ → ℕ → List Cancellations
+cores_from node nodes = map (λ place. no_cancellations (place + 1)) (range_with_len node nodes)
+
+abbrev pub no_bans : ℕ → List (FinMap task_id_cmp ℕ)
+no_bans nodes = map (λ place. empty) (range_with_len 0 nodes)

@@ -1,14 +1,17 @@
 //! The next step of a live task.
 
-ghost use Rattle.std.specs.Prelude.{◌≡◌, ◌∷◌, true, false, length, Ok, Some, None, IfOk, IfErr, OnOk, OnErr};
+ghost use Rattle.std.specs.Prelude.{◌≡◌, ◌∷◌, ◌≤◌, true, false, not, length, Ok, Some, None, IfOk, IfErr, OnOk, OnErr};
+ghost use Rattle.task_events.specs.Bans.{mark_of, ban_over};
 ghost use Rattle.task_events.specs.Tasks.{is_live, is_new};
-ghost use Rattle.world_steps.specs.Moves.{StopsStep};
-ghost use Rattle.world_steps.specs.Runs.{AnswersStep};
-ghost use Rattle.world_steps.specs.World.{HasRoom};
+ghost use Rattle.task_events.specs.declared.history.TheConstants.{MAX_EVENTS};
+ghost use Rattle.world_steps.specs.Facts.{awaited_by, none_awaited};
+ghost use Rattle.world_steps.specs.Moves.{IsPartly, StopsMove};
+ghost use Rattle.world_steps.specs.Runs.{AnswersStep, HasRoom, Steps};
+ghost use Rattle.world_steps.specs.World.{KeepsLaws};
 ghost use Rattle.world_steps.specs.Ties.{IsTied, Keeps, HasShards, DoesNext, task_at};
 
 use crate::asks::ask;
-use crate::ends::finish;
+use crate::ends::{finish, finish_cancelled, refuse};
 use crate::state::State;
 use crate::steps::pass;
 use crate::turns::turn;
@@ -26,19 +29,31 @@ pub enum Stepped {
     NotRunning,
 }
 
-/// A task that has passed does what its work says.
+/// The number of the ban of a child's parent that stands on its node.
+fn ban_over(state: &State<'_>, task: TaskId) -> Option<u32>
+    requires tied { IsTied state.now }
+    requires live { is_live task state.now.history ≡ true }
+    ensures { result ≡ ban_over task state.now.history }
+{
+    let running = state.tasks.get(&task)?;
+    let parent = running.ticket.parent()?;
+    state.bans[task.node as usize - 1].find(parent)
+}
+
+/// A task that has passed and is not marked does what its work says.
 fn work_on(state: &mut State<'_>, task: TaskId, next: Do) -> Result<Stepped, Stop>
     requires tied { IsTied state.old }
     requires shards { HasShards state.old }
     requires live { is_live task state.old.history ≡ true }
     requires passed { is_new task state.old.history ≡ false }
+    requires unmarked { mark_of task state.old.history ≡ None }
     requires next { DoesNext (task_at state.old.tasks task) next }
     ensures stepped { IfOk result (λ stepped. AnswersStep state.old.cluster state.old.corpus.now state.old.script.now task state.old.history stepped state.new.history) }
     ensures tied { OnOk result (IsTied state.new) }
     ensures keeps { Keeps state.old state.new }
-    ensures room { IfOk result (λ stepped. HasRoom stepped state.old.history) }
+    ensures room { IfOk result (λ stepped. HasRoom stepped state.new.history) }
     ensures err { OnErr result (state.new.history ≡ state.old.history) }
-    ensures stop { IfErr result (λ stop. StopsStep state.old.history stop) }
+    ensures stop { IfErr result (λ stop. StopsMove state.new.history stop) }
 {
     match next {
         Do::AskNext(request) => ask(state, task, request)?,
@@ -49,6 +64,58 @@ fn work_on(state: &mut State<'_>, task: TaskId, next: Do) -> Result<Stepped, Sto
     Ok(Stepped::Done)
 }
 
+/// A child that has not passed makes its first step: it goes on, or is refused where a ban of its parent stands on its node.
+fn first_step(state: &mut State<'_>, task: TaskId) -> Result<(), Stop>
+    requires tied { IsTied state.old }
+    requires live { is_live task state.old.history ≡ true }
+    requires first { is_new task state.old.history ≡ true }
+    ensures stepped { OnOk result (Steps state.old.cluster state.old.corpus.now state.old.script.now task state.old.history state.new.history) }
+    ensures tied { OnOk result (IsTied state.new) }
+    ensures keeps { Keeps state.old state.new }
+    ensures room { OnOk result (length state.new.history ≤ MAX_EVENTS) }
+    ensures part { OnErr result (IsPartly (Steps state.old.cluster state.old.corpus.now state.old.script.now task) state.old.history state.new.history) }
+    ensures laws { OnErr result (KeepsLaws state.new) }
+    ensures stop { IfErr result (λ stop. StopsMove state.new.history stop) }
+{
+    let stepped = match ban_over(state, task) {
+        Some(cancel) => refuse(state, task, cancel),
+        None => pass(state, task),
+    };
+    match stepped {
+        Ok(()) => Ok(()),
+        Err(stop) => Err(stop),
+    }
+}
+
+/// A marked task that has passed ends once its asks are answered.
+fn leave_or_wait(
+    state: &mut State<'_>,
+    task: TaskId,
+    cancel: u32,
+    waits: bool,
+) -> Result<Stepped, Stop>
+    requires tied { IsTied state.old }
+    requires live { is_live task state.old.history ≡ true }
+    requires passed { is_new task state.old.history ≡ false }
+    requires marked { mark_of task state.old.history ≡ Some cancel }
+    requires waits { waits ≡ not (none_awaited (awaited_by task state.old.history)) }
+    ensures stepped { IfOk result (λ stepped. AnswersStep state.old.cluster state.old.corpus.now state.old.script.now task state.old.history stepped state.new.history) }
+    ensures tied { OnOk result (IsTied state.new) }
+    ensures keeps { Keeps state.old state.new }
+    ensures room { IfOk result (λ stepped. HasRoom stepped state.new.history) }
+    ensures part { OnErr result (IsPartly (Steps state.old.cluster state.old.corpus.now state.old.script.now task) state.old.history state.new.history) }
+    ensures laws { OnErr result (KeepsLaws state.new) }
+    ensures stop { IfErr result (λ stop. StopsMove state.new.history stop) }
+{
+    if waits {
+        return Ok(Stepped::Waiting);
+    }
+    match finish_cancelled(state, task, cancel) {
+        Ok(()) => Ok(Stepped::Done),
+        Err(stop) => Err(stop),
+    }
+}
+
 /// A live task makes its next step, unless it waits.
 pub(crate) fn act(state: &mut State<'_>, task: TaskId) -> Result<Stepped, Stop>
     requires tied { IsTied state.old }
@@ -56,19 +123,29 @@ pub(crate) fn act(state: &mut State<'_>, task: TaskId) -> Result<Stepped, Stop>
     ensures stepped { IfOk result (λ stepped. AnswersStep state.old.cluster state.old.corpus.now state.old.script.now task state.old.history stepped state.new.history) }
     ensures tied { OnOk result (IsTied state.new) }
     ensures keeps { Keeps state.old state.new }
-    ensures room { IfOk result (λ stepped. HasRoom stepped state.old.history) }
-    ensures err { OnErr result (state.new.history ≡ state.old.history) }
-    ensures stop { IfErr result (λ stop. StopsStep state.old.history stop) }
+    ensures room { IfOk result (λ stepped. HasRoom stepped state.new.history) }
+    ensures part { OnErr result (IsPartly (Steps state.old.cluster state.old.corpus.now state.old.script.now task) state.old.history state.new.history) }
+    ensures laws { OnErr result (KeepsLaws state.new) }
+    ensures stop { IfErr result (λ stop. StopsMove state.new.history stop) }
 {
     let Some(running) = state.tasks.get(&task) else {
         return Ok(Stepped::NotRunning);
     };
     if running.is_new {
-        pass(state, task)?;
-        return Ok(Stepped::Done);
+        return match first_step(state, task) {
+            Ok(()) => Ok(Stepped::Done),
+            Err(stop) => Err(stop),
+        };
+    }
+    if let Some(cancel) = running.track.closed() {
+        let waits = running.track.unanswered() > 0;
+        return leave_or_wait(state, task, cancel, waits);
     }
     let Ok(next) = running.work.next(0) else {
         return Err(Stop::Memory);
     };
-    work_on(state, task, next)
+    match work_on(state, task, next) {
+        Ok(stepped) => Ok(stepped),
+        Err(stop) => Err(stop),
+    }
 }

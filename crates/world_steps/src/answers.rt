@@ -1,6 +1,6 @@
 //! An answer comes to the task that asked.
 
-ghost use Rattle.std.specs.Prelude.{◌≡◌, ◌∷◌, ◌<◌, true, length, remove, slice_get, Some, Err, IsSome, IfOk, IfErr, OnOk, OnErr, option_and_then};
+ghost use Rattle.std.specs.Prelude.{◌≡◌, ◌∷◌, ◌≤◌, true, length, remove, slice_get, Some, Err, IsSome, IfOk, IfErr, OnOk, OnErr, option_and_then};
 ghost use Rattle.child_track.specs.Track.{Answers};
 ghost use Rattle.task_events.specs.declared.history.TheConstants.{MAX_EVENTS};
 ghost use Rattle.task_work.specs.Works.{work_takes};
@@ -11,11 +11,12 @@ ghost use Rattle.world_steps.specs.Moves.{Delivers};
 ghost use Rattle.world_steps.specs.Ties.{IsTied, Keeps};
 
 use crate::append::append;
+use crate::ends::cancelled_reply;
 use crate::flight::Flight;
 use crate::running::Running;
 use crate::state::State;
 use child_track::Receipt;
-use task_events::{Counts, Event, History, Reply, Stop};
+use task_events::{Event, History, Reply, Stop};
 
 /// Takes the answer of this place out of the messages in flight: its receipt, and the place in the history of the event
 /// that sent it.
@@ -49,17 +50,7 @@ fn reply_sent(event: &Event) -> Result<Reply, Stop>
 {
     match event {
         Event::Reject { node, .. } => Ok(Reply::Rejected { node: *node }),
-        Event::Refuse { task, cancel } => Ok(Reply::Cancelled {
-            task: *task,
-            cancel: *cancel,
-            counts: Counts {
-                total: 0,
-                created: 0,
-                updated: 0,
-                batches: 0,
-                failures: 0,
-            },
-        }),
+        Event::Refuse { task, cancel } => Ok(cancelled_reply(*task, *cancel)),
         Event::End { reply, .. } => copied(reply),
         _ => unreachable!(),
     }
@@ -105,7 +96,7 @@ pub(crate) fn deliver_answer(state: &mut State<'_>, nth: usize) -> Result<(), St
     ensures err { OnErr result (state.new.history ≡ state.old.history) }
     ensures full { result ≡ Err Stop.HistoryFull → length state.old.history ≡ MAX_EVENTS }
     ensures numbers { result ≡ Err Stop.NumbersSpent → ⊥ }
-    ensures room { OnOk result (length state.old.history < MAX_EVENTS) }
+    ensures room { OnOk result (length state.new.history ≤ MAX_EVENTS) }
 {
     let (receipt, at) = take_answer(&mut state.flight, nth);
     let Some(parent) = receipt.parent() else {

@@ -1,10 +1,11 @@
 //! A live task asks for a child.
 
-ghost use Rattle.std.specs.Prelude.{◌≡◌, ◌∷◌, ◌+◌, ◌^◌, ◌<◌, true, false, length, Err, None, IfOk, IfErr, OnOk, OnErr};
+ghost use Rattle.std.specs.Prelude.{◌≡◌, ◌∷◌, ◌+◌, ◌^◌, ◌<◌, ◌≤◌, true, false, length, Err, None, IfOk, IfErr, OnOk, OnErr};
 ghost use Rattle.task_ids.specs.Limits.{IsNode};
 ghost use Rattle.task_events.specs.declared.history.TheConstants.{MAX_EVENTS};
 ghost use Rattle.task_events.specs.Asks.{last_ask};
 ghost use Rattle.task_events.specs.Steps.{node_for};
+ghost use Rattle.task_events.specs.Bans.{mark_of};
 ghost use Rattle.task_events.specs.Tasks.{is_live, is_new};
 ghost use Rattle.task_work.specs.Works.{can_ask};
 ghost use Rattle.world_steps.specs.Asking.{PlansToAsk, next_number, running_with_ask};
@@ -58,6 +59,7 @@ pub(crate) fn ask(state: &mut State<'_>, task: TaskId, request: Request) -> Resu
     requires tied { IsTied state.old }
     requires live { is_live task state.old.history ≡ true }
     requires passed { is_new task state.old.history ≡ false }
+    requires unmarked { mark_of task state.old.history ≡ None }
     requires planned { PlansToAsk (task_at state.old.tasks task) request }
     ensures happened { OnOk result (state.new.history
         ≡ Event.Ask task (last_ask task state.old.history + 1) (node_for state.old.cluster task request) request ∷ state.old.history) }
@@ -66,7 +68,7 @@ pub(crate) fn ask(state: &mut State<'_>, task: TaskId, request: Request) -> Resu
     ensures err { OnErr result (state.new.history ≡ state.old.history) }
     ensures full { result ≡ Err Stop.HistoryFull → length state.old.history ≡ MAX_EVENTS }
     ensures numbers { result ≡ Err Stop.NumbersSpent → ⊥ }
-    ensures room { OnOk result (length state.old.history < MAX_EVENTS) }
+    ensures room { OnOk result (length state.new.history ≤ MAX_EVENTS) }
 {
     let to = node_to_ask(task, &request, &state.cluster);
     let at = state.history.len();

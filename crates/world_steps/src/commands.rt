@@ -1,24 +1,32 @@
 //! What commands do, and the closing drain.
 
-ghost use Rattle.std.specs.Prelude.{◌≡◌, ◌∷◌, ◌+◌, ◌≤◌, length, false, Some, IfOk, OnOk, OnErr, IfErr};
+ghost use Rattle.std.specs.Prelude.{◌≡◌, ◌⊎◌, ◌∷◌, ◌+◌, ◌≤◌, length, false, Some, IfOk, OnOk, OnErr, IfErr};
 ghost use Rattle.query_parse.specs.Bodies.{body_at};
 ghost use Rattle.task_events.specs.Cancels.{last_command, beginning};
 ghost use Rattle.task_events.specs.Laws.{IsDrained};
 ghost use Rattle.world_steps.specs.Roots.{body_or_none, command_at, whole_ask};
-ghost use Rattle.world_steps.specs.Scripts.{CanDo, CanRun, can_start, StartsWhere, DeliversWhere, Does, PartlyDoes, Commands, PartlyCommands, Drains, PartlyDrains, StopsRun};
+ghost use Rattle.task_ids.specs.Limits.{IsCancel};
+ghost use Rattle.world_steps.specs.Cancels.{after_cancel, AllAnswered};
+ghost use Rattle.world_steps.specs.Moves.{IsPartly};
+ghost use Rattle.world_steps.specs.Runs.{AnswersStep};
+ghost use Rattle.world_steps.specs.Scripts.{CanDo, CanRun, can_start, StartsWhere, DeliversWhere, ListsWhere, Does, PartlyDoes, Commands, PartlyCommands, Drains, PartlyDrains, StopsRun};
 ghost use Rattle.world_steps.specs.Ties.{IsTied, Keeps, HasShards};
-ghost use Rattle.world_steps.specs.World.{HasReady, IsPartly, KeepsLaws};
+ghost use Rattle.world_steps.specs.World.{HasReady, KeepsLaws};
 
-use crate::moving::{deliver_there, settle, step_there};
+use crate::acting::Stepped;
+use crate::cancels::cancel;
+use crate::listing::Listing;
+use crate::moving::{deliver_there, list_there, settle, step_there};
 use crate::ready::refresh;
 use crate::roots::{begin, start};
 use crate::state::State;
 use query_parse::{BodyError, SearchBody, read_body};
-use script_lang::Command;
+use script_lang::{CancelTarget, Command};
 use std::alloc::Global;
 use std::collections::BTreeSet;
 use task_events::{Event, SearchAsk, Stop};
 use task_ids::{DocSource, TaskId, Text};
+use task_laws::drained_bans;
 
 /// The body of a search, unless it has a fault.
 fn body_of(alloc: Global, body: &DocSource) -> Result<Option<SearchBody>, Stop>
@@ -69,7 +77,7 @@ fn search(
     ensures tied { OnOk result (IsTied state.new) }
     ensures known { OnOk result (HasReady state.new ready.new) }
     ensures keeps { Keeps state.old state.new }
-    ensures err { OnErr result (IsPartly (StartsWhere state.old.cluster (can_start state.old.corpus.now index.now body.now) number node) state.old.history state.new.history) }
+    ensures part { OnErr result (IsPartly (StartsWhere state.old.cluster (can_start state.old.corpus.now index.now body.now) number node) state.old.history state.new.history) }
     ensures laws { KeepsLaws state.new }
     ensures stop { IfErr result (λ stop. StopsRun state.old.cluster state.new.history stop) }
 {
@@ -80,8 +88,9 @@ fn search(
         return Ok(());
     }
     let ask = whole_ask(index, body)?;
+    let before = state.history.len();
     start(state, number, node, ask)?;
-    match refresh(state, ready) {
+    match refresh(state, ready, before) {
         Ok(()) => Ok(()),
         Err(stop) => Err(stop),
     }
@@ -95,14 +104,85 @@ fn deliver(state: &mut State<'_>, ready: &mut BTreeSet<TaskId>, nth: u64) -> Res
     ensures tied { OnOk result (IsTied state.new) }
     ensures known { OnOk result (HasReady state.new ready.new) }
     ensures keeps { Keeps state.old state.new }
-    ensures err { OnErr result (IsPartly (DeliversWhere state.old.cluster nth) state.old.history state.new.history) }
+    ensures part { OnErr result (IsPartly (DeliversWhere state.old.cluster nth) state.old.history state.new.history) }
     ensures laws { KeepsLaws state.new }
     ensures stop { IfErr result (λ stop. StopsRun state.old.cluster state.new.history stop) }
 {
     if nth >= state.flight.len() as u64 {
         return Ok(());
     }
-    deliver_there(state, ready, nth as usize)
+    match deliver_there(state, ready, nth as usize) {
+        Ok(()) => Ok(()),
+        Err(stop) => Err(stop),
+    }
+}
+
+/// A cancel that has begun names and marks its task, or finds none, and it is noted whether the task waits.
+fn cancel_there(
+    state: &mut State<'_>,
+    ready: &mut BTreeSet<TaskId>,
+    number: u32,
+    target: &CancelTarget,
+    wait: bool,
+) -> Result<(), Stop>
+    requires tied { IsTied state.old }
+    requires known { HasReady state.old ready.old }
+    requires begun { beginning state.old.history ≡ Some number }
+    requires number { IsCancel number }
+    ensures done { OnOk result (state.new.history ≡ after_cancel number target.now wait state.old.history) }
+    ensures tied { OnOk result (IsTied state.new) }
+    ensures known { OnOk result (HasReady state.new ready.new) }
+    ensures keeps { Keeps state.old state.new }
+    ensures part { OnErr result (IsPartly (λ h new. new ≡ after_cancel number target.now wait h) state.old.history state.new.history) }
+    ensures laws { KeepsLaws state.new }
+    ensures stop { IfErr result (λ stop. StopsRun state.old.cluster state.new.history stop) }
+{
+    let before = state.history.len();
+    match cancel(state, number, target, wait) {
+        Ok(()) => {}
+        Err(stop) => return Err(stop),
+    }
+    match refresh(state, ready, before) {
+        Ok(()) => Ok(()),
+        Err(stop) => Err(stop),
+    }
+}
+
+/// A listing makes its next step, if it is open.
+fn list(state: &mut State<'_>, ready: &mut BTreeSet<TaskId>, listing: Listing) -> Result<(), Stop>
+    requires tied { IsTied state.old }
+    requires known { HasReady state.old ready.old }
+    ensures done { OnOk result (ListsWhere listing state.old.history state.new.history) }
+    ensures tied { OnOk result (IsTied state.new) }
+    ensures known { OnOk result (HasReady state.new ready.new) }
+    ensures keeps { Keeps state.old state.new }
+    ensures part { OnErr result (IsPartly (ListsWhere listing) state.old.history state.new.history) }
+    ensures laws { KeepsLaws state.new }
+    ensures stop { IfErr result (λ stop. StopsRun state.old.cluster state.new.history stop) }
+{
+    match list_there(state, ready, listing) {
+        Ok(_) => Ok(()),
+        Err(stop) => Err(stop),
+    }
+}
+
+/// A task makes its next step, unless it waits or is not live.
+fn step(state: &mut State<'_>, ready: &mut BTreeSet<TaskId>, task: TaskId) -> Result<(), Stop>
+    requires tied { IsTied state.old }
+    requires shards { HasShards state.old }
+    requires known { HasReady state.old ready.old }
+    ensures done { OnOk result ((stepped : Stepped) × AnswersStep state.old.cluster state.old.corpus.now state.old.script.now task state.old.history stepped state.new.history) }
+    ensures tied { OnOk result (IsTied state.new) }
+    ensures known { OnOk result (HasReady state.new ready.new) }
+    ensures keeps { Keeps state.old state.new }
+    ensures part { OnErr result (IsPartly (λ h new. (stepped : Stepped) × AnswersStep state.old.cluster state.old.corpus.now state.old.script.now task h stepped new) state.old.history state.new.history) }
+    ensures laws { KeepsLaws state.new }
+    ensures stop { IfErr result (λ stop. StopsRun state.old.cluster state.new.history stop) }
+{
+    match step_there(state, ready, task) {
+        Ok(_) => Ok(()),
+        Err(stop) => Err(stop),
+    }
 }
 
 /// Does what a command says that has begun.
@@ -116,26 +196,28 @@ fn act_on(
     requires shards { HasShards state.old }
     requires known { HasReady state.old ready.old }
     requires begun { beginning state.old.history ≡ Some number }
+    requires number { IsCancel number }
     requires there { command_at state.old.script.now number ≡ Some command.now }
     requires can { CanDo state.old.cluster.nodes command.now }
     ensures done { OnOk result (Does state.old.cluster state.old.corpus.now state.old.script.now number command.now state.old.history state.new.history) }
     ensures tied { OnOk result (IsTied state.new) }
     ensures known { OnOk result (HasReady state.new ready.new) }
     ensures keeps { Keeps state.old state.new }
-    ensures err { OnErr result (PartlyDoes state.old.cluster state.old.corpus.now state.old.script.now number command.now state.old.history state.new.history) }
+    ensures part { OnErr result (PartlyDoes state.old.cluster state.old.corpus.now state.old.script.now number command.now state.old.history state.new.history) }
     ensures laws { KeepsLaws state.new }
     ensures stop { IfErr result (λ stop. StopsRun state.old.cluster state.new.history stop) }
 {
     match command {
         Command::Search { index, node, body } => search(state, ready, number, index, *node, body),
         Command::Deliver { nth } => deliver(state, ready, *nth),
-        Command::Step { task } => {
-            step_there(state, ready, *task)?;
-            Ok(())
+        Command::Cancel { target, wait, .. } => cancel_there(state, ready, number, target, *wait),
+        Command::Step { task } => step(state, ready, *task),
+        Command::ListStep { node, parent } => {
+            let (node, parent) = (*node, *parent);
+            list(state, ready, Listing { node, parent })
         }
         Command::Settle => settle(state, ready),
         Command::History => Ok(()),
-        Command::Cancel { .. } | Command::ListStep { .. } => unreachable!(),
     }
 }
 
@@ -148,12 +230,16 @@ fn begin_there(state: &mut State<'_>, ready: &mut BTreeSet<TaskId>, number: u32)
     ensures tied { OnOk result (IsTied state.new) }
     ensures known { OnOk result (HasReady state.new ready.new) }
     ensures keeps { Keeps state.old state.new }
-    ensures err { OnErr result (IsPartly (λ h new. new ≡ Event.Begin number ∷ h) state.old.history state.new.history) }
+    ensures part { OnErr result ((state.new.history ≡ state.old.history) ⊎ (state.new.history ≡ Event.Begin number ∷ state.old.history)) }
     ensures laws { KeepsLaws state.new }
     ensures stop { IfErr result (λ stop. StopsRun state.old.cluster state.new.history stop) }
 {
+    let before = state.history.len();
     begin(state, number)?;
-    refresh(state, ready)
+    match refresh(state, ready, before) {
+        Ok(()) => Ok(()),
+        Err(stop) => Err(stop),
+    }
 }
 
 /// Begins the command of this number and does what it says.
@@ -168,11 +254,12 @@ pub(crate) fn command(
     requires can { CanRun state.old.cluster.nodes state.old.script.now.commands }
     requires next { last_command state.old.history + 1 ≡ k }
     requires there { k ≤ length state.old.script.now.commands }
+    requires few { length state.old.script.now.commands ≤ 65535 }
     ensures done { OnOk result (Commands state.old.cluster state.old.corpus.now state.old.script.now k state.old.history state.new.history) }
     ensures tied { OnOk result (IsTied state.new) }
     ensures known { OnOk result (HasReady state.new ready.new) }
     ensures keeps { Keeps state.old state.new }
-    ensures err { OnErr result (PartlyCommands state.old.cluster state.old.corpus.now state.old.script.now k state.old.history state.new.history) }
+    ensures part { OnErr result (PartlyCommands state.old.cluster state.old.corpus.now state.old.script.now k state.old.history state.new.history) }
     ensures laws { KeepsLaws state.new }
     ensures stop { IfErr result (λ stop. StopsRun state.old.cluster state.new.history stop) }
 {
@@ -199,14 +286,17 @@ pub(crate) fn drain(state: &mut State<'_>, ready: &mut BTreeSet<TaskId>) -> Resu
     requires few { length state.old.script.now.commands ≤ 65535 }
     ensures drained { OnOk result (Drains state.old.cluster state.old.corpus.now state.old.script.now state.old.history state.new.history) }
     ensures over { OnOk result (IsDrained state.new.history) }
+    ensures answered { OnOk result (AllAnswered state.new.history) }
     ensures tied { OnOk result (IsTied state.new) }
     ensures known { OnOk result (HasReady state.new ready.new) }
     ensures keeps { Keeps state.old state.new }
-    ensures err { OnErr result (PartlyDrains state.old.cluster state.old.corpus.now state.old.script.now state.old.history state.new.history) }
+    ensures part { OnErr result (PartlyDrains state.old.cluster state.old.corpus.now state.old.script.now state.old.history state.new.history) }
     ensures laws { KeepsLaws state.new }
     ensures stop { IfErr result (λ stop. StopsRun state.old.cluster state.new.history stop) }
 {
     let closing = state.script.commands.as_slice().len() as u32 + 1;
+    // Of a past in which nothing moves any more. It computes nothing.
+    drained_bans();
     match begin_there(state, ready, closing) {
         Ok(()) => {}
         Err(stop) => return Err(stop),

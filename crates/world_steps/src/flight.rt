@@ -1,20 +1,45 @@
 //! The messages in flight.
 
 ghost use Rattle.std.specs.Prelude.{◌≡◌, true, Some, ◌∷◌, [], ◌++◌, ◌<◌, ◌↔◌, length, remove, slice_get, IsSome, IfSome, IfErr, OnOk, OnErr, OnSome, IfNone};
-ghost use Rattle.world_steps.specs.Flights.{is_request_entry, is_answer_entry};
+ghost use Rattle.world_steps.specs.Flights.{is_request_entry, is_answer_entry, notice_at};
 
 use child_track::{AskToken, Receipt};
 use std::alloc::{AllocFailed, Global};
 use std::collections::VecDeque;
 use std::marker::Model;
+use task_ids::TaskId;
 
-/// A message that was sent, by the place in the history of the event that sent it. What it says stands there.
+/// A message about the bans of a marked task.
+#[derive(Clone, Copy, Debug, PartialEq, Eq)]
+pub(crate) enum Notice {
+    /// A node is to refuse the task's new children, and to mark those that it has.
+    Ban {
+        parent: TaskId,
+        cancel: u32,
+        to: u32,
+    },
+    /// A node has done so.
+    Ack {
+        parent: TaskId,
+        from: u32,
+    },
+    /// A node is told that the task has ended.
+    Unban {
+        parent: TaskId,
+        to: u32,
+    },
+}
+
+/// A message that was sent. What a request or an answer says stands in the history, at the place of the event that sent
+/// it.
 #[derive(Debug)]
 pub(crate) enum Sent {
     /// The request of an ask, with the right to answer it, to a node.
     Request { token: AskToken, to: u32, at: usize },
     /// The answer to an ask, with the receipt of the child that ended or of the rejection.
     Answer { receipt: Receipt, at: usize },
+    /// A message about bans.
+    Notice(Notice),
 }
 
 impl Sent {
@@ -25,7 +50,7 @@ impl Sent {
     {
         match self {
             Sent::Request { token, to, at } => (token, to, at),
-            Sent::Answer { .. } => unreachable!(),
+            Sent::Answer { .. } | Sent::Notice(..) => unreachable!(),
         }
     }
 
@@ -36,7 +61,7 @@ impl Sent {
     {
         match self {
             Sent::Answer { receipt, at } => (receipt, at),
-            Sent::Request { .. } => unreachable!(),
+            Sent::Request { .. } | Sent::Notice(..) => unreachable!(),
         }
     }
 }
@@ -53,6 +78,7 @@ impl Drop for Sent {
                 let _receipt = token.reject();
             }
             Sent::Answer { receipt: _, at: _ } => {}
+            Sent::Notice(_notice) => {}
         }
     }
 }
@@ -102,6 +128,16 @@ impl Flight {
         ensures { result ≡ is_request_entry (slice_get self.now nth) }
     {
         matches!(self.queue.get(nth), Some(Sent::Request { .. }))
+    }
+
+    /// The message of this place, if it is one about bans.
+    pub(crate) fn notice(&self, nth: usize) -> Option<Notice>
+        ensures { result ≡ notice_at (slice_get self.now nth) }
+    {
+        match self.queue.get(nth) {
+            Some(Sent::Notice(notice)) => Some(*notice),
+            _ => None,
+        }
     }
 
     /// Takes the message of this place out, counted from 0. There is none exactly past the end.

@@ -1,14 +1,20 @@
 //! Moves of the world, after each of which it is known which tasks wait.
 
-ghost use Rattle.std.specs.Prelude.{◌≡◌, ◌<◌, length, true, false, Ok, OnOk, OnErr, IfOk, IfErr};
+ghost use Rattle.std.specs.Prelude.{◌≡◌, ◌<◌, ◌≤◌, length, true, false, Ok, OnOk, OnErr, IfOk, IfErr};
 ghost use Rattle.task_events.specs.declared.history.TheConstants.{MAX_EVENTS};
-ghost use Rattle.world_steps.specs.Moves.{Delivers, StopsDelivery, StopsStep};
-ghost use Rattle.world_steps.specs.Runs.{Steps, AnswersStep, FirstMoves, IsSettled, Settles, PartlySettles};
+ghost use Rattle.task_events.specs.Laws.{IsDrained};
+ghost use Rattle.world_steps.specs.Listings.{ListSteps, AnswersListing};
+ghost use Rattle.world_steps.specs.Moves.{Delivers, IsPartly, StopsDelivery, StopsMove};
+ghost use Rattle.world_steps.specs.Runs.{Steps, AnswersStep, FirstMoves, HasRoom, IsSettled, Settles, PartlySettles};
+ghost use Rattle.world_steps.specs.Scripts.{StopsRun};
 ghost use Rattle.world_steps.specs.Ties.{IsTied, Keeps, HasShards};
-ghost use Rattle.world_steps.specs.World.{HasReady, HasRoom, IsPartly, IsWhole, KeepsLaws};
+ghost use Rattle.world_steps.specs.World.{HasReady, KeepsLaws};
 
 use crate::acting::{Stepped, act};
 use crate::answers::deliver_answer;
+use crate::bans::deliver_notice;
+use crate::listing::Listing;
+use crate::listings::{ListStep, list_step};
 use crate::ready::refresh;
 use crate::requests::deliver_request;
 use crate::state::State;
@@ -21,16 +27,25 @@ pub(crate) fn deliver_one(state: &mut State<'_>, nth: usize) -> Result<(), Stop>
     requires tied { IsTied state.old }
     requires there { nth < length state.old.flight }
     ensures delivered { OnOk result (Delivers state.old.cluster state.old.history nth state.new.history) }
-    ensures room { OnOk result (length state.old.history < MAX_EVENTS) }
+    ensures room { OnOk result (length state.new.history ≤ MAX_EVENTS) }
     ensures tied { OnOk result (IsTied state.new) }
     ensures keeps { Keeps state.old state.new }
-    ensures err { OnErr result (state.new.history ≡ state.old.history) }
-    ensures stop { IfErr result (λ stop. StopsDelivery state.old.cluster state.old.history nth stop) }
+    ensures part { OnErr result (IsPartly (λ h new. Delivers state.old.cluster h nth new) state.old.history state.new.history) }
+    ensures laws { OnErr result (KeepsLaws state.new) }
+    ensures stop { IfErr result (λ stop. StopsDelivery state.old.cluster state.old.history nth state.new.history stop) }
 {
+    if let Some(notice) = state.flight.notice(nth) {
+        return deliver_notice(state, nth, notice);
+    }
     if state.flight.is_request(nth) {
-        deliver_request(state, nth)
-    } else {
-        deliver_answer(state, nth)
+        return match deliver_request(state, nth) {
+            Ok(()) => Ok(()),
+            Err(stop) => Err(stop),
+        };
+    }
+    match deliver_answer(state, nth) {
+        Ok(()) => Ok(()),
+        Err(stop) => Err(stop),
     }
 }
 
@@ -44,18 +59,23 @@ pub(crate) fn deliver_there(
     requires known { HasReady state.old ready.old }
     requires there { nth < length state.old.flight }
     ensures delivered { OnOk result (Delivers state.old.cluster state.old.history nth state.new.history) }
-    ensures room { OnOk result (length state.old.history < MAX_EVENTS) }
+    ensures room { OnOk result (length state.new.history ≤ MAX_EVENTS) }
     ensures tied { OnOk result (IsTied state.new) }
     ensures known { OnOk result (HasReady state.new ready.new) }
     ensures keeps { Keeps state.old state.new }
-    ensures err { OnErr result (IsPartly (λ h new. Delivers state.old.cluster h nth new) state.old.history state.new.history) }
-    ensures whole { IfErr result (λ stop. IsWhole stop state.old.history state.new.history) }
+    ensures part { OnErr result (IsPartly (λ h new. Delivers state.old.cluster h nth new) state.old.history state.new.history) }
     ensures laws { KeepsLaws state.new }
-    ensures stop { IfErr result (λ stop. StopsDelivery state.old.cluster state.old.history nth stop) }
+    ensures stop { IfErr result (λ stop. StopsDelivery state.old.cluster state.old.history nth state.new.history stop) }
 {
-    deliver_one(state, nth)?;
-    refresh(state, ready)?;
-    Ok(())
+    let before = state.history.len();
+    match deliver_one(state, nth) {
+        Ok(()) => {}
+        Err(stop) => return Err(stop),
+    }
+    match refresh(state, ready, before) {
+        Ok(()) => Ok(()),
+        Err(stop) => Err(stop),
+    }
 }
 
 /// A task makes its next step, and it is noted whether it waits after that.
@@ -68,42 +88,80 @@ pub(crate) fn step_there(
     requires shards { HasShards state.old }
     requires known { HasReady state.old ready.old }
     ensures stepped { IfOk result (λ stepped. AnswersStep state.old.cluster state.old.corpus.now state.old.script.now task state.old.history stepped state.new.history) }
-    ensures room { IfOk result (λ stepped. HasRoom stepped state.old.history) }
+    ensures room { IfOk result (λ stepped. HasRoom stepped state.new.history) }
     ensures tied { OnOk result (IsTied state.new) }
     ensures known { OnOk result (HasReady state.new ready.new) }
     ensures keeps { Keeps state.old state.new }
-    ensures err { OnErr result (IsPartly (λ h new. Steps state.old.cluster state.old.corpus.now state.old.script.now task h new) state.old.history state.new.history) }
-    ensures whole { IfErr result (λ stop. IsWhole stop state.old.history state.new.history) }
+    ensures part { OnErr result (IsPartly (Steps state.old.cluster state.old.corpus.now state.old.script.now task) state.old.history state.new.history) }
     ensures laws { KeepsLaws state.new }
-    ensures stop { IfErr result (λ stop. StopsStep state.old.history stop) }
+    ensures stop { IfErr result (λ stop. StopsMove state.new.history stop) }
 {
-    let stepped = act(state, task)?;
-    if stepped == Stepped::Done {
-        refresh(state, ready)?;
+    let before = state.history.len();
+    let stepped = match act(state, task) {
+        Ok(stepped) => stepped,
+        Err(stop) => return Err(stop),
+    };
+    match refresh(state, ready, before) {
+        Ok(()) => Ok(stepped),
+        Err(stop) => Err(stop),
     }
-    Ok(stepped)
 }
 
-/// Makes the first move that there is: it delivers the oldest message, or else the lowest task that does not wait
-/// makes its step. The answer is whether there was one.
+/// A listing makes its next step, if it is open, and it is noted whether the child waits that it marked.
+pub(crate) fn list_there(
+    state: &mut State<'_>,
+    ready: &mut BTreeSet<TaskId>,
+    listing: Listing,
+) -> Result<ListStep, Stop>
+    requires tied { IsTied state.old }
+    requires known { HasReady state.old ready.old }
+    ensures stepped { IfOk result (λ stepped. AnswersListing listing state.old.history stepped state.new.history) }
+    ensures room { result ≡ Ok ListStep.Done → length state.new.history ≤ MAX_EVENTS }
+    ensures tied { OnOk result (IsTied state.new) }
+    ensures known { OnOk result (HasReady state.new ready.new) }
+    ensures keeps { Keeps state.old state.new }
+    ensures part { OnErr result (IsPartly (ListSteps listing) state.old.history state.new.history) }
+    ensures laws { KeepsLaws state.new }
+    ensures stop { IfErr result (λ stop. StopsMove state.new.history stop) }
+{
+    let before = state.history.len();
+    let stepped = match list_step(state, listing) {
+        Ok(stepped) => stepped,
+        Err(stop) => return Err(stop),
+    };
+    match refresh(state, ready, before) {
+        Ok(()) => Ok(stepped),
+        Err(stop) => Err(stop),
+    }
+}
+
+/// Makes the first move that there is: it delivers the oldest message, or else the first open listing makes a step, or else
+/// the lowest task that does not wait. The answer is whether there was one.
 pub(crate) fn move_first(state: &mut State<'_>, ready: &mut BTreeSet<TaskId>) -> Result<bool, Stop>
     requires tied { IsTied state.old }
     requires shards { HasShards state.old }
     requires known { HasReady state.old ready.old }
     ensures moved { result ≡ Ok true → FirstMoves state.old.cluster state.old.corpus.now state.old.script.now state.old.history state.new.history }
-    ensures room { result ≡ Ok true → length state.old.history < MAX_EVENTS }
+    ensures room { result ≡ Ok true → length state.new.history ≤ MAX_EVENTS }
     ensures rests { result ≡ Ok false → IsSettled state.old.cluster state.old.corpus.now state.old.script.now state.old.history × (state.new.history ≡ state.old.history) }
     ensures tied { OnOk result (IsTied state.new) }
     ensures known { OnOk result (HasReady state.new ready.new) }
     ensures keeps { Keeps state.old state.new }
-    ensures err { OnErr result (IsPartly (λ h new. FirstMoves state.old.cluster state.old.corpus.now state.old.script.now h new) state.old.history state.new.history) }
-    ensures whole { IfErr result (λ stop. IsWhole stop state.old.history state.new.history) }
+    ensures part { OnErr result (IsPartly (FirstMoves state.old.cluster state.old.corpus.now state.old.script.now) state.old.history state.new.history) }
     ensures laws { KeepsLaws state.new }
-    ensures stop { IfErr result (λ stop. StopsDelivery state.old.cluster state.old.history 0 stop) }
+    ensures stop { IfErr result (λ stop. StopsDelivery state.old.cluster state.old.history 0 state.new.history stop) }
 {
     if state.flight.len() > 0 {
-        deliver_there(state, ready, 0)?;
-        return Ok(true);
+        return match deliver_there(state, ready, 0) {
+            Ok(()) => Ok(true),
+            Err(stop) => Err(stop),
+        };
+    }
+    if let Some(listing) = state.listings.first().copied() {
+        return match list_there(state, ready, listing) {
+            Ok(_) => Ok(true),
+            Err(stop) => Err(stop),
+        };
     }
     let Some(task) = ready.first().copied() else {
         return Ok(false);
@@ -114,18 +172,20 @@ pub(crate) fn move_first(state: &mut State<'_>, ready: &mut BTreeSet<TaskId>) ->
     }
 }
 
-/// Makes first moves for as long as there are any.
+/// Makes first moves for as long as there are any. No task waits for a moment, so nothing is live, in flight or listed after
+/// that.
 pub(crate) fn settle(state: &mut State<'_>, ready: &mut BTreeSet<TaskId>) -> Result<(), Stop>
     requires tied { IsTied state.old }
     requires shards { HasShards state.old }
     requires known { HasReady state.old ready.old }
     ensures settled { OnOk result (Settles state.old.cluster state.old.corpus.now state.old.script.now state.old.history state.new.history) }
+    ensures over { OnOk result (IsDrained state.new.history) }
     ensures tied { OnOk result (IsTied state.new) }
     ensures known { OnOk result (HasReady state.new ready.new) }
     ensures keeps { Keeps state.old state.new }
-    ensures err { OnErr result (PartlySettles state.old.cluster state.old.corpus.now state.old.script.now state.old.history state.new.history) }
+    ensures part { OnErr result (PartlySettles state.old.cluster state.old.corpus.now state.old.script.now state.old.history state.new.history) }
     ensures laws { KeepsLaws state.new }
-    ensures stop { IfErr result (λ stop. StopsDelivery state.old.cluster state.new.history 0 stop) }
+    ensures stop { IfErr result (λ stop. StopsRun state.old.cluster state.new.history stop) }
 {
     loop {
         match move_first(state, ready) {

@@ -1,10 +1,15 @@
 //! The live tasks that do not wait.
 
-ghost use Rattle.std.specs.Prelude.{◌≡◌, IfErr, OnOk};
+ghost use Rattle.std.specs.Prelude.{◌≡◌, ◌≤◌, List, length, IfErr, OnOk, if◌then◌else◌};
+ghost use Rattle.std.specs.BTreeSet.{contains};
+ghost use Rattle.task_ids.specs.declared.doc.Doc.{Doc};
+ghost use Rattle.task_ids.specs.TaskIdOrder.{task_id_cmp};
+ghost use Rattle.task_events.specs.Same.{same_task};
 ghost use Rattle.world_steps.specs.Facts.{about};
-ghost use Rattle.world_steps.specs.Ties.{IsTied};
-ghost use Rattle.world_steps.specs.World.{HasReady, HadReady, KnowsOthers, ready_in};
+ghost use Rattle.world_steps.specs.Ties.{IsTied, goes_on};
+ghost use Rattle.world_steps.specs.World.{HasReady, HadReady, ready_in};
 
+use crate::running::Running;
 use crate::state::State;
 use std::collections::BTreeSet;
 use task_events::{Event, Stop};
@@ -27,13 +32,26 @@ pub(crate) fn task_of(event: &Event) -> Option<TaskId>
     }
 }
 
+/// Whether a kept task does not wait: a marked one waits while an ask of it is unanswered, and for the others their work says.
+fn goes_on(running: &Running) -> bool
+    ensures { (writes : List Doc) → result ≡ goes_on running.now writes }
+{
+    if running.is_new {
+        return true;
+    }
+    match running.track.closed() {
+        Some(_) => running.track.unanswered() == 0,
+        None => !running.work.waits(),
+    }
+}
+
 /// Whether a task is live and does not wait.
 fn acts(state: &State<'_>, task: TaskId) -> bool
     requires tied { IsTied state.now }
     ensures { result ≡ ready_in state.now task }
 {
     match state.tasks.get(&task) {
-        Some(running) => running.is_new || !running.work.waits(),
+        Some(running) => goes_on(running),
         None => false,
     }
 }
@@ -41,8 +59,8 @@ fn acts(state: &State<'_>, task: TaskId) -> bool
 /// Notes whether a task does not wait now.
 fn note(state: &State<'_>, ready: &mut BTreeSet<TaskId>, task: TaskId) -> Result<(), Stop>
     requires tied { IsTied state.now }
-    requires others { KnowsOthers state.now ready.old task }
-    ensures known { OnOk result (HasReady state.now ready.new) }
+    ensures known { OnOk result ((q : TaskId) → contains task_id_cmp ready.new q
+        ≡ (if same_task task q then ready_in state.now q else contains task_id_cmp ready.old q)) }
     ensures memory { IfErr result (λ stop. stop ≡ Stop.Memory) }
 {
     if !acts(state, task) {
@@ -55,18 +73,25 @@ fn note(state: &State<'_>, ready: &mut BTreeSet<TaskId>, task: TaskId) -> Result
     }
 }
 
-/// Notes what the newest event changes: whether the task that it is about waits.
-pub(crate) fn refresh(state: &State<'_>, ready: &mut BTreeSet<TaskId>) -> Result<(), Stop>
+/// Notes what the events from this place on have changed: whether the tasks wait that they are about.
+pub(crate) fn refresh(
+    state: &State<'_>,
+    ready: &mut BTreeSet<TaskId>,
+    before: usize,
+) -> Result<(), Stop>
     requires tied { IsTied state.now }
-    requires had { HadReady state.now ready.old }
+    requires before { before ≤ length state.now.history }
+    requires had { HadReady state.now before ready.old }
     ensures known { OnOk result (HasReady state.now ready.new) }
     ensures memory { IfErr result (λ stop. stop ≡ Stop.Memory) }
 {
-    let Some(event) = state.history.newest() else {
-        return Ok(());
-    };
-    match task_of(event) {
-        Some(task) => note(state, ready, task),
-        None => Ok(()),
+    for at in before..state.history.len() {
+        let Some(event) = state.history.get(at) else {
+            unreachable!()
+        };
+        if let Some(task) = task_of(event) {
+            note(state, ready, task)?;
+        }
     }
+    Ok(())
 }

@@ -1,6 +1,6 @@
 //! Requests reach their nodes.
 
-ghost use Rattle.std.specs.Prelude.{◌≡◌, ◌∷◌, ◌++◌, [], ◌<◌, true, length, remove, slice_get, option_and_then, Err, Some, None, IsSome, IfErr, OnOk, OnErr};
+ghost use Rattle.std.specs.Prelude.{◌≡◌, ◌∷◌, ◌++◌, [], ◌≤◌, true, length, remove, slice_get, option_and_then, Err, Some, None, IsSome, IfErr, OnOk, OnErr};
 ghost use Rattle.task_events.specs.declared.history.TheConstants.{MAX_EVENTS};
 ghost use Rattle.world_steps.specs.Flights.{event_at, request_in, is_request_entry};
 ghost use Rattle.world_steps.specs.Moves.{Delivers, DeliveryLacksNumber};
@@ -54,7 +54,7 @@ fn reject(
     ensures err { OnErr result (history.new ≡ history.old) }
     ensures full { result ≡ Err Stop.HistoryFull → length history.old ≡ MAX_EVENTS }
     ensures numbers { result ≡ Err Stop.NumbersSpent → ⊥ }
-    ensures room { OnOk result (length history.old < MAX_EVENTS) }
+    ensures room { OnOk result (length history.new ≤ MAX_EVENTS) }
 {
     let event = Event::Reject {
         node,
@@ -81,7 +81,7 @@ pub(crate) fn deliver_request(state: &mut State<'_>, nth: usize) -> Result<(), S
     ensures full { result ≡ Err Stop.HistoryFull → length state.old.history ≡ MAX_EVENTS }
     ensures spent { result ≡ Err Stop.NumbersSpent
         → DeliveryLacksNumber state.old.cluster state.old.history nth }
-    ensures room { OnOk result (length state.old.history < MAX_EVENTS) }
+    ensures room { OnOk result (length state.new.history ≤ MAX_EVENTS) }
 {
     let (token, to, at) = take_request(&mut state.flight, nth);
     let (parent, ask) = (token.parent(), token.ask());

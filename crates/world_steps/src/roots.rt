@@ -24,7 +24,7 @@ pub(crate) fn begin(state: &mut State<'_>, command: u32) -> Result<(), Stop>
     ensures err { OnErr result (state.new.history ≡ state.old.history) }
     ensures full { result ≡ Err Stop.HistoryFull → length state.old.history ≡ MAX_EVENTS }
     ensures numbers { result ≡ Err Stop.NumbersSpent → ⊥ }
-    ensures room { OnOk result (length state.old.history < MAX_EVENTS) }
+    ensures room { OnOk result (length state.new.history ≤ MAX_EVENTS) }
 {
     append(&mut state.history, Event::Begin { command })?;
     Ok(())
@@ -53,7 +53,7 @@ pub(crate) fn start(
     ensures full { result ≡ Err Stop.HistoryFull → length state.old.history ≡ MAX_EVENTS }
     ensures spent { result ≡ Err Stop.NumbersSpent
         → NodeLacksNumber state.old.cluster state.old.history node }
-    ensures room { OnOk result (length state.old.history < MAX_EVENTS) }
+    ensures room { OnOk result (length state.new.history ≤ MAX_EVENTS) }
 {
     let Ok(search) = Boxed::new(state.alloc, ask) else {
         return Err(Stop::Memory);
@@ -65,6 +65,9 @@ pub(crate) fn start(
             let task = ticket.id();
             let running = with_work(state.alloc, ticket, &request, &state.cluster, false)?;
             let event = Event::Root { command, task };
+            let Ok(_) = state.roots.insert(command, task) else {
+                return Err(Stop::Memory);
+            };
             keep(&mut state.history, &mut state.tasks, running, event)?;
             Ok(true)
         }

@@ -123,7 +123,7 @@ pub(crate) fn keep(
     ensures err { OnErr result (history.new ≡ history.old) }
     ensures full { result ≡ Err Stop.HistoryFull → length history.old ≡ MAX_EVENTS }
     ensures numbers { result ≡ Err Stop.NumbersSpent → ⊥ }
-    ensures room { OnOk result (length history.old < MAX_EVENTS) }
+    ensures room { OnOk result (length history.new ≤ MAX_EVENTS) }
 {
     let task = running.ticket.id();
     match tasks.insert(task, running) {

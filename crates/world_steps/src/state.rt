@@ -1,9 +1,12 @@
 use crate::flight::Flight;
+use crate::listing::Listing;
 use crate::running::Running;
 use crate::shards::Shards;
+use ban_table::BanTable;
+use cancel_core::CancelCore;
 use script_lang::Script;
 use std::alloc::Global;
-use std::collections::BTreeMap;
+use std::collections::{BTreeMap, BTreeSet};
 use task_events::History;
 use task_ids::{Cluster, Corpus, TaskId};
 use task_table::TaskTable;
@@ -23,4 +26,12 @@ pub(crate) struct State<'a> {
     /// The table of each node, from the first on.
     pub(crate) tables: Vec<TaskTable>,
     pub(crate) flight: Flight,
+    /// The task of each command that started one.
+    pub(crate) roots: BTreeMap<u32, TaskId>,
+    /// The bans that stand on each node, from the first on.
+    pub(crate) bans: Vec<BanTable>,
+    /// The cancellations of each node's tasks, from the first on.
+    pub(crate) cores: Vec<CancelCore>,
+    /// The open listings.
+    pub(crate) listings: BTreeSet<Listing>,
 }

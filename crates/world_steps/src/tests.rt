@@ -6,7 +6,7 @@ ghost use Rattle.std.specs.Prelude.{◌≡◌, ◌≤◌, length, None, IfOk};
 ghost use Rattle.task_events.specs.Cancels.{last_command};
 ghost use Rattle.world_steps.specs.Scripts.{CanRun};
 
-use crate::{Delivered, Stepped, World};
+use crate::{Delivered, ListStep, Stepped, World};
 use script_lang::{Mode, Script, read_script};
 use shard_docs::read_corpus;
 use std::alloc::Global;
@@ -96,7 +96,7 @@ fn world_after<'a>(
     Ok(world)
 }
 
-/// The events of a history, with a comma between each two.
+/// The events of a history, with a comma between each two. Each refusal has the reason `late`.
 fn shown(alloc: Global, history: &History) -> Result<String, Fail> {
     let mut text = String::new(alloc);
     for event in history.as_slice() {
@@ -107,7 +107,7 @@ fn shown(alloc: Global, history: &History) -> Result<String, Fail> {
             Event::Begin { command } => text.push_str(format!(in alloc;
                 "begin {command}"
             )?.as_str())?,
-            other => write_event(other, "", &mut text)?,
+            other => write_event(other, "late", &mut text)?,
         }
     }
     Ok(text)
@@ -281,5 +281,100 @@ fn a_drained_world_rests(rt: HostRuntime) -> Result<(), Fail> {
     assert_eq!(rt; shown(rt.alloc(), world.history())?.as_str(), DRAINED);
     let history = world.finish();
     assert_eq!(rt; shown(rt.alloc(), &history)?.as_str(), DRAINED);
+    Ok(())
+}
+
+/// Both bans stand before the requests come, and their listings find no child.
+const LATE: &str = r#"{"search":{"index":"a"}}
+{"step":"n1:1"}
+{"step":"n1:1"}
+{"cancel":{"task_id":"n1:1","wait_for_completion":true}}
+{"deliver":2}
+{"deliver":2}
+{"list_step":{"node":"n1","parent":"n1:1"}}
+{"list_step":{"node":"n2","parent":"n1:1"}}
+{"settle":true}"#;
+
+/// The children are refused, and the cancel that waits is answered after the search has ended.
+const LATE_REFUSED: &str = "begin 1, root 1 n1:1, begin 2, ask n1:1 1 n1, begin 3, ask n1:1 2 n2, \
+    begin 4, cancel 4 n1:1 wait, mark n1:1 4, begin 5, ban n1 n1:1 4, begin 6, ban n2 n1:1 4, \
+    begin 7, listed n1 n1:1, begin 8, listed n2 n1:1, \
+    begin 9, put n1:2 n1:1 1, put n2:1 n1:1 2, acked n1:1 n1, acked n1:1 n2, \
+    refuse n1:2 4 late, answered n1:1 1, refuse n2:1 4 late, answered n1:1 2, \
+    end n1:1 cancelled 4, complete 4, unban n1 n1:1, unban n2 n1:1";
+
+/// A child has passed before the cancel, and another is put before the ban. A second cancel joins, and a third comes too late.
+const EARLY: &str = r#"{"search":{"index":"a"}}
+{"step":"n1:1"}
+{"step":"n1:1"}
+{"deliver":1}
+{"step":"n2:1"}
+{"cancel":{"command":1}}
+{"cancel":{"task_id":"n1:1","wait_for_completion":true}}
+{"settle":true}
+{"cancel":{"command":1}}"#;
+
+/// The listings mark both children. The one that has passed ends as cancelled, and the other is refused.
+const EARLY_MARKED: &str = "begin 1, root 1 n1:1, begin 2, ask n1:1 1 n1, begin 3, ask n1:1 2 n2, \
+    begin 4, put n2:1 n1:1 2, begin 5, pass n2:1, begin 6, cancel 6 n1:1, mark n1:1 6, \
+    begin 7, cancel 7 n1:1 wait, \
+    begin 8, put n1:2 n1:1 1, ban n1 n1:1 6, ban n2 n1:1 6, \
+    mark n1:2 6, listed n1 n1:1, acked n1:1 n1, mark n2:1 6, listed n2 n1:1, acked n1:1 n2, placed 6, \
+    refuse n1:2 6 late, answered n1:1 1, end n2:1 cancelled 6, answered n1:1 2, \
+    end n1:1 cancelled 6, complete 7, unban n1 n1:1, unban n2 n1:1, begin 9, not-found 9";
+
+/// Of a search one child is cancelled, which has asked nobody.
+const CHILD: &str = r#"{"search":{"index":"a"}}
+{"step":"n1:1"}
+{"step":"n1:1"}
+{"deliver":0}
+{"cancel":{"task_id":"n1:2"}}
+{"settle":true}"#;
+
+/// The search goes on with the other shard.
+const CHILD_CANCELLED: &str =
+    "begin 1, root 1 n1:1, begin 2, ask n1:1 1 n1, begin 3, ask n1:1 2 n2, \
+    begin 4, put n1:2 n1:1 1, begin 5, cancel 5 n1:2, mark n1:2 5, placed 5, \
+    begin 6, put n2:1 n1:1 2, pass n1:2, end n1:2 cancelled 5, answered n1:1 1, \
+    pass n2:1, work n2:1, end n2:1 done, answered n1:1 2, \
+    ask n1:1 3 n2, put n2:2 n1:1 3, pass n2:2, work n2:2, end n2:2 done, answered n1:1 3, \
+    end n1:1 done";
+
+#[test]
+fn cancels_are_answered(rt: HostRuntime) -> Result<(), Fail> {
+    let scripts = [
+        (LATE, LATE_REFUSED),
+        (EARLY, EARLY_MARKED),
+        (CHILD, CHILD_CANCELLED),
+    ];
+    for (text, wanted) in scripts {
+        assert_eq!(rt; events(rt.alloc(), TWO, text)?.as_str(), wanted);
+    }
+    Ok(())
+}
+
+/// The ban stands on the second node, where a child runs. It has not come to the first.
+const BANNED: &str = r#"{"search":{"index":"a"}}
+{"step":"n1:1"}
+{"step":"n1:1"}
+{"deliver":1}
+{"cancel":{"command":1}}
+{"deliver":2}"#;
+
+const LISTED: &str = "begin 1, root 1 n1:1, begin 2, ask n1:1 1 n1, begin 3, ask n1:1 2 n2, \
+    begin 4, put n2:1 n1:1 2, begin 5, cancel 5 n1:1, mark n1:1 5, begin 6, ban n2 n1:1 5, \
+    mark n2:1 5, listed n2 n1:1";
+
+#[test]
+fn a_listing_goes_on_until_all_are_marked(rt: HostRuntime) -> Result<(), Fail> {
+    let corpus = corpus(rt.alloc())?;
+    let script = script(rt.alloc(), &TWO, BANNED)?;
+    let mut world = world_after(rt.alloc(), TWO, &corpus, &script)?;
+    assert_eq!(rt; world.list_step(1, ROOT)?, ListStep::NoListing);
+    assert_eq!(rt; world.list_step(2, ROOT)?, ListStep::Done);
+    assert_eq!(rt; world.list_step(2, ROOT)?, ListStep::Done);
+    assert_eq!(rt; world.list_step(2, ROOT)?, ListStep::NoListing);
+    assert_eq!(rt; left(&mut world)?, 3);
+    assert_eq!(rt; shown(rt.alloc(), world.history())?.as_str(), LISTED);
     Ok(())
 }

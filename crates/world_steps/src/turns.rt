@@ -1,7 +1,8 @@
 //! A turn of work of a live task.
 
-ghost use Rattle.std.specs.Prelude.{◌≡◌, ◌∷◌, ◌<◌, true, false, length, Err, OnOk, OnErr};
+ghost use Rattle.std.specs.Prelude.{◌≡◌, ◌∷◌, ◌≤◌, true, false, length, Err, None, OnOk, OnErr};
 ghost use Rattle.task_events.specs.declared.history.TheConstants.{MAX_EVENTS};
+ghost use Rattle.task_events.specs.Bans.{mark_of};
 ghost use Rattle.task_events.specs.Tasks.{is_live, is_new};
 ghost use Rattle.world_steps.specs.Ties.{IsTied, Keeps, HasShards, DoesNext, task_at, looked_at};
 
@@ -36,11 +37,12 @@ pub(crate) fn turn(state: &mut State<'_>, task: TaskId) -> Result<(), Stop>
     requires shards { HasShards state.old }
     requires live { is_live task state.old.history ≡ true }
     requires passed { is_new task state.old.history ≡ false }
+    requires unmarked { mark_of task state.old.history ≡ None }
     requires next { DoesNext (task_at state.old.tasks task) Do.Turn }
     ensures happened { OnOk result (state.new.history ≡ Event.Work task ∷ state.old.history) }
     ensures tied { OnOk result (IsTied state.new) }
     ensures keeps { Keeps state.old state.new }
-    ensures room { OnOk result (length state.old.history < MAX_EVENTS) }
+    ensures room { OnOk result (length state.new.history ≤ MAX_EVENTS) }
     ensures err { OnErr result (state.new.history ≡ state.old.history) }
     ensures full { result ≡ Err Stop.HistoryFull → length state.old.history ≡ MAX_EVENTS }
     ensures numbers { result ≡ Err Stop.NumbersSpent → ⊥ }

@@ -4,17 +4,23 @@ ghost use Rattle.task_events.specs.Cancels.{last_command};
 ghost use Rattle.task_events.specs.Laws.{IsDrained};
 ghost use Rattle.task_events.specs.Messages.{in_flight};
 ghost use Rattle.task_events.specs.Tasks.{is_live};
-ghost use Rattle.world_steps.specs.Moves.{Delivers, StopsDelivery, StopsStep};
+ghost use Rattle.world_steps.specs.Cancels.{AllAnswered};
+ghost use Rattle.world_steps.specs.Listings.{ListSteps, AnswersListing};
+ghost use Rattle.world_steps.specs.Moves.{Delivers, IsPartly, StopsDelivery, StopsMove};
 ghost use Rattle.world_steps.specs.Plain.{AnswersPlainly};
 ghost use Rattle.world_steps.specs.Runs.{Steps, AnswersStep, Settles, PartlySettles};
 ghost use Rattle.world_steps.specs.Scripts.{CanRun, Commands, PartlyCommands, Drains, PartlyDrains, IsTurn, closing, StopsRun};
-ghost use Rattle.world_steps.specs.World.{IsPartly, tables_from};
+ghost use Rattle.world_steps.specs.World.{tables_from, cores_from, no_bans};
 
 use crate::acting::Stepped;
 use crate::flight::Flight;
+use crate::listing::Listing;
+use crate::listings::ListStep;
 use crate::shards::Shards;
 use crate::state::State;
 use crate::{commands, moving};
+use ban_table::BanTable;
+use cancel_core::CancelCore;
 use script_lang::Script;
 use std::alloc::{AllocError, Global};
 use std::collections::{BTreeMap, BTreeSet};
@@ -68,6 +74,29 @@ fn new_tables(alloc: Global, cluster: &Cluster) -> Result<Vec<TaskTable>, AllocE
     Ok(tables)
 }
 
+/// The core of each node, in which nothing is cancelled yet.
+fn new_cores(alloc: Global, nodes: u32) -> Result<Vec<CancelCore>, AllocError>
+    requires { nodes ≤ 15 }
+    ensures { IfOk result (λ cores. cores.items ≡ cores_from 0 nodes) }
+{
+    let mut cores = Vec::with_capacity(alloc, nodes as usize)?;
+    for place in 0..nodes {
+        cores.push(CancelCore::new(alloc, place + 1))?;
+    }
+    Ok(cores)
+}
+
+/// The ban table of each node, in which no ban stands yet.
+fn new_bans(alloc: Global, nodes: u32) -> Result<Vec<BanTable>, AllocError>
+    ensures { IfOk result (λ bans. bans.items ≡ no_bans nodes) }
+{
+    let mut bans = Vec::with_capacity(alloc, nodes as usize)?;
+    for place in 0..nodes {
+        bans.push(BanTable::new(alloc))?;
+    }
+    Ok(bans)
+}
+
 impl<'a> World<'a> {
     /// A world in which nothing has happened yet. It copies the documents into their shards, and reads the script where
     /// it stands. It fails only for want of memory.
@@ -77,11 +106,14 @@ impl<'a> World<'a> {
         corpus: &'a Corpus,
         script: &'a Script,
     ) -> Result<World<'a>, AllocError>
-        requires { CanRun cluster.nodes script.now.commands }
+        requires can { CanRun cluster.nodes script.now.commands }
+        requires few { length script.now.commands ≤ 65535 }
         ensures { IfOk result (λ world. world ≡ record { cluster = cluster; corpus = corpus.now; script = script.now; past = []; stopped = None }) }
     {
         let shards = Shards::new(alloc, corpus, cluster.shards)?;
         let tables = new_tables(alloc, &cluster)?;
+        let bans = new_bans(alloc, cluster.nodes)?;
+        let cores = new_cores(alloc, cluster.nodes)?;
         let state = State {
             alloc,
             cluster,
@@ -92,6 +124,10 @@ impl<'a> World<'a> {
             tasks: BTreeMap::new(alloc),
             tables,
             flight: Flight::new(alloc),
+            roots: BTreeMap::new(alloc),
+            bans,
+            cores,
+            listings: BTreeSet::new(alloc),
         };
         Ok(World {
             state,
@@ -137,7 +173,8 @@ impl<'a> World<'a> {
     /// Begins a command of the script, the next in order, and does what it says. Commands are numbered from 1.
     ///
     /// A search starts at its node, or is rejected there, where its body has no fault and some document is of its index;
-    /// a `deliver`, a `step` and a `settle` make their moves where there are such; `history` makes none.
+    /// a cancel names and marks its task where it is live; a `deliver`, a `step`, a `list_step` and a `settle` make their
+    /// moves where there are such; `history` makes none.
     ///
     /// Once it has come to an early end, the world answers that for ever and keeps its past, which is that of a first part
     /// of the command.
@@ -148,7 +185,7 @@ impl<'a> World<'a> {
         ensures turn { OnOk result (IsTurn k self.old.past self.new.past) }
         ensures number { OnOk result (last_command self.new.past ≡ k) }
         ensures goes_on { OnOk result (self.new.stopped ≡ None) }
-        ensures err { OnErr result (PartlyCommands self.old.cluster self.old.corpus self.old.script k self.old.past self.new.past) }
+        ensures part { OnErr result (PartlyCommands self.old.cluster self.old.corpus self.old.script k self.old.past self.new.past) }
         ensures stop { IfErr result (λ stop. self.new.stopped ≡ Some stop) }
         ensures stopped { IfSome self.old.stopped (λ stop. (result ≡ Err stop) × (self.new.past ≡ self.old.past)) }
         ensures cause { IfErr result (λ stop. self.old.stopped ≡ None → StopsRun self.old.cluster self.new.past stop) }
@@ -166,16 +203,18 @@ impl<'a> World<'a> {
         }
     }
 
-    /// Settles once all commands have begun, which is the last that happens. Nothing is live or in flight after that.
+    /// Settles once all commands have begun, which is the last that happens. Nothing is live, in flight or listed after that,
+    /// and every cancel has its answer.
     ///
     /// Once it has come to an early end, the world answers that for ever and keeps its past.
     pub fn drain(&mut self) -> Result<(), Stop>
         requires last { last_command self.old.past ≡ length self.old.script.commands }
-        requires few { length self.old.script.commands ≤ 65535 }
         ensures drained { OnOk result (Drains self.old.cluster self.old.corpus self.old.script self.old.past self.new.past) }
+        ensures goes_on { OnOk result (self.new.stopped ≡ None) }
         ensures over { OnOk result (IsDrained self.new.past) }
+        ensures answered { OnOk result (AllAnswered self.new.past) }
         ensures turn { OnOk result (IsTurn (closing self.old.script) self.old.past self.new.past) }
-        ensures err { OnErr result (PartlyDrains self.old.cluster self.old.corpus self.old.script self.old.past self.new.past) }
+        ensures part { OnErr result (PartlyDrains self.old.cluster self.old.corpus self.old.script self.old.past self.new.past) }
         ensures stop { IfErr result (λ stop. self.new.stopped ≡ Some stop) }
         ensures stopped { IfSome self.old.stopped (λ stop. (result ≡ Err stop) × (self.new.past ≡ self.old.past)) }
         ensures cause { IfErr result (λ stop. self.old.stopped ≡ None → StopsRun self.old.cluster self.new.past stop) }
@@ -197,12 +236,13 @@ impl<'a> World<'a> {
     ///
     /// Once it has come to an early end, the world answers that for ever and keeps its past.
     pub fn deliver(&mut self, nth: u64) -> Result<Delivered, Stop>
+        ensures goes_on { OnOk result (self.new.stopped ≡ None) }
         ensures done { result ≡ Ok Delivered.Done → Delivers self.old.cluster self.old.past nth self.new.past }
         ensures no_such { (n : ℕ) → result ≡ Ok (Delivered.NoSuch n) → (n ≡ length (in_flight self.old.past)) × (n ≤ nth) × (self.new.past ≡ self.old.past) }
-        ensures err { OnErr result (IsPartly (λ h new. Delivers self.old.cluster h nth new) self.old.past self.new.past) }
+        ensures part { OnErr result (IsPartly (λ h new. Delivers self.old.cluster h nth new) self.old.past self.new.past) }
         ensures stop { IfErr result (λ stop. self.new.stopped ≡ Some stop) }
         ensures stopped { IfSome self.old.stopped (λ stop. (result ≡ Err stop) × (self.new.past ≡ self.old.past)) }
-        ensures cause { IfErr result (λ stop. self.old.stopped ≡ None → StopsDelivery self.old.cluster self.old.past nth stop) }
+        ensures cause { IfErr result (λ stop. self.old.stopped ≡ None → StopsDelivery self.old.cluster self.old.past nth self.new.past stop) }
         ensures keeps { self.new ≡ record self.old { past = self.new.past; stopped = self.new.stopped } }
     {
         if let Some(stop) = self.stopped {
@@ -225,11 +265,12 @@ impl<'a> World<'a> {
     ///
     /// Once it has come to an early end, the world answers that for ever and keeps its past.
     pub fn step(&mut self, task: TaskId) -> Result<Stepped, Stop>
+        ensures goes_on { OnOk result (self.new.stopped ≡ None) }
         ensures stepped { IfOk result (λ stepped. AnswersStep self.old.cluster self.old.corpus self.old.script task self.old.past stepped self.new.past) }
-        ensures err { OnErr result (IsPartly (λ h new. Steps self.old.cluster self.old.corpus self.old.script task h new) self.old.past self.new.past) }
+        ensures part { OnErr result (IsPartly (Steps self.old.cluster self.old.corpus self.old.script task) self.old.past self.new.past) }
         ensures stop { IfErr result (λ stop. self.new.stopped ≡ Some stop) }
         ensures stopped { IfSome self.old.stopped (λ stop. (result ≡ Err stop) × (self.new.past ≡ self.old.past)) }
-        ensures cause { IfErr result (λ stop. self.old.stopped ≡ None → StopsStep self.old.past stop) }
+        ensures cause { IfErr result (λ stop. self.old.stopped ≡ None → StopsMove self.new.past stop) }
         ensures keeps { self.new ≡ record self.old { past = self.new.past; stopped = self.new.stopped } }
     {
         if let Some(stop) = self.stopped {
@@ -244,16 +285,45 @@ impl<'a> World<'a> {
         }
     }
 
-    /// Makes first moves for as long as there are any: the oldest message is delivered, or where none is in flight the
-    /// lowest task that does not wait makes its step.
+    /// The listing of a task's children on a node makes its next step: the lowest live child without a mark is marked, or
+    /// where there is none the listing ends.
+    ///
+    /// Once it has come to an early end, the world answers that for ever and keeps its past.
+    pub fn list_step(&mut self, node: u32, parent: TaskId) -> Result<ListStep, Stop>
+        ensures stepped { IfOk result (λ stepped. AnswersListing (record { node = node; parent = parent }) self.old.past stepped self.new.past) }
+        ensures goes_on { OnOk result (self.new.stopped ≡ None) }
+        ensures part { OnErr result (IsPartly (ListSteps (record { node = node; parent = parent })) self.old.past self.new.past) }
+        ensures stop { IfErr result (λ stop. self.new.stopped ≡ Some stop) }
+        ensures stopped { IfSome self.old.stopped (λ stop. (result ≡ Err stop) × (self.new.past ≡ self.old.past)) }
+        ensures cause { IfErr result (λ stop. self.old.stopped ≡ None → StopsMove self.new.past stop) }
+        ensures keeps { self.new ≡ record self.old { past = self.new.past; stopped = self.new.stopped } }
+    {
+        if let Some(stop) = self.stopped {
+            return Err(stop);
+        }
+        let listing = Listing { node, parent };
+        match moving::list_there(&mut self.state, &mut self.ready, listing) {
+            Ok(stepped) => Ok(stepped),
+            Err(stop) => {
+                self.stopped = Some(stop);
+                Err(stop)
+            }
+        }
+    }
+
+    /// Makes first moves for as long as there are any: the oldest message is delivered; where none is in flight the first
+    /// open listing makes a step; where there is none either, the lowest task that does not wait. No task waits for a moment,
+    /// so nothing is live, in flight or listed after that.
     ///
     /// Once it has come to an early end, the world answers that for ever and keeps its past.
     pub fn settle(&mut self) -> Result<(), Stop>
+        ensures goes_on { OnOk result (self.new.stopped ≡ None) }
         ensures settled { OnOk result (Settles self.old.cluster self.old.corpus self.old.script self.old.past self.new.past) }
-        ensures err { OnErr result (PartlySettles self.old.cluster self.old.corpus self.old.script self.old.past self.new.past) }
+        ensures over { OnOk result (IsDrained self.new.past) }
+        ensures part { OnErr result (PartlySettles self.old.cluster self.old.corpus self.old.script self.old.past self.new.past) }
         ensures stop { IfErr result (λ stop. self.new.stopped ≡ Some stop) }
         ensures stopped { IfSome self.old.stopped (λ stop. (result ≡ Err stop) × (self.new.past ≡ self.old.past)) }
-        ensures cause { IfErr result (λ stop. self.old.stopped ≡ None → StopsDelivery self.old.cluster self.new.past 0 stop) }
+        ensures cause { IfErr result (λ stop. self.old.stopped ≡ None → StopsRun self.old.cluster self.new.past stop) }
         ensures keeps { self.new ≡ record self.old { past = self.new.past; stopped = self.new.stopped } }
     {
         if let Some(stop) = self.stopped {

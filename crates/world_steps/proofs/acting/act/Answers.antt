@@ -1,33 +1,70 @@
 use Rattle.std.proofs.Common.{◌∙◌, refl, ap, sym}
 use Rattle.std.specs.Option.{option_copied}
+use Rattle.child_track.specs.Track.{unanswered}
+use Rattle.std.specs.Prelude.{nat_lt}
+use Rattle.world_steps.specs.Facts.{awaited_by}
+use Rattle.world_steps.proofs.Answered.{tells_some}
 use Rattle.world_steps.proofs.StepsAfter.{runs_of, gone_of}
 use Rattle.world_steps.proofs.acting.act.Goals as goal
 
 pub returns-in_default-clause-stepped : goal.returns-in_default-clause-stepped
 returns-in_default-clause-stepped c =
     let s = c.args.state.now in
-    (gone_of s.cluster s.corpus.now s.script.now s.history _ _ _ c.requires.tied c.args.task (sym c.get.ensures.value ∙ ap option_copied c.in_default.is), refl)
+    (gone_of s.cluster s.corpus.now s.script.now s.history _ _ _ c.requires.tied.ties c.args.task (sym c.get.ensures.value ∙ ap option_copied c.in_default.is), refl)
 
-pub pass-requires-clause-live : goal.pass-requires-clause-live
-pass-requires-clause-live c =
+pub first_step-requires-clause-live : goal.first_step-requires-clause-live
+first_step-requires-clause-live c =
     let s = c.args.state.now in
     let kept = sym c.get.ensures.value ∙ ap option_copied c.in-Some.is in
-    (runs_of s.cluster s.corpus.now s.script.now s.history _ _ _ c.requires.tied c.args.task c.in-Some.running.now kept).live
+    (runs_of s.cluster s.corpus.now s.script.now s.history _ _ _ c.requires.tied.ties c.args.task c.in-Some.running.now kept).live
 
-pub pass-requires-clause-first : goal.pass-requires-clause-first
-pass-requires-clause-first c =
+pub first_step-requires-clause-first : goal.first_step-requires-clause-first
+first_step-requires-clause-first c =
     let s = c.args.state.now in
     let kept = sym c.get.ensures.value ∙ ap option_copied c.in-Some.is in
-    sym (runs_of s.cluster s.corpus.now s.script.now s.history _ _ _ c.requires.tied c.args.task c.in-Some.running.now kept).new ∙ c.if-running.true
+    sym (runs_of s.cluster s.corpus.now s.script.now s.history _ _ _ c.requires.tied.ties c.args.task c.in-Some.running.now kept).new ∙ c.if-running.true
+
+pub leave_or_wait-requires-clause-live : goal.leave_or_wait-requires-clause-live
+leave_or_wait-requires-clause-live c =
+    let s = c.args.state.now in
+    let kept = sym c.get.ensures.value ∙ ap option_copied c.in-Some.is in
+    (runs_of s.cluster s.corpus.now s.script.now s.history _ _ _ c.requires.tied.ties c.args.task c.in-Some.running.now kept).live
+
+pub leave_or_wait-requires-clause-passed : goal.leave_or_wait-requires-clause-passed
+leave_or_wait-requires-clause-passed c =
+    let s = c.args.state.now in
+    let kept = sym c.get.ensures.value ∙ ap option_copied c.in-Some.is in
+    sym (runs_of s.cluster s.corpus.now s.script.now s.history _ _ _ c.requires.tied.ties c.args.task c.in-Some.running.now kept).new ∙ c.if-running.false
+
+pub leave_or_wait-requires-clause-marked : goal.leave_or_wait-requires-clause-marked
+leave_or_wait-requires-clause-marked c =
+    let s = c.args.state.now in
+    let kept = sym c.get.ensures.value ∙ ap option_copied c.in-Some.is in
+    let runs = runs_of s.cluster s.corpus.now s.script.now s.history _ _ _ c.requires.tied.ties c.args.task c.in-Some.running.now kept in
+    ap (λ track. track.closed) (sym runs.track) ∙ sym c.closed.ensures.number ∙ c.in-Some-closed.is
+
+pub leave_or_wait-requires-clause-waits : goal.leave_or_wait-requires-clause-waits
+leave_or_wait-requires-clause-waits c =
+    let s = c.args.state.now in
+    let kept = sym c.get.ensures.value ∙ ap option_copied c.in-Some.is in
+    let runs = runs_of s.cluster s.corpus.now s.script.now s.history _ _ _ c.requires.tied.ties c.args.task c.in-Some.running.now kept in
+    ap (λ n. nat_lt 0 n) (c.unanswered-waits.ensures ∙ ap unanswered runs.track) ∙ tells_some (awaited_by c.args.task s.history)
 
 pub work_on-requires-clause-live : goal.work_on-requires-clause-live
 work_on-requires-clause-live c =
     let s = c.args.state.now in
     let kept = sym c.get.ensures.value ∙ ap option_copied c.in-Some.is in
-    (runs_of s.cluster s.corpus.now s.script.now s.history _ _ _ c.requires.tied c.args.task c.in-Some.running.now kept).live
+    (runs_of s.cluster s.corpus.now s.script.now s.history _ _ _ c.requires.tied.ties c.args.task c.in-Some.running.now kept).live
 
 pub work_on-requires-clause-passed : goal.work_on-requires-clause-passed
 work_on-requires-clause-passed c =
     let s = c.args.state.now in
     let kept = sym c.get.ensures.value ∙ ap option_copied c.in-Some.is in
-    sym (runs_of s.cluster s.corpus.now s.script.now s.history _ _ _ c.requires.tied c.args.task c.in-Some.running.now kept).new ∙ c.if-running.false
+    sym (runs_of s.cluster s.corpus.now s.script.now s.history _ _ _ c.requires.tied.ties c.args.task c.in-Some.running.now kept).new ∙ c.if-running.false
+
+pub work_on-requires-clause-unmarked : goal.work_on-requires-clause-unmarked
+work_on-requires-clause-unmarked c =
+    let s = c.args.state.now in
+    let kept = sym c.get.ensures.value ∙ ap option_copied c.in-Some.is in
+    let runs = runs_of s.cluster s.corpus.now s.script.now s.history _ _ _ c.requires.tied.ties c.args.task c.in-Some.running.now kept in
+    ap (λ track. track.closed) (sym runs.track) ∙ sym c.closed.ensures.number ∙ c.in_default-closed.is

@@ -1,6 +1,8 @@
-use Rattle.std.proofs.Common.{refl, subst}
+use Rattle.std.proofs.Common.{◌∷◌, ◌∙◌, refl, sym, subst}
+use Rattle.task_events.specs.declared.event.Event.TheVariants.{End}
 use Rattle.task_events.specs.declared.step.Do.TheVariants.{AskNext, Turn, Wait, Finish}
 use Rattle.world_steps.specs.Ties.{DoesNext, task_at}
+use Rattle.world_steps.proofs.NoneDue.{none_due}
 use Rattle.world_steps.proofs.Plans.{does}
 use Rattle.world_steps.proofs.acting.work_on.Goals as goal
 
@@ -8,22 +10,26 @@ pub returns-in-Wait-clause-stepped : goal.returns-in-Wait-clause-stepped
 returns-in-Wait-clause-stepped c =
     let s = c.args.state.now in
     let next = subst (DoesNext (task_at s.tasks c.args.task)) c.in-Wait.is c.requires.next in
-    (c.requires.live, does s.cluster s.corpus.now s.script.now s.history _ _ _ c.requires.tied c.args.task c.requires.live c.requires.passed (Wait c.in-Wait.field-0) next, refl)
+    (c.requires.live, does s.cluster s.corpus.now s.script.now s.history _ _ _ c.requires.tied.ties c.args.task c.requires.live c.requires.passed c.requires.unmarked (Wait c.in-Wait.field-0) next, refl)
 
 pub returns-in_ok-ask-in-AskNext-clause-stepped : goal.returns-in_ok-ask-in-AskNext-clause-stepped
 returns-in_ok-ask-in-AskNext-clause-stepped c =
     let s = c.args.state.now in
     let next = subst (DoesNext (task_at s.tasks c.args.task)) c.in-AskNext.is c.requires.next in
-    (_, c.requires.live, does s.cluster s.corpus.now s.script.now s.history _ _ _ c.requires.tied c.args.task c.requires.live c.requires.passed (AskNext c.in-AskNext.request) next, c.in_ok-ask-in-AskNext.ensures.happened)
+    (_, c.requires.live, does s.cluster s.corpus.now s.script.now s.history _ _ _ c.requires.tied.ties c.args.task c.requires.live c.requires.passed c.requires.unmarked (AskNext c.in-AskNext.request) next, c.in_ok-ask-in-AskNext.ensures.happened)
 
 pub returns-in_ok-turn-in-Turn-clause-stepped : goal.returns-in_ok-turn-in-Turn-clause-stepped
 returns-in_ok-turn-in-Turn-clause-stepped c =
     let s = c.args.state.now in
     let next = subst (DoesNext (task_at s.tasks c.args.task)) c.in-Turn.is c.requires.next in
-    (_, c.requires.live, does s.cluster s.corpus.now s.script.now s.history _ _ _ c.requires.tied c.args.task c.requires.live c.requires.passed Turn next, c.in_ok-turn-in-Turn.ensures.happened)
+    (_, c.requires.live, does s.cluster s.corpus.now s.script.now s.history _ _ _ c.requires.tied.ties c.args.task c.requires.live c.requires.passed c.requires.unmarked Turn next, c.in_ok-turn-in-Turn.ensures.happened)
 
 pub returns-in_ok-finish-in-Finish-clause-stepped : goal.returns-in_ok-finish-in-Finish-clause-stepped
 returns-in_ok-finish-in-Finish-clause-stepped c =
     let s = c.args.state.now in
-    let next = subst (DoesNext (task_at s.tasks c.args.task)) c.in-Finish.is c.requires.next in
-    (_, c.requires.live, does s.cluster s.corpus.now s.script.now s.history _ _ _ c.requires.tied c.args.task c.requires.live c.requires.passed (Finish c.in-Finish.reply) next, c.in_ok-finish-in-Finish.ensures.happened)
+    let next = subst (DoesNext (task_at s.tasks c.args.task)) c.in-Finish.is c.requires.next in (
+      _,
+      c.requires.live,
+      does s.cluster s.corpus.now s.script.now s.history _ _ _ c.requires.tied.ties c.args.task c.requires.live c.requires.passed c.requires.unmarked (Finish c.in-Finish.reply) next,
+      c.in_ok-finish-in-Finish.ensures.happened ∙ sym (none_due c.args.task (End c.args.task c.in-Finish.reply ∷ s.history) c.requires.unmarked),
+    )

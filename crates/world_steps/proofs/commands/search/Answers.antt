@@ -1,6 +1,9 @@
-use Rattle.std.proofs.Common.{◌∙◌, ap, sym, inr}
+use Rattle.std.proofs.Common.{◌∙◌, ap, sym}
 use Rattle.world_steps.specs.Stored.{has_index}
+use Rattle.world_steps.specs.Scripts.{can_start, StartsWhere}
 use Rattle.world_steps.proofs.Commanded.{unknown_index, comes}
+use Rattle.world_steps.proofs.HadBefore.{had_ready, not_past, wholly}
+use Rattle.world_steps.proofs.Turning.{started_there}
 use Rattle.world_steps.proofs.commands.search.Goals as goal
 
 pub returns-then-not-has-clause-done : goal.returns-then-not-has-clause-done
@@ -9,6 +12,16 @@ returns-then-not-has-clause-done c =
     let same = ap (λ x. has_index x.corpus.lines c.args.index.now) c.requires.shards.shards_are in
     unknown_index s.cluster s.corpus.now c.args.index.now c.args.body.now c.args.number c.args.node s.history (sym same ∙ sym (ap (has_index s.shards.corpus.lines) c.as_str.ensures) ∙ sym c.if-not-has.ensures)
 
+pub refresh-requires-clause-before : goal.refresh-requires-clause-before
+refresh-requires-clause-before c =
+    let s = c.args.state.now in
+    not_past s.history c.start.new.state.history c.len-before.result c.len-before.ensures (started_there s.cluster s.history c.args.number c.args.node c.in_ok-start.field-0 c.start.new.state.history c.in_ok-start.ensures.started)
+
+pub refresh-requires-clause-had : goal.refresh-requires-clause-had
+refresh-requires-clause-had c =
+    let s = c.args.state.now in
+    had_ready s c.start.new.state c.args.ready.now c.len-before.result c.len-before.ensures c.requires.known c.in_ok-start.ensures.keeps (started_there s.cluster s.history c.args.number c.args.node c.in_ok-start.field-0 c.start.new.state.history c.in_ok-start.ensures.started)
+
 pub returns-in-Ok-clause-done : goal.returns-in-Ok-clause-done
 returns-in-Ok-clause-done c =
     let s = c.args.state.now in
@@ -16,9 +29,11 @@ returns-in-Ok-clause-done c =
     comes s.cluster s.corpus.now c.args.index.now c.args.body.now c.args.number c.args.node c.in-Some.body s.history c.start.new.state.history
     (sym c.in_ok-body.ensures.body ∙ c.in-Some.is) (sym same ∙ sym (ap (has_index s.shards.corpus.lines) c.as_str.ensures) ∙ sym c.if-not-has.ensures) c.in_ok-start.field-0 c.in_ok-start.ensures.started
 
-pub returns-in-Err-clause-err : goal.returns-in-Err-clause-err
-returns-in-Err-clause-err c =
+pub returns-in-Err-clause-part : goal.returns-in-Err-clause-part
+returns-in-Err-clause-part c =
     let s = c.args.state.now in
     let same = ap (λ x. has_index x.corpus.lines c.args.index.now) c.requires.shards.shards_are in
-    inr (comes s.cluster s.corpus.now c.args.index.now c.args.body.now c.args.number c.args.node c.in-Some.body s.history c.start.new.state.history
+    wholly (StartsWhere s.cluster (can_start s.corpus.now c.args.index.now c.args.body.now) c.args.number c.args.node) s.history c.start.new.state.history
+    (comes s.cluster s.corpus.now c.args.index.now c.args.body.now c.args.number c.args.node c.in-Some.body s.history c.start.new.state.history
     (sym c.in_ok-body.ensures.body ∙ c.in-Some.is) (sym same ∙ sym (ap (has_index s.shards.corpus.lines) c.as_str.ensures) ∙ sym c.if-not-has.ensures) c.in_ok-start.field-0 c.in_ok-start.ensures.started)
+    (started_there s.cluster s.history c.args.number c.args.node c.in_ok-start.field-0 c.start.new.state.history c.in_ok-start.ensures.started)

@@ -1,17 +1,32 @@
-use Rattle.std.proofs.Common.{Ok, ap, length}
+use Rattle.std.proofs.Common.{Ok, ap, sym, length, subst}
 use Rattle.task_events.specs.declared.history.TheConstants.{MAX_EVENTS}
-use Rattle.world_steps.proofs.Passing.{less_left, one_longer, settled_on, partly_on}
+use Rattle.task_events.specs.Laws.{IsDrained}
+use Rattle.world_steps.proofs.Resting.{drained}
+use Rattle.world_steps.proofs.Passing.{less_left, move_longer, settled_on, partly_on}
+use Rattle.world_steps.specs.Scripts.{StopsRun}
+use Rattle.world_steps.proofs.Commanded.{delivery_stops}
 use Rattle.world_steps.proofs.moving.settle.Goals as goal
 
 pub loop-stop-smaller : goal.loop-stop-smaller
 loop-stop-smaller c =
     let s = c.loop-stop.state in
-    less_left MAX_EVENTS (length s.history) (length c.move_first.new.state.history) (c.in-Ok-true.ensures.room (ap Ok c.in-Ok-true.field-0-test)) (one_longer s.cluster s.corpus.now s.script.now s.history c.move_first.new.state.history (c.in-Ok-true.ensures.moved (ap Ok c.in-Ok-true.field-0-test)))
+    less_left MAX_EVENTS (length s.history) (length c.move_first.new.state.history) (c.in-Ok-true.ensures.room (ap Ok c.in-Ok-true.field-0-test)) (move_longer s.cluster s.corpus.now s.script.now s.history c.move_first.new.state.history (c.in-Ok-true.ensures.moved (ap Ok c.in-Ok-true.field-0-test)))
 
 pub loop-stop-preserved : goal.loop-stop-preserved
 loop-stop-preserved c =
     settled_on c.args.state.now c.loop-stop.state c.move_first.new.state c.loop-stop.ready c.move_first.new.ready c.loop-stop.invariant c.in-Ok-true.ensures.tied c.in-Ok-true.ensures.known c.in-Ok-true.ensures.keeps (c.in-Ok-true.ensures.moved (ap Ok c.in-Ok-true.field-0-test))
 
-pub returns-in-Err-clause-err : goal.returns-in-Err-clause-err
-returns-in-Err-clause-err c =
-    partly_on c.args.state.now c.loop-stop.state c.move_first.new.state c.loop-stop.ready c.loop-stop.invariant c.in-Err.ensures.err
+pub returns-in-Err-clause-part : goal.returns-in-Err-clause-part
+returns-in-Err-clause-part c =
+    partly_on c.args.state.now c.loop-stop.state c.move_first.new.state c.loop-stop.ready c.loop-stop.invariant c.in-Err.ensures.part
+
+pub returns-in-Err-clause-stop : goal.returns-in-Err-clause-stop
+returns-in-Err-clause-stop c =
+    let s = c.loop-stop.state in
+    subst (λ cluster. StopsRun cluster c.move_first.new.state.history c.in-Err.stop) c.loop-stop.invariant.keeps.cluster (delivery_stops s.cluster s.history c.move_first.new.state.history 0 c.in-Err.stop c.in-Err.ensures.stop)
+
+pub returns-in-Ok-false-clause-over : goal.returns-in-Ok-false-clause-over
+returns-in-Ok-false-clause-over c =
+    let s = c.loop-stop.state in
+    let rests = c.in-Ok-false.ensures.rests (ap Ok c.in-Ok-false.field-0-test) in
+    subst IsDrained (sym rests.1) (drained s.cluster s.corpus.now s.script.now s.history _ _ _ c.loop-stop.invariant.tied.ties rests.0)

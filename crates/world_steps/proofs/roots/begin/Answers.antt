@@ -1,7 +1,15 @@
+use Rattle.std.proofs.Common.{refl}
+use Rattle.task_events.specs.declared.event.Event.TheVariants.{Begin}
+use Rattle.world_steps.specs.Cancels.{waiting_for}
 use Rattle.world_steps.proofs.RootsAfter.{after_begin}
+use Rattle.world_steps.proofs.Uninvolved.{noted}
 use Rattle.world_steps.proofs.roots.begin.Goals as goal
 
 pub returns-clause-tied : goal.returns-clause-tied
 returns-clause-tied c =
     let s = c.args.state.now in
-    rw c.in_ok-append.ensures.ok (after_begin s.cluster s.corpus.now s.script.now s.history _ _ _ c.requires.tied c.args.command c.requires.next)
+    rw c.in_ok-append.ensures.ok (record {
+      ties = after_begin s.cluster s.corpus.now s.script.now s.history _ _ _ c.requires.tied.ties c.requires.tied.awaits c.args.command c.requires.next;
+      cancels = noted s.cluster (λ t. waiting_for t s.history) s.history _ _ _ _ _ c.requires.tied.cancels (Begin c.args.command) refl refl;
+      awaits = tt;
+    })

@@ -16,4 +16,4 @@ returns c =
     let goes = ap (λ w. w.stopped) c.self.view_is ∙ c.requires in
     let world = subst (λ o. IsWorld s c.self.inside.ready o) goes c.self.invariant in
     c.is_some.ensures ∙ sym (copied c.get.result) ∙ ap is_some c.get.ensures.value
-    ∙ kept_where_live s.cluster s.corpus.now s.script.now s.history _ _ _ world.tied c.args.task ∙ ap (λ w. is_live c.args.task w.past) c.self.view_is
+    ∙ kept_where_live s.cluster s.corpus.now s.script.now s.history _ _ _ world.tied.ties c.args.task ∙ ap (λ w. is_live c.args.task w.past) c.self.view_is

@@ -1,0 +1,15 @@
+use Rattle.std.proofs.Common.{rules, ◌+◌, ℕ, arith}
+use Rattle.std.proofs.lemmas.List.FromFn.{map-range_with_len_more}
+use Rattle.cancel_core.specs.Cancellations.{no_cancellations}
+use Rattle.world_steps.proofs.world.new_cores.Goals as goal
+
+pub loop-place-init : goal.loop-place-init
+loop-place-init c = search rules
+
+pub loop-place-preserved : goal.loop-place-preserved
+loop-place-preserved c =
+    let more = map-range_with_len_more (λ place. no_cancellations (place + 1)) 0 c.loop-place.place c.loop-place.place (omega arith) in
+    search (rules, more)
+
+pub returns : goal.returns
+returns c = search rules
