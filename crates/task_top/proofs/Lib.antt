@@ -6,6 +6,7 @@ pub mod OptionLemmas
 pub mod PrintLemmas
 pub mod ProgressLemmas
 pub mod ReadingLaws
+pub mod RootLaws
 pub mod TopLemmas
 pub mod TurnLemmas
 pub mod WholeLemmas

@@ -1,5 +1,5 @@
 -- One command more has run, and what was noted before each command still holds.
-use Rattle.std.proofs.Common.{◌≡◌, ℕ, ◌+◌, ◌≤◌, Bool, true, false, cond, ◌||◌, List, [], ◌∷◌, ◌++◌, length, length-append, slice_get, Option, Some, None, Result, Ok, Err, OnOk, refl, sym, ap, ◌∙◌, subst, add-one, ⊎_elim, arith}
+use Rattle.std.proofs.Common.{◌≡◌, ℕ, ◌+◌, ◌≤◌, Bool, true, false, cond, ◌||◌, List, [], ◌∷◌, ◌++◌, length, length-append, slice_get, Option, Some, None, Result, Ok, Err, OnOk, OnErr, IfErr, inl, inr, refl, sym, ap, ◌∙◌, subst, add-one, ⊎_elim, arith}
 use Rattle.std.specs.List.{list_any}
 use Rattle.std.proofs.lemmas.Bool.{cases_lt, lt-ltb, le-ltb}
 use Rattle.std.proofs.lemmas.Option.{slice_get_within}
@@ -12,11 +12,12 @@ use Rattle.task_events.specs.Laws.{IsDrained}
 use Rattle.task_events.specs.Turns.{is_begin, begun, history_before}
 use Rattle.script_lang.specs.declared.command.Command.{Command}
 use Rattle.script_lang.specs.declared.command.Script.{Script}
-use Rattle.world_steps.specs.Scripts.{IsTurn, Commands, Drains, HasRun}
+use Rattle.world_steps.specs.Cancels.{AllAnswered}
+use Rattle.world_steps.specs.Scripts.{IsTurn, Commands, PartlyCommands, Drains, PartlyDrains, HasRun, IsRunSoFar, StopsRun}
 use Rattle.world_steps.specs.World.{WorldView}
 use Rattle.task_top.specs.declared.printing.idle.Idle.{Idle}
 use Rattle.task_top.specs.Lines.{idle_of}
-use Rattle.task_top.specs.Progress.{NotesAll, HasCome, EndsWhole}
+use Rattle.task_top.specs.Progress.{NotesAll, HasCome, EndsEarly, EndsWhole}
 
 -- ---- a turn
 
@@ -106,9 +107,28 @@ module _ (script : Script) (found : List (Option Idle)) (w : WorldView) (past : 
   all_ran : HasRun w.cluster w.corpus script (length script.commands) w.past
   all_ran = subst (λ s. HasRun w.cluster w.corpus s (length script.commands) w.past) come.reads come.runs
 
-  pub drained_whole : (k : ℕ) → Drains w.cluster w.corpus w.script w.past past → IsDrained past → IsTurn k w.past past → EndsWhole w.cluster w.corpus script past found
-  drained_whole k drains drained turn = record {
+  pub drained_whole : (k : ℕ) → Drains w.cluster w.corpus w.script w.past past → IsDrained past → AllAnswered past → IsTurn k w.past past → EndsWhole w.cluster w.corpus script past found
+  drained_whole k drains drained answered turn = record {
     ran = (w.past, all_ran, subst (λ s. Drains w.cluster w.corpus s w.past past) come.reads drains);
     drained = drained;
+    answered = answered;
     tells = λ i command at none. noted_still script.commands k (length script.commands) found w.past past come.notes come.begun_so_many turn i command (slice_get_within script.commands i command at) at;
+  }
+
+-- ---- an early end
+
+module _ (script : Script) (n : ℕ) (found : List (Option Idle)) (w : WorldView) (past : List Event) (come : HasCome script n found w) where
+  pub stops_in_command : (r : Result (Unit {0}) Stop) → OnErr r (PartlyCommands w.cluster w.corpus w.script (n + 1) w.past past) → IfErr r (λ stop. w.stopped ≡ None → StopsRun w.cluster past stop)
+      → IfErr r (λ stop. EndsEarly w.cluster w.corpus script past stop)
+  stops_in_command (Ok x) part cause = tt
+  stops_in_command (Err stop) part cause = record {
+    ran_so_far = subst (λ s. IsRunSoFar w.cluster w.corpus s past) come.reads (inl (n, w.past, come.runs, subst (λ m. PartlyCommands w.cluster w.corpus w.script m w.past past) (add-one n) part));
+    cause = cause come.goes_on;
+  }
+
+module _ (script : Script) (found : List (Option Idle)) (w : WorldView) (past : List Event) (come : HasCome script (length script.commands) found w) where
+  pub stops_in_drain : (stop : Stop) → PartlyDrains w.cluster w.corpus w.script w.past past → (w.stopped ≡ None → StopsRun w.cluster past stop) → EndsEarly w.cluster w.corpus script past stop
+  stops_in_drain stop part cause = record {
+    ran_so_far = inr (w.past, all_ran script found w past come, subst (λ s. PartlyDrains w.cluster w.corpus s w.past past) come.reads part);
+    cause = cause come.goes_on;
   }

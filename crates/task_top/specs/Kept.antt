@@ -4,13 +4,13 @@ use Rattle.es_io.specs.Bytes.{Appends}
 use Rattle.task_ids.specs.declared.cluster.Cluster.{Cluster}
 use Rattle.task_events.specs.declared.stop.Stop.{Stop}
 use Rattle.task_events.specs.declared.stop.Stop.TheVariants as stops
-use Rattle.task_events.specs.Laws.{IsDrained}
 use Rattle.script_lang.specs.declared.command.Mode.TheVariants.{Sim}
 use Rattle.world_steps.specs.Scripts.{IsRun, IsRunSoFar, StopsRun}
 use Rattle.task_top.specs.declared.kept.Kept.{Kept}
 use Rattle.task_top.specs.declared.status.Status.{Status}
 use Rattle.task_top.specs.declared.status.Status.TheVariants.{Done, Usage, Refused, ReadFault, WriteFault, Memory, NoThread, HistoryFull, NumbersSpent}
 use Rattle.task_top.specs.Lines.{printed}
+use Rattle.task_top.specs.Promises.{IsOver}
 use Rattle.task_top.specs.Reading.{Reads, Refuses}
 
 -- nothing was read, and nothing happened
@@ -79,10 +79,10 @@ module _ (cluster : Cluster) where
   HasCause NumbersSpent kept source sink = StopsRun cluster kept.history stops.NumbersSpent
   HasCause _ kept source sink = Unit {0}
 
--- After a whole run nothing is live, in flight or listed.
+-- A whole run is over with all that it began.
 abbrev pub Rests : Status → Kept → Type 0
-Rests Done kept = IsDrained kept.history
-Rests WriteFault kept = IsDrained kept.history
+Rests Done kept = IsOver kept.history
+Rests WriteFault kept = IsOver kept.history
 Rests _ kept = Unit {0}
 
 -- the statuses that can come once the input was read

@@ -6,5 +6,6 @@ pub mod Looked
 pub mod Options
 pub mod Plan
 pub mod Progress
+pub mod Promises
 pub mod Reading
 pub mod Status

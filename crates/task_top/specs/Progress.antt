@@ -9,6 +9,7 @@ use Rattle.task_events.specs.Laws.{IsDrained}
 use Rattle.task_events.specs.Turns.{begun, history_before}
 use Rattle.script_lang.specs.declared.command.Command.{Command}
 use Rattle.script_lang.specs.declared.command.Script.{Script}
+use Rattle.world_steps.specs.Cancels.{AllAnswered}
 use Rattle.world_steps.specs.Scripts.{HasRun, IsRun, IsRunSoFar, StopsRun}
 use Rattle.world_steps.specs.World.{WorldView}
 use Rattle.task_top.specs.declared.printing.idle.Idle.{Idle}
@@ -37,4 +38,5 @@ pub record EndsEarly (cluster : Cluster) (corpus : Corpus) (script : Script) (pa
 pub record EndsWhole (cluster : Cluster) (corpus : Corpus) (script : Script) (past : List Event) (found : List (Option Idle)) : Type 0 where
   pub ran : IsRun cluster corpus script past
   pub drained : IsDrained past
+  pub answered : AllAnswered past
   pub tells : IsFound script.commands past found

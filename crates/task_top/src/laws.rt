@@ -1,11 +1,21 @@
-ghost use Rattle.std.specs.Prelude.{◌≡◌, ◌<◌, ◌↔◌, ◌⊎◌, ℕ, List, length};
+ghost use Rattle.std.specs.Prelude.{◌≡◌, ◌<◌, ◌↔◌, ◌⊎◌, ℕ, List, None, length};
 ghost use Rattle.task_ids.specs.declared.cause.Cause.{Cause};
 ghost use Rattle.task_ids.specs.declared.cause.Cause.TheVariants.{TooLong};
 ghost use Rattle.task_ids.specs.declared.cluster.Cluster.{Cluster};
 ghost use Rattle.task_ids.specs.declared.corpus.Corpus.{Corpus};
+ghost use Rattle.task_ids.specs.declared.task_id.TaskId.{TaskId};
+ghost use Rattle.task_events.specs.declared.event.Event.{Event};
+ghost use Rattle.task_events.specs.Bans.{standing_ban};
+ghost use Rattle.task_events.specs.Lawful.{Lawful};
+ghost use Rattle.task_events.specs.Laws.{IsDrained};
 ghost use Rattle.script_lang.specs.declared.command.Mode.{Mode};
 ghost use Rattle.script_lang.specs.declared.command.Script.{Script};
+ghost use Rattle.task_top.specs.Promises.{CancelsExactly, KeepsAllLaws};
 ghost use Rattle.task_top.specs.Reading.{max_input, Reads, Refuses, IsRead, IsRefused};
+
+use task_laws::{
+    causes, drained_bans, early_children, late_children, one_place, one_stage, waiting,
+};
 
 /// In a mode and for a cluster any bytes are read as one corpus and one script or refused at one line for one cause, and
 /// never both.
@@ -22,3 +32,21 @@ pub fn one_reading()
     // No line is to blame exactly where the input is too long.
     ensures too_long { (mode : Mode) (cluster : Cluster) (input : List ℕ) → Refuses mode cluster input 0 TooLong ↔ (max_input < length input) }
 {}
+
+/// The laws of cancellation hold at a moment of a lawful history; where it is drained no ban stands; and a command's task
+/// is told as cancelled exactly where it was marked.
+///
+/// It computes nothing: its contract is the law.
+pub(crate) fn all_laws()
+    ensures laws { (cluster : Cluster) (h : List Event) → Lawful cluster h → KeepsAllLaws h }
+    ensures over { (cluster : Cluster) (h : List Event) → Lawful cluster h → IsDrained h → (n : ℕ) (p : TaskId) → standing_ban n p h ≡ None }
+    ensures cancelled { (cluster : Cluster) (h : List Event) → Lawful cluster h → CancelsExactly h }
+{
+    one_place();
+    one_stage();
+    late_children();
+    early_children();
+    waiting();
+    drained_bans();
+    causes();
+}

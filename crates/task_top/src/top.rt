@@ -2,13 +2,14 @@ ghost use Rattle.std.specs.Prelude.{◌≡◌, ◌≤◌, ◌++◌, List, length
 ghost use Rattle.es_io.specs.Count.{Rose};
 ghost use Rattle.task_events.specs.declared.event.Event.{Event};
 ghost use Rattle.task_events.specs.Lawful.{Lawful};
-ghost use Rattle.task_events.specs.Laws.{OnePlace};
 ghost use Rattle.world_steps.specs.Plain.{AnswersPlainly};
 ghost use Rattle.world_steps.specs.Scripts.{CanRun};
 ghost use Rattle.task_top.specs.Kept.{AnswersInput, RanAsRead, Rests, WritesLines, HasCause, IsAfterReading, early_status};
 ghost use Rattle.task_top.specs.Progress.{EndsWhole};
+ghost use Rattle.task_top.specs.Promises.{KeepsAllLaws, CancelsExactly};
 
 use crate::kept::Kept;
+use crate::laws::all_laws;
 use crate::printing::{Idle, print_lines};
 use crate::reading::read_input;
 use crate::run::run_script;
@@ -18,7 +19,7 @@ use script_lang::{Script, ScriptError};
 use std::alloc::Global;
 use task_events::Stop;
 use task_ids::{Cause, Cluster, Corpus};
-use task_laws::{earlier_is_lawful, one_place};
+use task_laws::earlier_is_lawful;
 
 /// How many bytes an input has at most.
 const MAX_INPUT: usize = 67_108_864;
@@ -26,8 +27,9 @@ const MAX_INPUT: usize = 67_108_864;
 /// Reads an input to its end, runs its script step by step on a cluster, and writes the line of each command.
 ///
 /// The input is documents as Elasticsearch's bulk API takes them, a line `--`, and the lines of a script. The script runs in
-/// a serial world: its nodes are simulated, and one thing happens after another. After the last command the world is
-/// drained, so that nothing goes on when the call ends.
+/// a serial world: its nodes are simulated, and one thing happens after another. It starts searches and cancels them, and
+/// may say itself which message comes next, and which task or listing makes a step. After the last command the world is
+/// drained, so that nothing goes on when the call ends, and every cancel has its answer.
 ///
 /// The lines are written once all has run. Where the run comes to an early end nothing is written.
 pub fn sim_top<S: Source, K: Sink>(
@@ -40,19 +42,27 @@ pub fn sim_top<S: Source, K: Sink>(
     ensures input { IfSome (S.left input.old) (λ bytes. AnswersInput cluster.now bytes result.0 result.1) }
     // What happened is the run of what was read.
     ensures run { RanAsRead cluster.now result.0 result.1 }
-    // Each event of it was allowed when it came, so the laws of cancellation hold of it at every moment.
+    // Each event of it was allowed when it came.
     ensures lawful { Lawful cluster.now result.1.history }
-    // So at every moment each unanswered ask is in one place: its request or its answer is in flight, or its child is live.
-    ensures one_place { (later h : List Event) → later ++ h ≡ result.1.history → OnePlace h }
-    // Each search that ended in it replied with the plain answer.
+    // So at every moment: each unanswered ask is in one place, and each ban in one stage. A child that registers after its
+    // parent's ban on that node is refused with the ban's number, and a running earlier one is marked before the listing
+    // there ends. A waiting cancel is answered only when no task that it named and no descendant is live. Once its messages
+    // are handled, an ended task has no ban. A task is cancelled only by a cancel that named it or an ancestor.
+    ensures laws { (later h : List Event) → later ++ h ≡ result.1.history → KeepsAllLaws h }
+    // The reply of a search is cancelled exactly where its task was marked, with the number of the mark.
+    ensures cancelled { CancelsExactly result.1.history }
+    // Each search that ended in it without being cancelled replied with the plain answer.
     ensures plain { AnswersPlainly cluster.now result.1.corpus result.1.script result.1.history }
-    // After a whole run nothing is live or in flight.
+    // After a whole run nothing is live, in flight or listed, no ban stands, and every cancel that named a task is answered.
     ensures rests { Rests result.0 result.1 }
     // Where the sink tells its bytes: they grew by the printed lines of the run.
     ensures output { WritesLines cluster.now (K.written out.old) (K.written out.new) result.0 result.1 }
     // A fault and an early end have their cause.
     ensures cause { HasCause cluster.now result.0 result.1 (Rose (S.faults input.old) (S.faults input.new)) (Rose (K.faults out.old) (K.faults out.new)) }
 {
+    // The laws of each moment of a lawful history. They compute nothing.
+    earlier_is_lawful();
+    all_laws();
     let bytes = match read_all(alloc, input, MAX_INPUT) {
         Ok(bytes) => bytes,
         Err(ReadAll::ReadFault) => return (Status::ReadFault, Kept::nothing(alloc)),
@@ -61,9 +71,6 @@ pub fn sim_top<S: Source, K: Sink>(
         }
         Err(ReadAll::Memory) => return (Status::Memory, Kept::nothing(alloc)),
     };
-    // The laws of each moment of a lawful history. They compute nothing.
-    earlier_is_lawful();
-    one_place();
     match read_input(alloc, cluster, bytes.as_slice()) {
         Ok((corpus, script)) => run_and_print(alloc, cluster, corpus, script, out),
         Err(ScriptError::Bad { line, cause }) => {
@@ -128,6 +135,7 @@ fn write_lines<K: Sink>(
     out: &mut K,
 ) -> Status
     requires few { length kept.now.script.commands ≤ 65535 }
+    requires lawful { Lawful cluster.now kept.now.history }
     requires ran { EndsWhole cluster.now kept.now.corpus kept.now.script kept.now.history found.now }
     ensures status { IsAfterReading result }
     ensures run { RanAsRead cluster.now result kept.now }
@@ -140,6 +148,8 @@ fn write_lines<K: Sink>(
         script,
         history,
     } = kept;
+    // Where nothing is live, in flight or listed no ban stands. It computes nothing.
+    all_laws();
     let mut text = Vec::new(alloc);
     match print_lines(alloc, cluster, corpus, script, history, found, &mut text) {
         Ok(()) => {}

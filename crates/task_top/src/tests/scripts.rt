@@ -187,3 +187,39 @@ fn an_unknown_index_is_told(rt: HostRuntime) -> Result<(), Fail> {
     assert_eq!(rt; out.bytes(), lines.as_bytes());
     Ok(())
 }
+
+/// Scripts that cancel, with their lines: a late child is refused, and the cancel that waits is answered after it; a child is
+/// cancelled alone; a cancel joins; no listing is open, and there is no task to cancel.
+const CANCELS: [(&str, &str); 4] = [
+    (
+        "{\"search\":{\"index\":\"a\",\"body\":{}}}\n{\"step\":\"n1:1\"}\n{\"step\":\"n1:1\"}\n{\"cancel\":{\"task_id\":\"n1:1\",\"reason\":\"too slow\",\"wait_for_completion\":true}}\n{\"deliver\":3}\n{\"deliver\":1}\n{\"step\":\"n2:1\"}\n{\"settle\":true}\n{\"history\":true}\n",
+        "{\"command\":1,\"error\":{\"reason\":\"too slow\",\"task\":\"n1:1\",\"type\":\"task_cancelled\"}}\n{\"command\":2,\"reply\":[\"ask n1:1 1 n1\"]}\n{\"command\":3,\"reply\":[\"ask n1:1 2 n2\"]}\n{\"command\":4,\"reply\":{\"cancelled\":[\"n1:1\"],\"waited\":true}}\n{\"command\":5,\"reply\":[\"ban n2 n1:1 4\"]}\n{\"command\":6,\"reply\":[\"put n2:1 n1:1 2\"]}\n{\"command\":7,\"reply\":[\"refuse n2:1 4 too slow\"]}\n{\"command\":8,\"reply\":{\"events\":14}}\n{\"command\":9,\"reply\":[\"root 1 n1:1\",\"ask n1:1 1 n1\",\"ask n1:1 2 n2\",\"cancel 4 n1:1 wait\",\"mark n1:1 4\",\"ban n2 n1:1 4\",\"put n2:1 n1:1 2\",\"refuse n2:1 4 too slow\",\"put n1:2 n1:1 1\",\"ban n1 n1:1 4\",\"answered n1:1 2\",\"mark n1:2 4\",\"listed n1 n1:1\",\"acked n1:1 n1\",\"listed n2 n1:1\",\"acked n1:1 n2\",\"refuse n1:2 4 too slow\",\"answered n1:1 1\",\"end n1:1 cancelled 4\",\"complete 4\",\"unban n1 n1:1\",\"unban n2 n1:1\"]}\n",
+    ),
+    (
+        "{\"search\":{\"index\":\"a\",\"body\":{}}}\n{\"step\":\"n1:1\"}\n{\"step\":\"n1:1\"}\n{\"deliver\":0}\n{\"deliver\":0}\n{\"cancel\":{\"task_id\":\"n2:1\"}}\n",
+        "{\"command\":1,\"reply\":{\"_shards\":{\"failed\":1,\"successful\":1,\"total\":2},\"hits\":{\"hits\":[{\"_id\":\"2\",\"_index\":\"a\",\"_source\":{\"c\":\"blue\",\"n\":2}},{\"_id\":\"4\",\"_index\":\"a\",\"_source\":{\"c\":\"blue\",\"n\":4}}],\"total\":{\"relation\":\"eq\",\"value\":2}}}}\n{\"command\":2,\"reply\":[\"ask n1:1 1 n1\"]}\n{\"command\":3,\"reply\":[\"ask n1:1 2 n2\"]}\n{\"command\":4,\"reply\":[\"put n1:2 n1:1 1\"]}\n{\"command\":5,\"reply\":[\"put n2:1 n1:1 2\"]}\n{\"command\":6,\"reply\":{\"cancelled\":[\"n2:1\"],\"waited\":false}}\n",
+    ),
+    (
+        "{\"search\":{\"index\":\"a\",\"body\":{}}}\n{\"step\":\"n1:1\"}\n{\"step\":\"n1:1\"}\n{\"cancel\":{\"task_id\":\"n1:1\",\"reason\":\"one\"}}\n{\"cancel\":{\"task_id\":\"n1:1\",\"reason\":\"two\"}}\n{\"deliver\":2}\n{\"deliver\":2}\n{\"list_step\":{\"node\":\"n1\",\"parent\":\"n1:1\"}}\n{\"list_step\":{\"node\":\"n2\",\"parent\":\"n1:1\"}}\n{\"deliver\":2}\n{\"deliver\":2}\n{\"cancel\":{\"task_id\":\"n1:1\"}}\n{\"history\":true}\n",
+        "{\"command\":1,\"error\":{\"reason\":\"one\",\"task\":\"n1:1\",\"type\":\"task_cancelled\"}}\n{\"command\":2,\"reply\":[\"ask n1:1 1 n1\"]}\n{\"command\":3,\"reply\":[\"ask n1:1 2 n2\"]}\n{\"command\":4,\"reply\":{\"cancelled\":[\"n1:1\"],\"waited\":false}}\n{\"command\":5,\"reply\":{\"cancelled\":[\"n1:1\"],\"waited\":false}}\n{\"command\":6,\"reply\":[\"ban n1 n1:1 4\"]}\n{\"command\":7,\"reply\":[\"ban n2 n1:1 4\"]}\n{\"command\":8,\"reply\":[\"listed n1 n1:1\"]}\n{\"command\":9,\"reply\":[\"listed n2 n1:1\"]}\n{\"command\":10,\"reply\":[\"acked n1:1 n1\"]}\n{\"command\":11,\"reply\":[\"acked n1:1 n2\",\"placed 4\",\"placed 5\"]}\n{\"command\":12,\"reply\":{\"cancelled\":[\"n1:1\"],\"waited\":false}}\n{\"command\":13,\"reply\":[\"root 1 n1:1\",\"ask n1:1 1 n1\",\"ask n1:1 2 n2\",\"cancel 4 n1:1\",\"mark n1:1 4\",\"cancel 5 n1:1\",\"ban n1 n1:1 4\",\"ban n2 n1:1 4\",\"listed n1 n1:1\",\"listed n2 n1:1\",\"acked n1:1 n1\",\"acked n1:1 n2\",\"placed 4\",\"placed 5\",\"cancel 12 n1:1\",\"placed 12\"]}\n",
+    ),
+    (
+        "{\"search\":{\"index\":\"a\",\"node\":\"n1\",\"body\":{\"size\":0}}}\n{\"list_step\":{\"node\":\"n1\",\"parent\":\"n1:1\"}}\n{\"cancel\":{\"task_id\":\"n2:7\"}}\n{\"search\":{\"index\":\"zz\"}}\n{\"cancel\":{\"command\":4}}\n{\"history\":true}\n",
+        "{\"command\":1,\"reply\":{\"_shards\":{\"failed\":0,\"successful\":2,\"total\":2},\"hits\":{\"hits\":[],\"total\":{\"relation\":\"eq\",\"value\":5}}}}\n{\"command\":2,\"error\":{\"type\":\"no_listing\"}}\n{\"command\":3,\"error\":{\"task\":\"n2:7\",\"type\":\"not_found\"}}\n{\"command\":4,\"error\":{\"index\":\"zz\",\"type\":\"index_not_found\"}}\n{\"command\":5,\"error\":{\"task\":null,\"type\":\"not_found\"}}\n{\"command\":6,\"reply\":[\"root 1 n1:1\",\"not-found 3\",\"not-found 5\"]}\n",
+    ),
+];
+
+#[test]
+fn cancels_are_told(rt: HostRuntime) -> Result<(), Fail> {
+    let cluster = Cluster {
+        nodes: 3,
+        shards: 2,
+        slots: 256,
+    };
+    for (script, lines) in CANCELS {
+        let (status, out) = printed(rt.alloc(), cluster, script)?;
+        assert_eq!(rt; status, Status::Done, "at {script}");
+        assert_eq!(rt; out.bytes(), lines.as_bytes(), "at {script}");
+    }
+    Ok(())
+}

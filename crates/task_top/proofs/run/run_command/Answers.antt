@@ -1,7 +1,7 @@
 use Rattle.std.proofs.Common.{◌≡◌, ◌+◌, List, [], ◌∷◌, ◌++◌, Option, OnOk, subst, sym, rules}
 use Rattle.task_top.specs.declared.printing.idle.Idle.{Idle}
 use Rattle.task_top.specs.Progress.{HasCome}
-use Rattle.task_top.proofs.ProgressLemmas.{has_come}
+use Rattle.task_top.proofs.ProgressLemmas.{has_come, stops_in_command}
 use Rattle.task_top.proofs.run.run_command.Goals as goal
 
 pub returns-clause-ok : goal.returns-clause-ok
@@ -10,3 +10,7 @@ returns-clause-ok c =
     subst (λ (items : List (Option Idle)). OnOk c.command.result (HasCome c.args.script.now (c.args.place + 1) items c.command.new.self)) (sym pushed)
     (has_come c.args.script.now c.args.place c.args.found.now.items c.args.world.now c.command.new.self c.requires.come c.idle_of-idle.result c.args.command.now c.requires.next c.idle_of-idle.ensures c.command.ensures.keeps
     c.command.result c.command.ensures.done c.command.ensures.turn c.command.ensures.number c.command.ensures.goes_on)
+
+pub returns-clause-early : goal.returns-clause-early
+returns-clause-early c =
+    stops_in_command c.args.script.now c.args.place c.args.found.now.items c.args.world.now c.command.new.self.past c.requires.come c.command.result c.command.ensures.part c.command.ensures.cause

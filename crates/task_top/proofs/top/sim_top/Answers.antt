@@ -1,9 +1,8 @@
-use Rattle.std.proofs.Common.{sym, ◌∙◌, ap, subst}
+use Rattle.std.proofs.Common.{sym, ◌∙◌, ap}
 use Rattle.std.specs.Str.Lines.{lines}
 use Rattle.script_lang.specs.declared.command.Mode.TheVariants.{Sim}
-use Rattle.task_events.specs.Lawful.{Lawful}
 use Rattle.task_top.specs.Reading.{read_lines}
-use Rattle.task_top.proofs.TopLemmas.{too_long, refused, read_as}
+use Rattle.task_top.proofs.TopLemmas.{every_moment, every_moment_of_nothing, too_long, refused, read_as}
 use Rattle.task_top.proofs.top.sim_top.Goals as goal
 
 pub returns-in-Err-TooLong-clause-input : goal.returns-in-Err-TooLong-clause-input
@@ -15,11 +14,28 @@ returns-in-Ok-read_input-clause-input g c =
     read_as c.args.cluster.now c.in-Ok.bytes.items _ _ _ c.in-Ok-read_input.corpus c.in-Ok-read_input.script kept.status kept.corpus kept.script c.in-Ok.ensures.all c.in-Ok.ensures.fits
     (ap (λ bytes. read_lines Sim c.args.cluster.now.nodes (lines bytes)) (sym c.as_slice.ensures.value) ∙ c.in-Ok-read_input.ensures.gives)
 
-pub returns-in-Ok-read_input-clause-one_place : goal.returns-in-Ok-read_input-clause-one_place
-returns-in-Ok-read_input-clause-one_place g c =
-    λ later h e. c.one_place.ensures c.args.cluster.now h (c.earlier_is_lawful.ensures c.args.cluster.now later h (subst (Lawful c.args.cluster.now) (sym e) c.run_and_print.ensures.lawful))
+pub returns-in-Ok-read_input-clause-laws : goal.returns-in-Ok-read_input-clause-laws
+returns-in-Ok-read_input-clause-laws g c = every_moment c.args.cluster.now c.earlier_is_lawful.ensures c.all_laws.ensures.laws _ c.run_and_print.ensures.lawful
+
+pub returns-in-Ok-read_input-clause-cancelled : goal.returns-in-Ok-read_input-clause-cancelled
+returns-in-Ok-read_input-clause-cancelled g c = c.all_laws.ensures.cancelled c.args.cluster.now _ c.run_and_print.ensures.lawful
 
 pub returns-in-Err-Bad-clause-input : goal.returns-in-Err-Bad-clause-input
 returns-in-Err-Bad-clause-input g c =
     refused c.args.cluster.now c.in-Ok.bytes.items _ c.nothing-in-Err-Bad.result c.in-Err-Bad.line c.in-Err-Bad.cause c.in-Ok.ensures.all c.in-Ok.ensures.fits
     (ap (λ bytes. read_lines Sim c.args.cluster.now.nodes (lines bytes)) (sym c.as_slice.ensures.value) ∙ (rw c.in-Err-Bad.field-0-is at c.in-Err-Bad.ensures.gives))
+
+pub returns-in-Err-ReadFault-clause-laws : goal.returns-in-Err-ReadFault-clause-laws
+returns-in-Err-ReadFault-clause-laws g c = every_moment_of_nothing c.args.cluster.now c.earlier_is_lawful.ensures c.all_laws.ensures.laws _ c.nothing.ensures.no_event
+
+pub returns-in-Err-TooLong-clause-laws : goal.returns-in-Err-TooLong-clause-laws
+returns-in-Err-TooLong-clause-laws g c = every_moment_of_nothing c.args.cluster.now c.earlier_is_lawful.ensures c.all_laws.ensures.laws _ c.nothing-in-Err-TooLong.ensures.no_event
+
+pub returns-in-Err-Memory-clause-laws : goal.returns-in-Err-Memory-clause-laws
+returns-in-Err-Memory-clause-laws g c = every_moment_of_nothing c.args.cluster.now c.earlier_is_lawful.ensures c.all_laws.ensures.laws _ c.nothing-in-Err-Memory.ensures.no_event
+
+pub returns-in-Err-Bad-clause-laws : goal.returns-in-Err-Bad-clause-laws
+returns-in-Err-Bad-clause-laws g c = every_moment_of_nothing c.args.cluster.now c.earlier_is_lawful.ensures c.all_laws.ensures.laws _ c.nothing-in-Err-Bad.ensures.no_event
+
+pub returns-clause-laws : goal.returns-clause-laws
+returns-clause-laws g c = every_moment_of_nothing c.args.cluster.now c.earlier_is_lawful.ensures c.all_laws.ensures.laws _ c.nothing-in-Err-Memory-read_input.ensures.no_event

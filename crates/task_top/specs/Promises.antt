@@ -1,0 +1,55 @@
+-- What is promised of every moment of what happened, and of its end.
+use Rattle.std.specs.Prelude.{◌≡◌, ℕ, List, ◌∷◌, Some, None, option_map, ⊤}
+use Rattle.task_ids.specs.declared.task_id.TaskId.{TaskId}
+use Rattle.task_events.specs.declared.event.Event.{Event}
+use Rattle.task_events.specs.declared.event.Event.TheVariants.{Pass, Listed, AnswerPlaced, AnswerDone}
+use Rattle.task_events.specs.declared.reply.Reply.{Reply}
+use Rattle.task_events.specs.Allowed.{cancellation_in}
+use Rattle.task_events.specs.Bans.{ban_put, mark_of, standing_ban}
+use Rattle.task_events.specs.Laws.{OnePlace, OneStage, RefusesLateChildren, LetsNoChildEscape, ListsAllChildren, HasListedAll, WaitsForDescendants, LeavesNoBan, CancelsWithCause, IsDrained}
+use Rattle.task_events.specs.Tasks.{parent_of, reply_of}
+use Rattle.world_steps.specs.Cancels.{AllAnswered}
+use Rattle.task_top.specs.Lines.{started}
+
+-- A child passes only where no ban of its parent was ever put on its node.
+abbrev pub PassesUnbanned : List Event → Type 0
+PassesUnbanned (Pass t ∷ h) = (p : TaskId) → parent_of t h ≡ Some p → ban_put t.node p h ≡ None
+PassesUnbanned _ = ⊤
+
+-- Where a listing has just ended, each child there has ended or is marked. Where a cancel has just been answered, the listings of its tasks have ended.
+abbrev pub EndsListings : List Event → Type 0
+EndsListings (Listed n p ∷ h) = ListsAllChildren n p h
+EndsListings (AnswerPlaced c ∷ h) = HasListedAll c h
+EndsListings (AnswerDone c ∷ h) = HasListedAll c h
+EndsListings _ = ⊤
+
+-- The laws of one moment.
+pub record KeepsAllLaws (h : List Event) : Type 0 where
+  -- an unanswered ask is in one place: its request is in flight, or its child is live, or its answer is in flight
+  pub one_place : OnePlace h
+  -- the ban of a marked task on a banned node is in one stage, from its sending up to its removal
+  pub one_stage : OneStage h
+  -- a child that registers after its parent's ban on its node never passes, and is refused with the ban's number
+  pub late_children : RefusesLateChildren h
+  -- a child that passes was not banned
+  pub no_pass : PassesUnbanned h
+  -- once a listing has ended, a live child there is marked, or it came after the ban
+  pub early_children : LetsNoChildEscape h
+  -- a listing ends with every child there ended or marked, and a cancel is answered after the listings of its tasks
+  pub listings : EndsListings h
+  -- once a waiting cancel is answered, no task that it named and no descendant of one is live
+  pub waiting : WaitsForDescendants h
+  -- once its messages are handled, an ended task has no ban
+  pub drained_bans : LeavesNoBan h
+  -- a task is cancelled only by a cancel that named it or an ancestor
+  pub causes : CancelsWithCause h
+
+-- After a whole run nothing is live, in flight or listed, no ban stands, and every cancel that named a task has its answer.
+pub record IsOver (h : List Event) : Type 0 where
+  pub nothing_left : IsDrained h
+  pub no_ban : (n : ℕ) (p : TaskId) → standing_ban n p h ≡ None
+  pub answered : AllAnswered h
+
+-- The reply of a command's task is cancelled exactly where the task was marked, with the number of its mark.
+abbrev pub CancelsExactly : List Event → Type 0
+CancelsExactly h = (k : ℕ) (t : TaskId) (reply : Reply) → started k h ≡ Some t → reply_of t h ≡ Some reply → cancellation_in reply ≡ option_map (λ c. (t, c)) (mark_of t h)
