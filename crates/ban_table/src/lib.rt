@@ -119,6 +119,3 @@ fn listed(alloc: Global, bans: &BTreeMap<TaskId, u32>) -> Result<Vec<Ban>, Alloc
         })
         .collect(alloc)
 }
-
-#[cfg(test)]
-mod tests;

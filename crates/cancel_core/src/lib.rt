@@ -11,6 +11,3 @@ mod stage;
 
 pub use act::{Act, Waiter};
 pub use cancels::CancelCore;
-
-#[cfg(test)]
-mod tests;

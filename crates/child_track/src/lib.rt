@@ -4,8 +4,6 @@
 
 mod nodes;
 mod receipt;
-#[cfg(test)]
-mod tests;
 mod token;
 mod track;
 

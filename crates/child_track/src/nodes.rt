@@ -1,4 +1,4 @@
-ghost use Rattle.std.specs.Prelude.{◌≡◌, ◌==◌, ◌||◌, ◌≤◌, ℕ};
+ghost use Rattle.std.specs.Prelude.{◌≡◌, ◌==◌, ◌||◌, ℕ};
 ghost use Rattle.task_ids.specs.Limits.{IsNode};
 
 /// A set of nodes: bit X stands for node X, from 1 to 15.

@@ -5,9 +5,9 @@ use Rattle.serde_json.specs.Data.{Items, item}
 use Rattle.serde_json.specs.View.{view, items_view}
 use Rattle.serde_json.specs.declared.value.Value.{Value}
 use Rattle.serde_json.proofs.Views.{items_len-items_view}
-use Rattle.query_parse.specs.declared.body.BodyError.{BodyError}
-use Rattle.query_parse.specs.declared.body.BodyError.TheVariants.{UnknownField, BadQuery, BadSort, BadSize, WindowTooLarge, Memory}
-use Rattle.query_parse.specs.declared.sort.SortBy.{SortBy}
+use Rattle.query_parse.specs.declared.fault.BodyError.{BodyError}
+use Rattle.query_parse.specs.declared.fault.BodyError.TheVariants.{UnknownField, BadQuery, BadSort, BadSize, WindowTooLarge, Memory}
+use Rattle.query_match.specs.declared.sort.SortBy.{SortBy}
 use Rattle.query_parse.specs.Answers.{◌>>=◌}
 use Rattle.query_parse.specs.Bodies.{Fails, entry_of, entries_of}
 use Rattle.query_parse.proofs.Each.{drop_here}

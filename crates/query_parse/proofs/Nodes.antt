@@ -12,11 +12,11 @@ use Rattle.serde_json.specs.declared.value.Value.{Value}
 use Rattle.query_parse.specs.declared.fault.QueryFault.TheVariants.{NotOneKey}
 use Rattle.query_parse.specs.declared.fault.QueryError.{QueryError}
 use Rattle.query_parse.specs.declared.fault.QueryError.TheVariants.{Bad, Memory}
-use Rattle.query_parse.specs.declared.query.Node.{Node, Bool as Clauses, the_lemmas}
+use Rattle.query_match.specs.declared.query.Node.{Node, Bool as Clauses, the_lemmas}
 use Rattle.query_parse.specs.Answers.{◌>>=◌, Fails}
-use Rattle.query_parse.specs.Query.{Query, bool, Queries, no_queries, query}
+use Rattle.query_match.specs.Query.{Query, bool, Queries, no_queries, query}
 use Rattle.query_parse.specs.Reading.{under, are_none, form_named, only_entry, query_at, query_in, query_of, clause_in, clause_at, queries_at}
-use Rattle.query_parse.specs.View.{query_view, queries_view}
+use Rattle.query_match.specs.View.{query_view, queries_view}
 use Rattle.query_parse.proofs.Each.{drop_here}
 
 pub view-Bool : (must filter should must_not : Vec Node Global) (least : ℕ) → query_view (Clauses must filter should must_not least) ≡ bool (queries_view must.items) (queries_view filter.items) (queries_view should.items) (queries_view must_not.items) least

@@ -8,14 +8,14 @@ use Rattle.query_parse.specs.declared.fault.QueryFault.TheVariants.{BadValue}
 use Rattle.query_parse.specs.declared.fault.QueryError.{QueryError}
 use Rattle.query_parse.specs.declared.fault.QueryError.TheVariants.{Bad}
 use Rattle.query_parse.specs.declared.fault.QueryError.TheVariants as queries
-use Rattle.query_parse.specs.declared.body.BodyError.{BodyError}
-use Rattle.query_parse.specs.declared.body.BodyError.TheVariants.{UnknownField, BadQuery, BadSort, BadSize, WindowTooLarge, Memory}
-use Rattle.query_parse.specs.declared.body.SearchBody.{SearchBody}
-use Rattle.query_parse.specs.declared.sort.SortBy.{SortBy}
+use Rattle.query_parse.specs.declared.fault.BodyError.{BodyError}
+use Rattle.query_parse.specs.declared.fault.BodyError.TheVariants.{UnknownField, BadQuery, BadSort, BadSize, WindowTooLarge, Memory}
+use Rattle.query_match.specs.declared.body.SearchBody.{SearchBody}
+use Rattle.query_match.specs.declared.sort.SortBy.{SortBy}
 use Rattle.query_parse.specs.Answers.{◌>>=◌}
-use Rattle.query_parse.specs.Query.{Query, match_all}
+use Rattle.query_match.specs.Query.{Query, match_all}
 use Rattle.query_parse.specs.Reading.{member_keys, only_member, only_named, query_at}
-use Rattle.query_parse.specs.Values.{same_bytes}
+use Rattle.query_match.specs.Values.{same_bytes}
 
 -- ---- what a reader answers beside the function that it computes
 
@@ -129,13 +129,19 @@ unfoldable pub query_of : Option Data → Result Query BodyError
 query_of None = Ok match_all
 query_of (Some d) = as_body_fault (query_at (codes "query") d)
 
+-- how many hits are passed over and how many are shown, 10,000 together at most
+unfoldable pub window_at : Bool → ℕ → Members → Result (ℕ × ℕ) BodyError
+window_at zero least ms = do
+  from ← from_of zero (get_member (codes "from") ms)
+  size ← size_of least (get_member (codes "size") ms)
+  if nat_le (from + size) 10000 then Ok (from, size) else Err (WindowTooLarge (from + size))
+
 unfoldable pub known_body_at : Bool → ℕ → Members → Result SearchBody BodyError
 known_body_at zero least ms = do
   query ← query_of (get_member (codes "query") ms)
   sort ← sort_of (get_member (codes "sort") ms)
-  from ← from_of zero (get_member (codes "from") ms)
-  size ← size_of least (get_member (codes "size") ms)
-  if nat_le (from + size) 10000 then Ok (record { query = query; sort = sort; from = from; size = size }) else Err (WindowTooLarge (from + size))
+  window ← window_at zero least ms
+  Ok (record { query = query; sort = sort; from = window.0; size = window.1 })
 
 abbrev pub body_unless : Option (List ℕ) → Result SearchBody BodyError → Result SearchBody BodyError
 body_unless None read = read

@@ -1,12 +1,4 @@
-pub mod Values
-pub mod Query
-pub mod Stored
-pub mod View
-pub mod Matching
 pub mod Answers
 pub mod Reading
 pub mod Paths
-pub mod Found
-pub mod Sorting
 pub mod Bodies
-pub mod Orders

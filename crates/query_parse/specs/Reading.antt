@@ -5,16 +5,16 @@ use Rattle.std.specs.Ordering.{nat_cmp, match_ordering}
 use Rattle.std.specs.Cmp.Lexicographic.{slice_cmp}
 use Rattle.serde_json.specs.Data.{Data, null, boolean, number, string, array, object, Items, no_items, item, Members, no_members, member}
 use Rattle.serde_json.specs.Find.{get_member, as_array, as_object, as_str, as_number, as_u64}
-use Rattle.query_parse.specs.declared.scalar.Scalar.{Scalar}
-use Rattle.query_parse.specs.declared.query.Test.TheVariants.{Equals, OneOf, Within, Starts, Exists}
-use Rattle.query_parse.specs.declared.query.Range.{Range}
+use Rattle.query_match.specs.declared.scalar.Scalar.{Scalar}
+use Rattle.query_match.specs.declared.query.Test.TheVariants.{Equals, OneOf, Within, Starts, Exists}
+use Rattle.query_match.specs.declared.query.Range.{Range}
 use Rattle.query_parse.specs.declared.fault.QueryFault.TheVariants.{UnknownQuery, BadValue, NotOneKey}
 use Rattle.query_parse.specs.declared.fault.QueryError.{QueryError}
 use Rattle.query_parse.specs.declared.fault.QueryError.TheVariants.{Bad}
 use Rattle.query_parse.specs.declared.form.Form.{Form}
 use Rattle.query_parse.specs.declared.form.Form.TheVariants as forms
-use Rattle.query_parse.specs.Query.{Query, match_all, match_none, field, ids, bool, Queries, no_queries, query}
-use Rattle.query_parse.specs.Values.{same_bytes, value_of}
+use Rattle.query_match.specs.Query.{Query, match_all, match_none, field, ids, bool, Queries, no_queries, query}
+use Rattle.query_match.specs.Values.{same_bytes, value_of}
 use Rattle.query_parse.specs.Answers.{◌>>=◌}
 
 -- ---- paths: keys and places of lists, joined by dots

@@ -1,17 +1,14 @@
 //! Reading the body of a search from a JSON value.
 
-ghost use Rattle.std.specs.Prelude.{◌≡◌, MatchOption, Some, None, option_map, codes};
-ghost use Rattle.serde_json.specs.Find.{get_member};
+ghost use Rattle.std.specs.Prelude.{◌≡◌, option_map};
 ghost use Rattle.serde_json.specs.View.{view, members_view};
-ghost use Rattle.query_parse.specs.Bodies.{Gives, count_of, count_or, from_of, size_of, is_body_field, unknown_field, query_of, known_body_at, body_at};
+ghost use Rattle.query_parse.specs.Bodies.{Gives, count_of, count_or, from_of, size_of, is_body_field, unknown_field, query_of, window_at, known_body_at, body_at};
 
-use crate::body::{BodyError, SearchBody};
-use crate::fault::QueryFault;
-use crate::query::Query;
+use crate::fault::{BodyError, QueryFault};
 use crate::reading::read_query;
 use crate::shape::member;
 use crate::sort_reading::read_sort;
-use crate::text::Text;
+use query_match::{Query, SearchBody, Text};
 use serde_json::{Map, Value};
 use std::alloc::Global;
 
@@ -90,6 +87,26 @@ fn query_or_all(alloc: Global, value: Option<&Value>) -> Result<Query, BodyError
     }
 }
 
+/// How many hits are passed over and how many are shown, 10,000 together at most.
+#[tactic(auto, unfolding(crate::specs::Bodies::window_at))]
+fn read_window(
+    alloc: Global,
+    members: &Map<String, Value>,
+    zero: bool,
+    least: u32,
+) -> Result<(u32, u32), BodyError>
+    ensures { Gives (λ w. w) result (window_at zero least (members_view members.now.entries)) }
+{
+    let from = read_from(alloc, zero, member(members, "from"))?;
+    let size = read_size(alloc, least, member(members, "size"))?;
+    let window = from as u64 + size as u64;
+    if window <= GREATEST_WINDOW {
+        Ok((from, size))
+    } else {
+        Err(BodyError::WindowTooLarge(window))
+    }
+}
+
 /// A body without unknown fields.
 #[tactic(auto, unfolding(crate::specs::Bodies::known_body_at))]
 fn read_known(
@@ -102,19 +119,13 @@ fn read_known(
 {
     let query = query_or_all(alloc, member(members, "query"))?;
     let sort = read_sort(alloc, member(members, "sort"))?;
-    let from = read_from(alloc, zero, member(members, "from"))?;
-    let size = read_size(alloc, least, member(members, "size"))?;
-    let window = from as u64 + size as u64;
-    if window <= GREATEST_WINDOW {
-        Ok(SearchBody {
-            query,
-            sort,
-            from,
-            size,
-        })
-    } else {
-        Err(BodyError::WindowTooLarge(window))
-    }
+    let (from, size) = read_window(alloc, members, zero, least)?;
+    Ok(SearchBody {
+        query,
+        sort,
+        from,
+        size,
+    })
 }
 
 /// The body of a search that a JSON value is, after Elasticsearch's search body: `query`, `sort`, `from`, `size`, and `track_total_hits`, which is passed over.

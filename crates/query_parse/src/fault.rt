@@ -1,9 +1,9 @@
-//! Why a JSON value is no query.
+//! Why a JSON value is no query, or no body of a search.
 
-ghost use Rattle.std.specs.Prelude.{◌≡◌};
+ghost use Rattle.std.specs.Prelude.{◌≡◌, IfOk};
 ghost use Rattle.query_parse.specs.declared.fault.QueryError.TheVariants.{Memory};
 
-use crate::text::Text;
+use query_match::Text;
 use std::alloc::{AllocError, AllocFailed};
 
 /// What is wrong with a query.
@@ -39,5 +39,92 @@ impl<T: Drop> From<AllocFailed<T>> for QueryError {
 
     fn from(_e: AllocFailed<T>) -> QueryError {
         QueryError::Memory
+    }
+}
+
+impl QueryError {
+    /// An equal error. It fails only for want of memory.
+    pub fn copy(&self) -> Result<QueryError, AllocError>
+        ensures { IfOk result (λ error. error ≡ self.now) }
+    {
+        match self {
+            QueryError::Bad { path, kind } => Ok(QueryError::Bad {
+                path: path.copy()?,
+                kind: *kind,
+            }),
+            QueryError::Memory => Ok(QueryError::Memory),
+        }
+    }
+}
+
+/// Why a body could not be read: the first fault, in the order of unknown fields, the query, the sort, `from`, `size` and the window.
+#[derive(Debug, Drop)]
+pub enum BodyError {
+    /// The first key, in the order of their bytes, that no body of a search has.
+    UnknownField(Text),
+    /// The first fault of the query. The path has the keys and the places of lists from `query` on, joined by dots. A body that is no object is a wrong value at the empty path.
+    BadQuery { path: Text, kind: QueryFault },
+    /// The field of the first wrong entry of the sort, or `sort` where it names none or there are more than 8.
+    BadSort(Text),
+    /// `from` or `size`, where it is no whole number from 0 to 2^32-1 or out of its range.
+    BadSize(Text),
+    /// The sum of `from` and `size`, where it is above 10,000.
+    WindowTooLarge(u64),
+    /// Memory ran out.
+    Memory,
+}
+
+impl From<AllocError> for BodyError {
+    ghost use Rattle.std.specs.Prelude.{◌≡◌};
+    ghost use Rattle.query_parse.specs.declared.fault.BodyError.TheVariants.{Memory};
+
+    ghost from_gives = { λ _ e. e ≡ Memory };
+
+    fn from(_e: AllocError) -> BodyError {
+        BodyError::Memory
+    }
+}
+
+impl<T: Drop> From<AllocFailed<T>> for BodyError {
+    ghost use Rattle.std.specs.Prelude.{◌≡◌};
+    ghost use Rattle.query_parse.specs.declared.fault.BodyError.TheVariants.{Memory};
+
+    ghost from_gives = { λ _ e. e ≡ Memory };
+
+    fn from(_e: AllocFailed<T>) -> BodyError {
+        BodyError::Memory
+    }
+}
+
+impl From<QueryError> for BodyError {
+    ghost use Rattle.std.specs.Prelude.{◌≡◌};
+    ghost use Rattle.query_parse.specs.Bodies.{body_error};
+
+    ghost from_gives = { λ e b. b ≡ body_error e };
+
+    fn from(error: QueryError) -> BodyError {
+        match error {
+            QueryError::Bad { path, kind } => BodyError::BadQuery { path, kind },
+            QueryError::Memory => BodyError::Memory,
+        }
+    }
+}
+
+impl BodyError {
+    /// An equal error. It fails only for want of memory.
+    pub fn copy(&self) -> Result<BodyError, AllocError>
+        ensures { IfOk result (λ error. error ≡ self.now) }
+    {
+        match self {
+            BodyError::UnknownField(field) => Ok(BodyError::UnknownField(field.copy()?)),
+            BodyError::BadQuery { path, kind } => Ok(BodyError::BadQuery {
+                path: path.copy()?,
+                kind: *kind,
+            }),
+            BodyError::BadSort(field) => Ok(BodyError::BadSort(field.copy()?)),
+            BodyError::BadSize(field) => Ok(BodyError::BadSize(field.copy()?)),
+            BodyError::WindowTooLarge(window) => Ok(BodyError::WindowTooLarge(*window)),
+            BodyError::Memory => Ok(BodyError::Memory),
+        }
     }
 }

@@ -4,21 +4,17 @@ ghost use Rattle.std.specs.Prelude.{◌≡◌, option_map};
 ghost use Rattle.serde_json.specs.Find.{as_str};
 ghost use Rattle.serde_json.specs.View.{view, items_view, members_view};
 ghost use Rattle.query_parse.specs.Answers.{Gives};
-ghost use Rattle.query_parse.specs.Found.{found_view};
+ghost use Rattle.query_match.specs.Found.{found_view};
 ghost use Rattle.query_parse.specs.Paths.{path_text};
 ghost use Rattle.query_parse.specs.Reading.{each_at, empty_at, term_at, terms_at, bound_of, bound_at, bounds_at, range_at, prefix_at, exists_at, ids_at, leaf_at};
-ghost use Rattle.query_parse.specs.Values.{value_of};
-ghost use Rattle.query_parse.specs.View.{query_view};
+ghost use Rattle.query_match.specs.Values.{value_of};
+ghost use Rattle.query_match.specs.View.{query_view};
 
 use crate::fault::{QueryError, QueryFault};
 use crate::form::Form;
-use crate::found::{Found, value_in};
-use crate::items::Items;
 use crate::path::Path;
-use crate::query::{Node, Range, Test};
-use crate::scalar::Scalar;
 use crate::shape::{has_bounds_alone, member, only_member, only_named, unwrapped};
-use crate::text::Text;
+use query_match::{Found, Items, Node, Range, Scalar, Test, Text, value_in};
 use serde_json::{Map, Value};
 use std::alloc::Global;
 

@@ -1,35 +1,16 @@
-//! Queries, sorts and bodies of searches, after Elasticsearch's Query DSL, narrowed: read exactly, matched exactly.
+//! Reading queries, sorts and bodies of searches from JSON, after Elasticsearch's Query DSL, narrowed: exactly the forms, or the first fault.
 #![tactic(auto)]
 
-mod best;
-mod body;
 mod body_reading;
-mod copying;
 mod fault;
-mod field_test;
 mod form;
-mod found;
-mod items;
 mod leaf;
-mod matching;
 mod path;
-mod query;
 mod reading;
-mod scalar;
 mod shape;
-mod sort;
 mod sort_reading;
-mod text;
 
-pub use body::{BodyError, SearchBody};
 pub use body_reading::read_body;
-pub use fault::{QueryError, QueryFault};
-pub use items::Items;
-pub use query::Query;
+pub use fault::{BodyError, QueryError, QueryFault};
+pub use query_match::{Items, KeyPart, Query, Scalar, SearchBody, SortBy, SortKey, Text, sort_key};
 pub use reading::read_query;
-pub use scalar::Scalar;
-pub use sort::{KeyPart, SortBy, SortKey, sort_key};
-pub use text::Text;
-
-#[cfg(test)]
-mod tests;

@@ -4,7 +4,7 @@ ghost use Rattle.query_parse.specs.Answers.{IsFault};
 ghost use Rattle.query_parse.specs.Reading.{under};
 
 use crate::fault::{QueryError, QueryFault};
-use crate::text::Text;
+use query_match::Text;
 use std::alloc::{AllocError, Global};
 
 /// Where a value lies in a query. It is written out only where a fault is told.

@@ -1,19 +1,18 @@
 //! Reading a query from a JSON value.
 
 ghost use Rattle.std.specs.Prelude.{◌≡◌, codes};
-ghost use Rattle.std.specs.List.{list_all};
 ghost use Rattle.serde_json.specs.View.{view, items_view, members_view};
 ghost use Rattle.query_parse.specs.Answers.{Gives};
 ghost use Rattle.query_parse.specs.Paths.{path_text};
 ghost use Rattle.query_parse.specs.Reading.{query_at, query_in, query_of, are_none, least_of, bool_at, clause_in, clause_at, queries_at, minimum_at};
-ghost use Rattle.query_parse.specs.View.{query_view, queries_view};
+ghost use Rattle.query_match.specs.View.{query_view, queries_view};
 
 use crate::fault::{QueryError, QueryFault};
 use crate::form::Form;
 use crate::leaf::read_leaf;
 use crate::path::Path;
-use crate::query::{Node, Query};
 use crate::shape::{has_clauses_alone, member, only_entry};
+use query_match::{Node, Query};
 use serde_json::{Map, Value};
 use std::alloc::Global;
 
@@ -181,7 +180,5 @@ fn read_list(alloc: Global, path: &Path<'_>, values: &[Value]) -> Result<Vec<Nod
 pub fn read_query(alloc: Global, value: &Value) -> Result<Query, QueryError>
     ensures { Gives (λ q. q) result (query_at (codes "query") (view value.now)) }
 {
-    Ok(Query {
-        node: read_node(alloc, &Path::Query, value)?,
-    })
+    Ok(Query::new(read_node(alloc, &Path::Query, value)?))
 }

@@ -4,11 +4,9 @@ ghost use Rattle.std.specs.Prelude.{◌≡◌, option_map};
 ghost use Rattle.serde_json.specs.View.{view, items_view};
 ghost use Rattle.query_parse.specs.Bodies.{Gives, direction_named, direction_of, named_entry, entry_of, entries_of, listed_entries, all_entries, is_doc_alone, without_doc, sort_of};
 
-use crate::body::BodyError;
-use crate::items::Items;
+use crate::fault::BodyError;
 use crate::shape::{only_member, only_named};
-use crate::sort::SortBy;
-use crate::text::Text;
+use query_match::{Items, SortBy, Text};
 use serde_json::Value;
 use std::alloc::Global;
 

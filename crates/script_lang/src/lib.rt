@@ -8,8 +8,6 @@ mod fields;
 mod kind;
 mod names;
 mod script;
-#[cfg(test)]
-mod tests;
 
 pub use command::{CancelTarget, Command, Mode, Script};
 pub use error::ScriptError;

@@ -1,4 +1,4 @@
-ghost use Rattle.std.specs.Prelude.{◌≡◌, ◌+◌, ◌<◌, ◌≤◌, [], length, IfOk};
+ghost use Rattle.std.specs.Prelude.{◌+◌, ◌<◌, ◌≤◌, [], length, IfOk};
 ghost use Rattle.std.specs.Str.Lines.{lines};
 ghost use Rattle.shard_docs.specs.Fault.{on_line};
 ghost use Rattle.script_lang.specs.Answers.{Gives};

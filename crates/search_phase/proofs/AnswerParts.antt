@@ -1,12 +1,11 @@
 -- The reply of a search, by its parts, and what is read off the fields of its root.
-use Rattle.std.specs.Prelude.{◌≡◌, ℕ, zero, suc, ◌-◌, ◌<◌, ◌==◌, List, [], ◌∷◌, Bool, true, false, not, ◌&&◌, is_some, Option, Some, None, map, filter_map, length, position, slice_get, slice_set, refl}
+use Rattle.std.specs.Prelude.{◌≡◌, ℕ, zero, suc, ◌-◌, ◌<◌, ◌==◌, List, [], ◌∷◌, true, false, Option, Some, None, map, filter_map, length, position, slice_get, slice_set, refl}
 use Rattle.std.proofs.Common.{sym, ◌∙◌, ap, arith}
 use Rattle.std.proofs.lemmas.Bool.{eq-eqb, ne_eqb}
 use Rattle.std.proofs.lemmas.List.{length-set}
 use Rattle.std.specs.List.{sum_by, last_or}
 use Rattle.task_ids.specs.declared.task_id.TaskId.{TaskId}
 use Rattle.task_events.specs.declared.request.SearchAsk.{SearchAsk}
-use Rattle.task_events.specs.declared.request.Request.{Request}
 use Rattle.task_events.specs.declared.reply.ShardTop.{ShardTop}
 use Rattle.task_events.specs.declared.reply.FailedShard.{FailedShard}
 use Rattle.task_events.specs.declared.reply.SearchReply.{SearchReply}
@@ -14,8 +13,8 @@ use Rattle.task_events.specs.declared.reply.Reply.{Reply}
 use Rattle.task_events.specs.declared.reply.Reply.TheVariants.{Search, AllFailed}
 use Rattle.task_events.specs.declared.step.Asked.{Asked}
 use Rattle.task_events.specs.Answers.{context_of}
-use Rattle.task_events.specs.Searches.{tops_in, winners_among, failed_in, hit_in, counted, search_reply, ask_or_end}
-use Rattle.search_phase.specs.Searching.{Searching, IsSearching, is_open, takes, with_answer, has_ended, does_wait, wants_to_ask, next_step}
+use Rattle.task_events.specs.Searches.{tops_in, winners_among, failed_in, hit_in, counted, search_reply}
+use Rattle.search_phase.specs.Searching.{Searching, IsSearching, is_open, takes, with_answer, has_ended, next_step}
 use Rattle.search_phase.proofs.Roots.{takes_none, takes_place, answer_at_place}
 use Rattle.search_phase.specs.declared.fetching.Fetching.{Fetching}
 use Rattle.search_phase.specs.FetchPhase.{fetching_of}
@@ -71,6 +70,30 @@ pub answer_put : (s : Searching) (ask : ℕ) (reply : Reply) (place : ℕ) (a : 
 answer_put s ask reply place a asked h w e =
     e ∙ (λ i. slice_set s.asked place (record { ask = w.number i; answer = Some reply })) ∙ sym (answer_at_place ask reply s.asked place a h.numbers w.at w.number)
 
+-- the search with an answer at the place of its ask
+pub record IsFed (s : Searching) (ask : ℕ) (reply : Reply) (place : ℕ) (new : List Asked) : Type 0 where
+  pub taken : takes s ask reply ≡ true
+  pub asks : Asked
+  pub waits : Waits s ask place asks
+  pub put : new ≡ slice_set s.asked place (record { ask = asks.ask; answer = Some reply })
+  pub same : new ≡ (with_answer s ask reply).asked
+
+-- by what is seen of the search and of its asks
+pub is_fed : (s shown : Searching) (ask : ℕ) (reply : Reply) (place : ℕ) (asked new : List Asked) (found : Option ℕ) → IsSearching s → s ≡ shown → takes shown ask reply ≡ true
+    → asked ≡ s.asked → found ≡ position (is_open ask) asked → found ≡ Some place
+    → ((a : Asked) → slice_get s.asked place ≡ Some a → new ≡ slice_set s.asked place (record { ask = a.ask; answer = Some reply })) → IsFed s ask reply place new
+is_fed s shown ask reply place asked new found h view t is looked there set = of_waits (waiting_at s ask reply place here at)
+  where
+    here : takes s ask reply ≡ true
+    here = ap (λ s. takes s ask reply) view ∙ t
+
+    at : position (is_open ask) s.asked ≡ Some place
+    at = ap (position (is_open ask)) (sym is) ∙ sym looked ∙ there
+
+    of_waits : (a : Asked) × Waits s ask place a → IsFed s ask reply place new
+    of_waits (a, w) = let put : new ≡ slice_set s.asked place (record { ask = a.ask; answer = Some reply }) = set a w.at in
+        record { taken = here; asks = a; waits = w; put = put; same = answer_put s ask reply place a new h w put }
+
 set_back : {X : Type 0} (xs : List X) (i : ℕ) (x y : X) → slice_get xs i ≡ Some x → slice_set (slice_set xs i y) i x ≡ xs
 set_back [] i x y e = refl
 set_back (z ∷ zs) zero x y e = let f : x ≡ z = cc in ap (λ w. w ∷ zs) f
@@ -100,15 +123,3 @@ ended_is_known s fetching capacity h e none =
     let known : fetching ≡ Some (fetching_of s.ask (tops_in s.shards s.asked)) = h.fetching_is ∙ rw (ended s e).queried refl in
     let f : None ≡ Some (fetching_of s.ask (tops_in s.shards s.asked)) = sym none ∙ known in
     cc
-
--- ---- what comes next, without the request itself
-
-pub waits_by : (o : Option Request) (answered : Bool) (reply : Reply) → does_wait (ask_or_end o answered reply) ≡ (not (is_some o) && not answered)
-waits_by (Some request) answered reply = refl
-waits_by None true reply = refl
-waits_by None false reply = refl
-
-pub asks_where : (o : Option Request) (answered : Bool) (reply : Reply) → wants_to_ask (ask_or_end o answered reply) ≡ is_some o
-asks_where (Some request) answered reply = refl
-asks_where None true reply = refl
-asks_where None false reply = refl

@@ -4,8 +4,6 @@ use Rattle.std.proofs.Common.{sym, ◌∙◌, ap, arith, inl, inr}
 use Rattle.std.proofs.lemmas.Bool.{leb-true, leb-false, le-leb}
 use Rattle.std.proofs.lemmas.List.{length-append, take-append-le, take_all}
 use Rattle.std.specs.List.{list_all}
-use Rattle.task_ids.specs.declared.task_id.TaskId.{TaskId}
-use Rattle.task_ids.specs.Limits.{IsShardCount}
 use Rattle.task_events.specs.declared.request.SearchAsk.{SearchAsk}
 use Rattle.task_events.specs.declared.request.Request.{Request}
 use Rattle.task_events.specs.declared.request.Request.TheVariants.{Fetch}
@@ -14,7 +12,7 @@ use Rattle.task_events.specs.declared.reply.Reply.{Reply}
 use Rattle.task_events.specs.declared.step.Asked.{Asked}
 use Rattle.task_events.specs.Possible.{can_have}
 use Rattle.task_events.specs.Searches.{tops_in, fetches_of, are_answered, has_queried, requests_of, ask_or_end}
-use Rattle.search_phase.specs.Searching.{Searching, IsSearching, EachAnswer, AreRising, new_search, next_step, wants_to_ask, is_above, with_ask}
+use Rattle.search_phase.specs.Searching.{Searching, IsSearching, EachAnswer, AreRising, next_step, wants_to_ask, is_above, with_ask}
 use Rattle.search_phase.proofs.Sorting.{by_test}
 use Rattle.search_phase.proofs.Lookups.{list_all-append}
 use Rattle.search_phase.proofs.Requests.{query_requests, requests_before, slice_get_below}
@@ -102,11 +100,3 @@ IsSearching-ask s number h plans above =
       in_order = omega (arith, length-append s.asked (record { ask = number; answer = None } ∷ []));
       possible = EachAnswer-ask (λ request reply. can_have s.shards request reply ≡ true) s number h.possible;
     }
-
-pub IsSearching-new : (task : TaskId) (ask : SearchAsk) (shards : ℕ) → IsShardCount shards → IsSearching (new_search task ask shards)
-IsSearching-new task ask shards h = record {
-  shards_in_range = h;
-  numbers = tt;
-  in_order = omega arith;
-  possible = λ place a request reply at asks answered. absurd cc;
-}

@@ -1,5 +1,5 @@
 -- What is known of a query and of a fetch stays when the shard grows.
-use Rattle.std.specs.Prelude.{◌≡◌, ℕ, ◌*◌, ◌<◌, ◌≤◌, ◌==◌, cond, List, [], ◌++◌, Option, Some, None, IfSome, option_map, unwrap_or, filter_map, take, length, filter, refl}
+use Rattle.std.specs.Prelude.{◌≡◌, ℕ, ◌*◌, ◌<◌, ◌≤◌, ◌==◌, cond, List, [], ◌++◌, Option, Some, None, IfSome, option_map, unwrap_or, filter_map, take, length, refl}
 use Rattle.std.specs.Map.{lookup}
 use Rattle.std.proofs.Common.{sym, ◌∙◌, ap, subst, arith, true≢false}
 use Rattle.std.proofs.lemmas.List.{take-append-le, take_all}
@@ -8,8 +8,7 @@ use Rattle.task_ids.specs.Rows.{living_rows}
 use Rattle.task_events.specs.declared.request.HitKey.{HitKey}
 use Rattle.task_events.specs.declared.request.ShardAsk.{ShardAsk}
 use Rattle.task_events.specs.declared.request.FetchAsk.{FetchAsk}
-use Rattle.task_events.specs.Answers.{shard_top, hit_at, fetched, keys_among, window}
-use Rattle.task_events.specs.HitOrder.{in_hit_order, is_after}
+use Rattle.task_events.specs.Answers.{hit_at, window}
 use Rattle.task_events.specs.Searches.{rows_per_turn, is_done}
 use Rattle.search_phase.specs.Queries.{QueryState, IsQueried, new_query, version_at, keys_below, first_keys, queried, without_keys}
 use Rattle.search_phase.specs.Fetches.{FetchState, IsFetched, new_fetch, hits_of_first, fetched_in}
@@ -57,13 +56,6 @@ IsQueried-grow q writes more within h = record { version_asked = h.version_asked
         unturned : (n : ℕ) → (0 < n → ⊥) → n ≡ 0
         unturned n never = omega (arith, never)
 
-pub shard_top-grow : (ask : ShardAsk) (version : ℕ) (writes more : List Doc) → version ≤ length writes → shard_top ask version (writes ++ more) ≡ shard_top ask version writes
-shard_top-grow ask version writes more within =
-    ap (λ first.
-    let found = keys_among ask.body ask.slice ask.shard (living_rows 0 first) in
-    record { shard = ask.shard; version = version; count = length found; keys = take (window ask.body) (in_hit_order (filter (is_after ask.after) found)) })
-    (take-append-le version writes more within)
-
 -- ---- fetches
 
 hits-grow : (ask : FetchAsk) (places : List ℕ) (writes more : List Doc) → ask.version ≤ length writes
@@ -71,9 +63,6 @@ hits-grow : (ask : FetchAsk) (places : List ℕ) (writes more : List Doc) → as
 hits-grow ask places writes more within =
     ap (λ first. filter_map (λ place. option_map (λ doc. record { index = ask.index; doc = doc; place = place }) (lookup (λ other. place == other) (living_rows 0 first))) places)
     (take-append-le ask.version writes more within)
-
-pub fetched-grow : (ask : FetchAsk) (writes more : List Doc) → ask.version ≤ length writes → fetched ask (writes ++ more) ≡ fetched ask writes
-fetched-grow ask writes more within = hits-grow ask ask.places writes more within
 
 pub IsFetched-grow : (f : FetchState) (writes more : List Doc) → f.ask.version ≤ length writes → IsFetched f writes → IsFetched f (writes ++ more)
 IsFetched-grow f writes more within h =

@@ -6,8 +6,8 @@ use Rattle.std.specs.declared.cmp.Ordering.TheVariants.{Less, Equal, Greater}
 use Rattle.std.specs.Ordering.{nat_cmp, ordering_then, ordering_reverse, is_le, is_gt}
 use Rattle.std.specs.Cmp.{IsTotalOrder, then_total, on_total, nat_cmp_total, upto}
 use Rattle.std.specs.FinMap.{nat_cmp-IsAntisymmetric}
-use Rattle.query_parse.specs.Sorting.{key_cmp}
-use Rattle.query_parse.specs.Orders.{key_cmp_total, key_cmp_equal}
+use Rattle.query_match.specs.Sorting.{key_cmp}
+use Rattle.query_match.specs.Orders.{key_cmp_total, key_cmp_equal}
 use Rattle.task_events.specs.declared.request.HitKey.{HitKey}
 use Rattle.task_events.specs.HitOrder.{hit_cmp, placed, in_hit_order}
 use Rattle.search_phase.proofs.Sorting.{IsLinear, put, put_all}

@@ -1,12 +1,12 @@
 -- Hit order moves keys only, and the same keys in order are in hit order.
-use Rattle.std.specs.Prelude.{◌≡◌, ℕ, zero, suc, ◌+◌, ◌<◌, Bool, true, false, cond, List, [], ◌∷◌, ◌++◌, length, map, IsSorted, IsPermutation, refl}
+use Rattle.std.specs.Prelude.{◌≡◌, ℕ, zero, suc, ◌+◌, ◌<◌, Bool, true, false, cond, List, [], ◌∷◌, length, map, IsSorted, IsPermutation, refl}
 use Rattle.std.specs.List.{AllByRecursion, swap}
 use Rattle.std.specs.declared.cmp.Ordering.{Ordering}
 use Rattle.std.specs.declared.cmp.Ordering.TheVariants.{Less, Equal, Greater}
 use Rattle.std.specs.Ordering.{ordering_reverse, is_lt, is_le}
 use Rattle.std.proofs.Common.{sym, ◌∙◌, ap, arith, get_or, set, true≢false, add-one}
 use Rattle.std.proofs.lemmas.List.{get_or-map, length-map}
-use Rattle.std.proofs.lemmas.List.Sorted.{IsPermutation-refl, IsPermutation-sym, IsPermutation-cons, IsPermutation-trans, IsPermutation-middle, IsPermutation-keeps, IsPermutation-map, IsPermutation-append_left}
+use Rattle.std.proofs.lemmas.List.Sorted.{IsPermutation-refl, IsPermutation-sym, IsPermutation-cons, IsPermutation-trans, IsPermutation-middle, IsPermutation-keeps, IsPermutation-map}
 use denote.Ref.{Bor}
 use Rattle.task_events.specs.declared.request.HitKey.{HitKey}
 use Rattle.task_events.specs.HitOrder.{hit_cmp, placed, in_hit_order}
@@ -55,10 +55,6 @@ swapped (key ∷ keys) i j p q = exchanged (key ∷ keys) i j key p q
 -- the same keys have one hit order
 pub in_hit_order-permuted : (xs ys : List HitKey) → IsPermutation xs ys → in_hit_order xs ≡ in_hit_order ys
 in_hit_order-permuted xs = IsPermutation-keeps xs (λ ys. in_hit_order xs ≡ in_hit_order ys) refl (λ ys i j p q h. h ∙ swapped ys i j p q)
-
--- keys that were put in order before do as well as the keys themselves
-pub in_hit_order-append : (xs ys : List HitKey) → in_hit_order (in_hit_order xs ++ ys) ≡ in_hit_order (xs ++ ys)
-in_hit_order-append xs ys = in_hit_order-permuted _ _ (IsPermutation-append_left ys _ _ (IsPermutation-sym _ _ (in_hit_order-permutation xs)))
 
 -- ---- in order
 

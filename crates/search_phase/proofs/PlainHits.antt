@@ -7,7 +7,7 @@ use Rattle.std.specs.Option.{option_or}
 use Rattle.std.specs.Map.{lookup}
 use Rattle.task_ids.specs.declared.doc.Doc.{Doc}
 use Rattle.task_ids.specs.Rows.{Row, rows_at, row_at}
-use Rattle.query_parse.specs.declared.body.SearchBody.{SearchBody}
+use Rattle.query_match.specs.declared.body.SearchBody.{SearchBody}
 use Rattle.task_events.specs.declared.request.HitKey.{HitKey}
 use Rattle.task_events.specs.declared.request.SearchAsk.{SearchAsk}
 use Rattle.task_events.specs.declared.reply.Hit.{Hit}

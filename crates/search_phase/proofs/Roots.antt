@@ -1,15 +1,12 @@
 -- A search's requests and answers, by the fields of its root.
-use Rattle.std.specs.Prelude.{◌≡◌, ℕ, zero, suc, min, ◌+◌, ◌-◌, ◌*◌, ◌<◌, ◌≤◌, ◌==◌, List, [], ◌∷◌, ◌++◌, Bool, true, false, not, ◌&&◌, nat_lt, nat_le, cond, Option, Some, None, is_some, option_map, option_and_then, map, filter, filter_map, find, zip, take, length, position, slice_get, slice_set, refl}
+use Rattle.std.specs.Prelude.{◌≡◌, ℕ, zero, suc, min, ◌+◌, ◌-◌, ◌*◌, ◌<◌, ◌≤◌, ◌==◌, List, [], ◌∷◌, ◌++◌, Bool, true, false, not, ◌&&◌, nat_lt, cond, Option, Some, None, is_some, option_map, option_and_then, map, filter, filter_map, find, zip, take, length, position, slice_get, slice_set, refl}
 use Rattle.std.proofs.Common.{sym, ◌∙◌, ap, subst, arith}
-use Rattle.std.proofs.lemmas.Bool.{leb-true, lt-ltb, le-ltb, ltb-true, ltb-false, eqb-true, eq-eqb, ne_eqb}
+use Rattle.std.proofs.lemmas.Bool.{lt-ltb, le-ltb, ltb-true, ltb-false, eqb-true, eq-eqb, ne_eqb}
 use Rattle.std.proofs.lemmas.List.{length-map, length-take}
 use Rattle.std.proofs.lemmas.Option.{slice_get_past}
 use Rattle.std.specs.List.{position_or_len, cons_option, list_all}
 use Rattle.std.specs.Map.{lookup}
 use Rattle.std.specs.Option.{option_map_or}
-use Rattle.task_ids.specs.declared.task_id.TaskId.{TaskId}
-use Rattle.task_ids.specs.Limits.{IsShardCount}
-use Rattle.task_events.specs.declared.request.SearchAsk.{SearchAsk}
 use Rattle.task_events.specs.declared.request.FetchAsk.{FetchAsk}
 use Rattle.task_events.specs.declared.request.Request.{Request}
 use Rattle.task_events.specs.declared.request.Request.TheVariants.{Fetch}
@@ -19,12 +16,12 @@ use Rattle.task_events.specs.declared.step.Asked.{Asked}
 use Rattle.task_events.specs.Possible.{can_have}
 use Rattle.task_events.specs.Searches.{top_of, tops_in, won_tops, winners_among, has_winner, fetch_of, fetches_of, has_queried, requests_of}
 use Rattle.search_phase.specs.declared.fetching.Fetching.{Fetching}
-use Rattle.search_phase.specs.Searching.{Searching, AreRising, next_request, next_step, wants_to_ask, is_above, with_ask, is_open, awaited, takes, answered_by, with_answer, new_search}
+use Rattle.search_phase.specs.Searching.{Searching, AreRising, next_request, next_step, wants_to_ask, is_above, with_ask, is_open, awaited, takes, answered_by, with_answer}
 use Rattle.search_phase.specs.FetchPhase.{fetching_of, fetching_in, request_by, fetch_by}
 use Rattle.search_phase.specs.Roots.{IsRoot}
 use Rattle.search_phase.proofs.Sorting.{by_test}
 use Rattle.search_phase.proofs.Requests.{list_all-slice_get, query_requests, requests_after, request_of_query, slice_get-append_right, length-query_requests, length-requests_after, length-requests_before, slice_get_below}
-use Rattle.search_phase.proofs.Asks.{IsSearching-new, IsSearching-ask, asks_by, has_queried-ask, tops_in-ask}
+use Rattle.search_phase.proofs.Asks.{IsSearching-ask, asks_by, has_queried-ask, tops_in-ask}
 use Rattle.search_phase.proofs.Answered.{IsAwaited, awaited_at, taken, IsSearching-answer, still_queried, tops_stay, untouched_above}
 
 -- ---- the request at a place
@@ -217,16 +214,6 @@ module _ (s : Searching) (fetching : Option Fetching) (capacity : ℕ) (h : IsRo
       of_taken (request, waits, can) =
           let at : (place : ℕ) × (a : Asked) × IsAwaited s ask request place a = awaited_at s ask request waits in
           h.fetching_is ∙ sym (fetching_stays ask at.0 reply request at.1 at.2 queried)
-
-pub IsRoot-new : (task : TaskId) (ask : SearchAsk) (shards capacity : ℕ) → IsShardCount shards → 2 * shards ≤ capacity → IsRoot (new_search task ask shards) None capacity
-IsRoot-new task ask shards capacity h room =
-    record { search = IsSearching-new task ask shards h; fetching_is = sym (none shards h); room = room }
-  where
-    none : (n : ℕ) → IsShardCount n → fetching_in ask n [] ≡ None
-    none zero h = absurd (let l : 1 ≤ 0 = h.0 in omega arith)
-    none (suc n) h =
-        let few : nat_le (suc n) 0 ≡ false = by_test (nat_le (suc n) 0) (λ yes. absurd (let l : suc n ≤ 0 = leb-true (suc n) 0 yes in omega arith)) (λ other. other) in
-        rw few refl
 
 -- ---- the place of an answer
 

@@ -17,7 +17,7 @@ use task_ids::{Doc, Items};
 const PLACES_PER_TURN: usize = 1024;
 
 /// What a turn of a fetch answers.
-#[derive(Debug, Drop)]
+#[derive(Drop)]
 pub enum FetchAnswer {
     /// Places are left to look up.
     More,

@@ -11,7 +11,7 @@ use task_events::{Asked, FetchAsk, HitKey, Reply, SearchAsk, ShardTop};
 use task_ids::Items;
 
 /// What the fetch phase is about, once all queries are answered.
-#[derive(Debug, Drop)]
+#[derive(Drop)]
 pub(crate) struct Fetching {
     /// The keys that the search shows, in hit order.
     pub(crate) won: Items<HitKey>,

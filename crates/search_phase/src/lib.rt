@@ -17,8 +17,3 @@ pub use fetch::{FetchAnswer, ShardFetch};
 pub use merging::merge;
 pub use query::{ShardQuery, TurnAnswer};
 pub use root::{RootPlan, SearchRoot};
-
-#[cfg(test)]
-mod root_tests;
-#[cfg(test)]
-mod shard_tests;

@@ -1,11 +1,10 @@
 //! Looking at the rows of a shard.
 
-ghost use Rattle.std.specs.Prelude.{◌≡◌, ◌≤◌, ◌++◌, ◌&&◌, IfOk, Some, None, if◌then◌else◌};
-ghost use Rattle.serde_json.specs.View.{view};
+ghost use Rattle.std.specs.Prelude.{◌≡◌, ◌≤◌, ◌++◌, ◌&&◌, IfOk, Some, None};
 ghost use Rattle.task_events.specs.Answers.{is_in_slice, is_found, hit_key};
 ghost use Rattle.search_phase.specs.Queries.{keys_below};
 
-use query_parse::sort_key;
+use query_match::sort_key;
 use shard_docs::{Shard, slice_of};
 use std::alloc::{AllocError, Global};
 use task_events::{HitKey, ShardAsk, SlicePick};

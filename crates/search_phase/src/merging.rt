@@ -1,6 +1,6 @@
 //! One list of the keys of several shards.
 
-ghost use Rattle.std.specs.Prelude.{◌≡◌, ◌++◌, IfOk, OnOk, length, take, drop, map};
+ghost use Rattle.std.specs.Prelude.{◌≡◌, ◌++◌, IfOk, OnOk, take, drop, map};
 ghost use Rattle.std.specs.List.{flat_map};
 ghost use Rattle.task_events.specs.HitOrder.{in_hit_order};
 ghost use Rattle.search_phase.specs.Merged.{merged_keys};

@@ -19,7 +19,7 @@ use task_ids::Items;
 const ROWS_PER_TURN: u32 = 1024;
 
 /// What a turn of a query answers.
-#[derive(Debug, Drop)]
+#[derive(Drop)]
 pub enum TurnAnswer {
     /// Rows are left to look at.
     More,

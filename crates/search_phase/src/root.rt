@@ -18,7 +18,7 @@ use task_events::{Asked, Reply, Request, SearchAsk};
 use task_ids::TaskId;
 
 /// What a search does next.
-#[derive(Debug, Drop)]
+#[derive(Drop)]
 pub enum RootPlan {
     /// It asks for a child.
     Ask(Request),
@@ -32,7 +32,7 @@ pub enum RootPlan {
 /// shard, merges their keys, asks each shard with a winner for its documents, and puts the answer together.
 ///
 /// A shard whose query or fetch was cancelled or rejected has failed, and the others' hits remain.
-#[derive(Debug, Drop)]
+#[derive(Drop)]
 pub struct SearchRoot {
     task: TaskId,
     ask: SearchAsk,

@@ -69,8 +69,8 @@ fn document_of(
 ///
 /// A document is an action line and a line with its source, after Elasticsearch's bulk API: `{"index":{"_index":I}}` or
 /// `{"create":{"_index":I}}`, maybe with an `_id`, a text or a whole number; without one its id is `auto-` and the number
-/// of the action's line. The error is the first bad line and the first of its causes in the order of `Cause`; or want of
-/// memory.
+/// of the action's line. The error is the first bad line and the first of its causes in the order of `Cause`, where an action
+/// line without a source comes after its own causes; or want of memory.
 pub fn read_corpus(alloc: Global, bytes: &[u8]) -> Result<CorpusRead, CorpusError>
     requires { length bytes.now ≤ 67108864 }
     ensures gives { Gives (read_of bytes.now) result (corpus_of (lines bytes.now)) }

@@ -9,8 +9,6 @@ mod lines;
 mod placing;
 mod seen;
 mod shard;
-#[cfg(test)]
-mod tests;
 
 pub use corpus::{CorpusRead, read_corpus};
 pub use fault::CorpusError;

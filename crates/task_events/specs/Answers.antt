@@ -2,9 +2,9 @@
 use Rattle.std.specs.Prelude.{ℕ, ◌+◌, List, Bool, true, not, ◌&&◌, ◌||◌, ◌==◌, if◌then◌else◌, Option, Some, None, is_some, option_map, option_and_then, map, filter, filter_map, take, drop, length}
 use Rattle.std.specs.List.{list_any, flat_map, last_or}
 use Rattle.std.specs.Map.{lookup}
-use Rattle.query_parse.specs.declared.body.SearchBody.{SearchBody}
-use Rattle.query_parse.specs.Matching.{matches}
-use Rattle.query_parse.specs.Sorting.{key_of}
+use Rattle.query_match.specs.declared.body.SearchBody.{SearchBody}
+use Rattle.query_match.specs.Matching.{matches}
+use Rattle.query_match.specs.Sorting.{key_of}
 use Rattle.task_ids.specs.declared.task_id.TaskId.{TaskId}
 use Rattle.task_ids.specs.declared.doc.Doc.{Doc}
 use Rattle.task_ids.specs.Placing.{slice_of}

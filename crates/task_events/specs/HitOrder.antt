@@ -3,7 +3,7 @@ use Rattle.std.specs.Prelude.{Bool, true, List, [], ◌∷◌, Option, if◌then
 use Rattle.std.specs.declared.cmp.Ordering.{Ordering}
 use Rattle.std.specs.Ordering.{nat_cmp, ordering_then, is_lt, is_le}
 use Rattle.std.specs.Option.{option_map_or}
-use Rattle.query_parse.specs.Sorting.{key_cmp}
+use Rattle.query_match.specs.Sorting.{key_cmp}
 use Rattle.task_events.specs.declared.request.HitKey.{HitKey}
 
 abbrev pub hit_cmp : HitKey → HitKey → Ordering

@@ -3,7 +3,7 @@ use Rattle.std.specs.Prelude.{ℕ, ◌*◌, List, [], ◌++◌, length, Bool, tr
 use Rattle.std.specs.List.{list_any, list_all, flat_map, sum_by, last_or, range_with_len}
 use Rattle.std.specs.Option.{option_or}
 use Rattle.std.specs.Map.{lookup}
-use Rattle.query_parse.specs.declared.body.SearchBody.{SearchBody}
+use Rattle.query_match.specs.declared.body.SearchBody.{SearchBody}
 use Rattle.task_ids.specs.declared.task_id.TaskId.{TaskId}
 use Rattle.task_ids.specs.declared.doc.Doc.{Doc}
 use Rattle.task_events.specs.declared.request.HitKey.{HitKey}

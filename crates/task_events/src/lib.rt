@@ -18,6 +18,3 @@ pub use reply::{Counts, FailedShard, Hit, Reply, SearchReply, ShardCount, ShardF
 pub use request::{FetchAsk, HitKey, Request, SearchAsk, ShardAsk, SlicePick};
 pub use step::{Asked, Do};
 pub use stop::Stop;
-
-#[cfg(test)]
-mod tests;

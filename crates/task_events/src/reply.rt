@@ -1,3 +1,6 @@
+ghost use Rattle.std.specs.Prelude.{◌≡◌};
+ghost use Rattle.task_events.specs.Tasks.{no_counts};
+
 use crate::request::HitKey;
 use task_ids::{Boxed, Doc, Items, TaskId, Text};
 
@@ -22,6 +25,25 @@ pub enum Reply {
     Rejected {
         node: u32,
     },
+}
+
+impl Reply {
+    /// The reply of a task that has written nothing, and that a cancellation of this number has ended. It takes no memory.
+    pub fn cancelled(task: TaskId, cancel: u32) -> Reply
+        ensures { result ≡ Reply.Cancelled task cancel no_counts }
+    {
+        Reply::Cancelled {
+            task,
+            cancel,
+            counts: Counts {
+                total: 0,
+                created: 0,
+                updated: 0,
+                batches: 0,
+                failures: 0,
+            },
+        }
+    }
 }
 
 /// What a writing task has done. All are zero for other tasks.

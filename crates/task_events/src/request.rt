@@ -1,6 +1,6 @@
 ghost use Rattle.std.specs.Prelude.{◌<◌};
 
-use query_parse::{SearchBody, SortKey};
+use query_match::{SearchBody, SortKey};
 use task_ids::{Boxed, Items, TaskId, Text};
 
 /// What a task is asked to do.

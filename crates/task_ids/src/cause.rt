@@ -3,8 +3,8 @@ ghost use Rattle.task_ids.specs.Cause.{cause_text};
 
 use std::fmt;
 
-/// Why an input is refused. Within a line the first cause in this order counts, but for `NotBuilt`, which
-/// stands for forms that are still to come.
+/// Why an input is refused. Within a line the first cause in this order counts, but for `NoSource`, which is looked for
+/// after the other causes of its action line, and for `NotBuilt`, which stands for forms that are still to come.
 #[derive(Clone, Copy, Debug, PartialEq, Eq)]
 pub enum Cause {
     /// The input has more than 67,108,864 bytes. It comes before all lines, at line 0.

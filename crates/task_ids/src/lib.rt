@@ -23,6 +23,3 @@ pub use items::Items;
 pub use task_id::{Malformed, TaskId};
 pub use task_info::{Headers, NewTask, TaskInfo};
 pub use text::Text;
-
-#[cfg(test)]
-mod tests;

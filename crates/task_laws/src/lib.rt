@@ -1,7 +1,7 @@
 //! The laws of cancellation, over every lawful history.
 #![tactic(auto)]
 
-ghost use Rattle.std.specs.Prelude.{◌≡◌, ◌≢◌, ◌<◌, ◌≤◌, ◌∷◌, ◌++◌, ◌⊎◌, List, Option, Some, None, Bool, true, false, ℕ};
+ghost use Rattle.std.specs.Prelude.{◌≡◌, ◌∷◌, ◌++◌, List, Some, None, true, false, ℕ};
 ghost use Rattle.task_events.specs.declared.event.Event.{Event};
 ghost use Rattle.task_laws.specs.Example.{IsId, example};
 ghost use Rattle.task_events.specs.Lawful.{Lawful};
@@ -129,21 +129,3 @@ pub fn example_is_lawful(cluster: Cluster, root: TaskId, early: TaskId, late: Ta
     ensures lawful { Lawful cluster (example root early late) }
     ensures late { late_ban late (example root early late) ≡ Some 2 }
 {}
-
-#[cfg(test)]
-mod tests {
-    use super::*;
-
-    #[test]
-    fn the_example_has_ids() {
-        let cluster = Cluster {
-            nodes: 2,
-            shards: 1,
-            slots: 2,
-        };
-        let root = TaskId { node: 1, number: 1 };
-        let early = TaskId { node: 2, number: 1 };
-        let late = TaskId { node: 2, number: 2 };
-        example_is_lawful(cluster, root, early, late);
-    }
-}

@@ -4,8 +4,6 @@
 mod ended;
 mod rows;
 mod table;
-#[cfg(test)]
-mod tests;
 mod ticket;
 
 pub use ended::{Ended, MarkAnswer, PutError};

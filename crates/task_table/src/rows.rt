@@ -1,4 +1,4 @@
-ghost use Rattle.std.specs.Prelude.{◌≡◌, ◌≢◌, ◌+◌, ◌<◌, ◌↔◌, ℕ, length, IsTrue, IfSome, IfNone, All, HoldsAt};
+ghost use Rattle.std.specs.Prelude.{◌≡◌, ◌≢◌, ◌<◌, ◌↔◌, length, IsTrue, IfSome, IfNone, All, HoldsAt};
 ghost use Rattle.task_table.specs.Rows.{IsAscending, row_for, without_number, mark_among, IsUnmarkedChild};
 
 use task_ids::{NewTask, TaskId, TaskInfo};

@@ -1,4 +1,4 @@
-ghost use Rattle.std.specs.Prelude.{◌≡◌, ◌+◌, ◌<◌, ◌≤◌, ◌↔◌, ℕ, length, IsErrOf, IfOk, IfErr, OnErr, IfSome, IfNone, All, Any};
+ghost use Rattle.std.specs.Prelude.{◌≡◌, ◌+◌, ◌<◌, ◌≤◌, ◌↔◌, length, IsErrOf, IfOk, IfErr, OnErr, IfSome, IfNone, All, Any};
 ghost use Rattle.task_ids.specs.Limits.{IsNode, IsSlotCount, IsCancel};
 ghost use Rattle.child_track.specs.Token.{token_parent};
 ghost use Rattle.child_track.specs.Track.{unanswered, sealed};

@@ -1,12 +1,6 @@
-pub mod EndLemmas
-pub mod FoundLemmas
-pub mod KnownLemmas
 pub mod NumberLemmas
 pub mod OptionLemmas
-pub mod PrintLemmas
 pub mod ProgressLemmas
 pub mod ReadingLaws
 pub mod RootLaws
 pub mod TopLemmas
-pub mod TurnLemmas
-pub mod WholeLemmas

@@ -12,11 +12,11 @@ use Rattle.task_events.specs.Laws.{IsDrained}
 use Rattle.task_events.specs.Turns.{is_begin, begun, history_before}
 use Rattle.script_lang.specs.declared.command.Command.{Command}
 use Rattle.script_lang.specs.declared.command.Script.{Script}
-use Rattle.world_steps.specs.Cancels.{AllAnswered}
+use Rattle.world_moves.specs.Cancels.{AllAnswered}
 use Rattle.world_steps.specs.Scripts.{IsTurn, Commands, PartlyCommands, Drains, PartlyDrains, HasRun, IsRunSoFar, StopsRun}
 use Rattle.world_steps.specs.World.{WorldView}
-use Rattle.task_top.specs.declared.printing.idle.Idle.{Idle}
-use Rattle.task_top.specs.Lines.{idle_of}
+use Rattle.line_print.specs.declared.idle.Idle.{Idle}
+use Rattle.line_print.specs.Lines.{idle_of}
 use Rattle.task_top.specs.Progress.{NotesAll, HasCome, EndsEarly, EndsWhole}
 
 -- ---- a turn

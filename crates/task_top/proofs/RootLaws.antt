@@ -14,7 +14,7 @@ use Rattle.task_events.specs.Turns.{is_begin, begun, events_while}
 use Rattle.task_laws.proofs.Asks.{AskFacts, ask_facts}
 use Rattle.task_laws.proofs.Same.{same_tests}
 use Rattle.task_laws.proofs.Tree.{from_parent, tree_facts}
-use Rattle.task_top.specs.Lines.{first_in, root_in}
+use Rattle.line_print.specs.Lines.{first_in, root_in}
 use Rattle.task_top.specs.Promises.{CancelsExactly}
 
 -- ---- the task of a command

@@ -9,7 +9,7 @@ use Rattle.world_steps.specs.Scripts.{IsRun, IsRunSoFar, StopsRun}
 use Rattle.task_top.specs.declared.kept.Kept.{Kept}
 use Rattle.task_top.specs.declared.status.Status.{Status}
 use Rattle.task_top.specs.declared.status.Status.TheVariants.{Done, Usage, Refused, ReadFault, WriteFault, Memory, NoThread, HistoryFull, NumbersSpent}
-use Rattle.task_top.specs.Lines.{printed}
+use Rattle.line_print.specs.Lines.{printed}
 use Rattle.task_top.specs.Promises.{IsOver}
 use Rattle.task_top.specs.Reading.{Reads, Refuses}
 

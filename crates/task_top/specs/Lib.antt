@@ -1,8 +1,4 @@
-pub mod Ends
-pub mod Errors
 pub mod Kept
-pub mod Lines
-pub mod Looked
 pub mod Options
 pub mod Plan
 pub mod Progress

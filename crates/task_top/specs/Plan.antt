@@ -1,7 +1,6 @@
 -- The command lines that are accepted.
-use Rattle.std.specs.Prelude.{◌≡◌, ℕ, List, [], ◌∷◌, codes, if◌then◌else◌, Option, None}
+use Rattle.std.specs.Prelude.{ℕ, List, [], ◌∷◌, codes, if◌then◌else◌, Option, None}
 use Rattle.std.specs.Str.{bytes_eq}
-use Rattle.task_ids.specs.declared.cluster.Cluster.{Cluster}
 use Rattle.task_top.specs.declared.plans.Plan.{Plan}
 use Rattle.task_top.specs.declared.plans.Plan.TheVariants.{Sim}
 use Rattle.task_top.specs.Options.{Size, size_of, size_asked}

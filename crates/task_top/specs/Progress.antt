@@ -9,11 +9,11 @@ use Rattle.task_events.specs.Laws.{IsDrained}
 use Rattle.task_events.specs.Turns.{begun, history_before}
 use Rattle.script_lang.specs.declared.command.Command.{Command}
 use Rattle.script_lang.specs.declared.command.Script.{Script}
-use Rattle.world_steps.specs.Cancels.{AllAnswered}
+use Rattle.world_moves.specs.Cancels.{AllAnswered}
 use Rattle.world_steps.specs.Scripts.{HasRun, IsRun, IsRunSoFar, StopsRun}
 use Rattle.world_steps.specs.World.{WorldView}
-use Rattle.task_top.specs.declared.printing.idle.Idle.{Idle}
-use Rattle.task_top.specs.Lines.{idle_of, IsFound}
+use Rattle.line_print.specs.declared.idle.Idle.{Idle}
+use Rattle.line_print.specs.Lines.{idle_of, IsFound}
 
 -- before each of the first commands, so many, it was noted why it makes nothing happen if it does not
 abbrev pub NotesAll : List Command → List Event → ℕ → List (Option Idle) → Type 0

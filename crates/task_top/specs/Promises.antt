@@ -8,8 +8,8 @@ use Rattle.task_events.specs.Allowed.{cancellation_in}
 use Rattle.task_events.specs.Bans.{ban_put, mark_of, standing_ban}
 use Rattle.task_events.specs.Laws.{OnePlace, OneStage, RefusesLateChildren, LetsNoChildEscape, ListsAllChildren, HasListedAll, WaitsForDescendants, LeavesNoBan, CancelsWithCause, IsDrained}
 use Rattle.task_events.specs.Tasks.{parent_of, reply_of}
-use Rattle.world_steps.specs.Cancels.{AllAnswered}
-use Rattle.task_top.specs.Lines.{started}
+use Rattle.world_moves.specs.Cancels.{AllAnswered}
+use Rattle.line_print.specs.Lines.{started}
 
 -- A child passes only where no ban of its parent was ever put on its node.
 abbrev pub PassesUnbanned : List Event → Type 0

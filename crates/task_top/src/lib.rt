@@ -5,8 +5,6 @@ mod kept;
 mod laws;
 mod options;
 mod plans;
-mod print;
-pub mod printing;
 mod reading;
 mod run;
 mod status;
@@ -15,11 +13,9 @@ mod words;
 
 pub use kept::Kept;
 pub use laws::one_reading;
+pub use line_print::{Idle, print_lines};
 pub use plans::{Plan, PlanError};
 pub use script_lang::{Command, Script};
 pub use status::Status;
 pub use top::sim_top;
 pub use words::plan;
-
-#[cfg(test)]
-mod tests;

@@ -2,12 +2,12 @@
 
 ghost use Rattle.std.specs.Prelude.{◌≡◌, ◌+◌, ◌≤◌, [], None, Some, length, slice_get, OnOk, IfOk, IfErr};
 ghost use Rattle.task_events.specs.Lawful.{Lawful};
-ghost use Rattle.world_steps.specs.Plain.{AnswersPlainly};
+ghost use Rattle.world_moves.specs.Plain.{AnswersPlainly};
 ghost use Rattle.world_steps.specs.Scripts.{CanRun};
-ghost use Rattle.task_top.specs.Lines.{idle_of};
+ghost use Rattle.line_print.specs.Lines.{idle_of};
 ghost use Rattle.task_top.specs.Progress.{HasCome, EndsEarly, EndsWhole};
 
-use crate::printing::Idle;
+use line_print::Idle;
 use script_lang::{Command, Script};
 use std::alloc::Global;
 use task_events::{History, Stop};

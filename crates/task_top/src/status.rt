@@ -17,7 +17,7 @@ pub enum Status {
     ReadFault,
     /// The sink failed. A first part of the text is written.
     WriteFault,
-    /// Memory ran out. A first part of the text is written.
+    /// Memory ran out. Nothing is written.
     Memory,
     /// A worker could not be started. Nothing is written.
     NoThread,

@@ -2,7 +2,7 @@ ghost use Rattle.std.specs.Prelude.{◌≡◌, ◌≤◌, ◌++◌, List, length
 ghost use Rattle.es_io.specs.Count.{Rose};
 ghost use Rattle.task_events.specs.declared.event.Event.{Event};
 ghost use Rattle.task_events.specs.Lawful.{Lawful};
-ghost use Rattle.world_steps.specs.Plain.{AnswersPlainly};
+ghost use Rattle.world_moves.specs.Plain.{AnswersPlainly};
 ghost use Rattle.world_steps.specs.Scripts.{CanRun};
 ghost use Rattle.task_top.specs.Kept.{AnswersInput, RanAsRead, Rests, WritesLines, HasCause, IsAfterReading, early_status};
 ghost use Rattle.task_top.specs.Progress.{EndsWhole};
@@ -10,11 +10,11 @@ ghost use Rattle.task_top.specs.Promises.{KeepsAllLaws, CancelsExactly};
 
 use crate::kept::Kept;
 use crate::laws::all_laws;
-use crate::printing::{Idle, print_lines};
 use crate::reading::read_input;
 use crate::run::run_script;
 use crate::status::Status;
 use es_io::{ReadAll, Sink, Source, read_all, write_all_of};
+use line_print::{Idle, print_lines};
 use script_lang::{Script, ScriptError};
 use std::alloc::Global;
 use task_events::Stop;

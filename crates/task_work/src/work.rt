@@ -9,7 +9,7 @@ ghost use Rattle.task_work.specs.Works.{new_work, IsWorkOn, next_of, with_turn, 
 use search_phase::{FetchAnswer, RootPlan, SearchRoot, ShardFetch, ShardQuery, TurnAnswer};
 use shard_docs::Shard;
 use std::alloc::{AllocError, Global};
-use task_events::{Counts, Do, Hit, Reply, Request, ShardTop, copy_hits};
+use task_events::{Do, Hit, Reply, Request, ShardTop, copy_hits};
 use task_ids::{Boxed, Cluster, Items, TaskId};
 
 fn top_reply(top: &ShardTop) -> Result<Reply, AllocError>
@@ -194,16 +194,6 @@ impl Work {
     pub fn cancelled(&self, task: TaskId, cancel: u32) -> Reply
         ensures { result ≡ Reply.Cancelled task cancel no_counts }
     {
-        Reply::Cancelled {
-            task,
-            cancel,
-            counts: Counts {
-                total: 0,
-                created: 0,
-                updated: 0,
-                batches: 0,
-                failures: 0,
-            },
-        }
+        Reply::cancelled(task, cancel)
     }
 }

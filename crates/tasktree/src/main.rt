@@ -13,6 +13,9 @@ use std::process::ExitCode;
 use std::rt::Env;
 use task_top::{Plan, PlanError, Status, plan, sim_top};
 
+#[cfg(test)]
+mod tests;
+
 /// The words after the program's name. A word that is not UTF-8 makes the command line a faulty one.
 fn words<R: Env + AllocGlobal>(rt: &R) -> Result<Vec<String>, Status>
     ensures { IfErr result (λ status. (status ≡ Status.Usage) ⊎ (status ≡ Status.Memory)) }

@@ -12,9 +12,9 @@ use Rattle.task_events.specs.Tasks.{is_live, parent_of}
 use Rattle.task_events.specs.Bans.{ban_over, standing_ban}
 use Rattle.task_events.specs.Lawful.{Lawful}
 use Rattle.task_laws.proofs.Reach.{reach_facts}
-use Rattle.world_steps.specs.Facts.{Facts, token_from}
-use Rattle.world_steps.specs.Cancelling.{HasBansAt}
-use Rattle.world_steps.proofs.AtPlace.{at_node}
+use Rattle.world_moves.specs.Facts.{Facts, token_from}
+use Rattle.world_moves.specs.Cancelling.{HasBansAt}
+use Rattle.world_moves.proofs.AtPlace.{at_node}
 
 -- the token of a task tells its parent
 pub parent_told : (facts : Facts) → token_parent (token_from facts) ≡ facts.parent

@@ -1,8 +1,8 @@
 -- Why commands come to an early end, and what they can do.
-use Rattle.std.proofs.Common.{◌≡◌, ◌⊎◌, ◌≤◌, ◌<◌, ◌-◌, ℕ, zero, suc, Bool, true, false, List, [], ◌∷◌, length, get_or, Option, Some, None, refl, sym, ap, subst, ◌∙◌, inl, inr, arith}
+use Rattle.std.proofs.Common.{◌≡◌, ◌⊎◌, ◌≤◌, ◌<◌, ◌-◌, ℕ, zero, suc, Bool, true, false, List, [], ◌∷◌, length, get_or, Option, Some, None, refl, sym, ap, subst, inl, inr, arith}
 use Rattle.std.specs.Prelude.{slice_get, is_some, ◌&&◌}
 use Rattle.serde_json.specs.Data.{Data}
-use Rattle.query_parse.specs.declared.body.SearchBody.{SearchBody}
+use Rattle.query_match.specs.declared.body.SearchBody.{SearchBody}
 use Rattle.query_parse.specs.Bodies.{body_at}
 use Rattle.search_phase.proofs.Requests.{slice_get_none}
 use Rattle.task_ids.specs.declared.cluster.Cluster.{Cluster}
@@ -16,9 +16,9 @@ use Rattle.task_events.specs.Messages.Message.{Request, Answer, Ban, Ack, Unban}
 use Rattle.script_lang.specs.declared.command.Command.{Command}
 use Rattle.script_lang.specs.declared.command.Command.TheVariants.{Search, Cancel, Deliver, Step, ListStep, Settle, History}
 use Rattle.script_lang.specs.declared.command.Script.{Script}
-use Rattle.world_steps.specs.Moves.{Starts, NodeLacksNumber, LacksNumber, StopsDelivery, StopsMove}
-use Rattle.world_steps.specs.Stored.{has_index}
-use Rattle.world_steps.specs.Roots.{body_or_none, command_at}
+use Rattle.world_moves.specs.Moves.{Starts, NodeLacksNumber, LacksNumber, StopsDelivery, StopsMove}
+use Rattle.world_moves.specs.Stored.{has_index}
+use Rattle.world_moves.specs.Roots.{body_or_none, command_at}
 use Rattle.world_steps.specs.Scripts.{CanDo, CanRun, can_start, StartsWhere, PartlyDoes, PartlyCommands, StopsRun}
 
 lacking : (cluster : Cluster) (h : List Event) (m : Message) → LacksNumber cluster h m → (node : ℕ) × NodeLacksNumber cluster h node

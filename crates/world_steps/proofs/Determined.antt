@@ -24,12 +24,12 @@ use Rattle.script_lang.specs.declared.command.Command.TheVariants.{Search, Cance
 use Rattle.script_lang.specs.declared.command.Script.{Script}
 use Rattle.world_steps.specs.declared.acting.Stepped.{Stepped}
 use Rattle.world_steps.specs.declared.acting.Stepped.TheVariants.{Done, Waiting, NotRunning}
-use Rattle.world_steps.specs.declared.listing.Listing.{Listing}
-use Rattle.world_steps.specs.Cancels.{with_due}
-use Rattle.world_steps.specs.Listings.{listing_cmp, IsNextChild, IsListStep, ListSteps}
-use Rattle.world_steps.specs.Moves.{IsDelivery, Delivers, IsStart, Starts}
+use Rattle.world_moves.specs.declared.listing.Listing.{Listing}
+use Rattle.world_moves.specs.Cancels.{with_due}
+use Rattle.world_moves.specs.Listings.{IsNextChild, IsListStep, ListSteps}
+use Rattle.world_moves.specs.Moves.{IsDelivery, Delivers, IsStart, Starts}
 use Rattle.world_steps.proofs.ListingKeys.{one_listing}
-use Rattle.world_steps.specs.Roots.{command_at}
+use Rattle.world_moves.specs.Roots.{command_at}
 use Rattle.world_steps.specs.Runs.{Steps, AnswersStep, FirstMoves, IsSettled, Passes, Settles}
 use Rattle.world_steps.specs.Scripts.{can_start, StartsWhere, DeliversWhere, ListsWhere, Does, Commands, HasRun, IsRun}
 

@@ -12,12 +12,12 @@ use Rattle.task_ids.specs.declared.cluster.Cluster.{Cluster}
 use Rattle.task_ids.specs.declared.corpus.Corpus.{Corpus}
 use Rattle.task_table.specs.Table.{Table, new_table}
 use Rattle.script_lang.specs.declared.command.Script.{Script}
-use Rattle.world_steps.specs.declared.running.Running.{Running}
-use Rattle.world_steps.specs.Ties.{Ties, IsTableAt}
-use Rattle.world_steps.specs.declared.listing.Listing.{Listing}
-use Rattle.world_steps.specs.Cancels.{waiting_for}
-use Rattle.world_steps.specs.Cancelling.{Cancelling, IsEntryOf, IsRowOf, HasRows, HasBansAt, HasCoreAt}
-use Rattle.world_steps.specs.Listings.{listing_cmp}
+use Rattle.world_moves.specs.declared.running.Running.{Running}
+use Rattle.world_moves.specs.Ties.{Ties, IsTableAt}
+use Rattle.world_moves.specs.declared.listing.Listing.{Listing}
+use Rattle.world_moves.specs.Cancels.{waiting_for}
+use Rattle.world_moves.specs.Cancelling.{Cancelling, IsEntryOf, IsRowOf, HasRows, HasBansAt, HasCoreAt}
+use Rattle.world_moves.specs.Listings.{listing_cmp}
 use Rattle.world_steps.specs.World.{tables_from, cores_from, no_bans}
 
 -- the table of a place among those of the nodes from one on

@@ -16,11 +16,11 @@ use Rattle.task_events.specs.Messages.{Message, in_flight}
 use Rattle.script_lang.specs.declared.command.Script.{Script}
 use Rattle.world_steps.specs.declared.acting.Stepped.{Stepped}
 use Rattle.world_steps.specs.declared.acting.Stepped.TheVariants.{Done, Waiting, NotRunning}
-use Rattle.world_steps.specs.declared.flight.Sent.{Sent}
-use Rattle.world_steps.specs.Flights.{message_of}
-use Rattle.world_steps.specs.declared.listing.Listing.{Listing}
-use Rattle.world_steps.specs.Listings.{is_open}
-use Rattle.world_steps.specs.Moves.{IsPartly}
+use Rattle.world_moves.specs.declared.flight.Sent.{Sent}
+use Rattle.world_moves.specs.Flights.{message_of}
+use Rattle.world_moves.specs.declared.listing.Listing.{Listing}
+use Rattle.world_moves.specs.Listings.{is_open}
+use Rattle.world_moves.specs.Moves.{IsPartly}
 use Rattle.world_steps.specs.Runs.{next_of, Steps, AnswersStep, IsReady, IsFirstReady, FirstMoves, HasRoom}
 use Rattle.world_steps.specs.World.{is_ready}
 

@@ -1,23 +1,22 @@
 -- What was known before a move, and what a move leaves when it came to its end.
-use Rattle.std.proofs.Common.{◌≡◌, ℕ, ◌+◌, ◌-◌, ◌≤◌, List, [], ◌∷◌, ◌++◌, length, refl, sym, ap, subst, ◌∙◌, inl, inr, arith}
-use Rattle.std.specs.Prelude.{drop}
-use Rattle.std.specs.BTreeSet.{BTreeSet, contains}
+use Rattle.std.proofs.Common.{◌≡◌, ℕ, ◌+◌, ◌-◌, ◌≤◌, List, [], ◌++◌, length, refl, sym, ap, subst, ◌∙◌, inl, inr, arith}
+use Rattle.std.specs.BTreeSet.{BTreeSet}
 use Rattle.std.proofs.lemmas.List.{length-append}
 use Rattle.task_ids.specs.declared.task_id.TaskId.{TaskId}
 use Rattle.task_events.specs.declared.event.Event.{Event}
-use Rattle.world_steps.specs.declared.state.State.{State}
-use Rattle.world_steps.specs.Moves.{IsPartly}
-use Rattle.world_steps.specs.Ties.{Keeps}
-use Rattle.world_steps.specs.World.{HasReady, HadReady, is_ready, past_of}
+use Rattle.world_moves.specs.declared.state.State.{State}
+use Rattle.world_moves.specs.Moves.{IsPartly}
+use Rattle.world_moves.specs.Ties.{Keeps}
+use Rattle.world_steps.specs.World.{HasReady, HadReady}
 use Rattle.task_ids.specs.declared.cluster.Cluster.{Cluster}
 use Rattle.task_ids.specs.declared.corpus.Corpus.{Corpus}
 use Rattle.script_lang.specs.declared.command.Script.{Script}
 use Rattle.world_steps.specs.declared.acting.Stepped.{Stepped}
 use Rattle.world_steps.specs.declared.acting.Stepped.TheVariants.{Done, Waiting, NotRunning}
-use Rattle.world_steps.specs.declared.listing.Listing.{Listing}
-use Rattle.world_steps.specs.declared.listings.ListStep.{ListStep}
-use Rattle.world_steps.specs.declared.listings.ListStep.TheVariants.{Done as Listing_done, NoListing}
-use Rattle.world_steps.specs.Listings.{AnswersListing, ListSteps}
+use Rattle.world_moves.specs.declared.listing.Listing.{Listing}
+use Rattle.world_moves.specs.declared.listings.ListStep.{ListStep}
+use Rattle.world_moves.specs.declared.listings.ListStep.TheVariants.{Done as Listing_done, NoListing}
+use Rattle.world_moves.specs.Listings.{AnswersListing, ListSteps}
 use Rattle.world_steps.specs.Runs.{AnswersStep, Steps}
 use Rattle.world_steps.proofs.Readiness.{had_ready as ready_before}
 use Rattle.world_steps.proofs.Turning.{Follows, stepped_there, listed_after}

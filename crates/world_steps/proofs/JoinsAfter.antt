@@ -30,21 +30,21 @@ use Rattle.task_laws.proofs.Commands.{acted_begun, beginning_last}
 use Rattle.task_laws.proofs.Numbers.{both}
 use Rattle.task_laws.proofs.Same.{same_tests}
 use Rattle.script_lang.specs.declared.command.Script.{Script}
-use Rattle.world_steps.specs.declared.flight.Sent.{Sent}
-use Rattle.world_steps.specs.declared.listing.Listing.{Listing}
-use Rattle.world_steps.specs.declared.running.Running.{Running}
-use Rattle.world_steps.specs.Acts.{messages_in, answers_in}
-use Rattle.world_steps.specs.Cancels.{named_by, is_answered, waiting_for, waits_for_end, is_due, due_answers, answer_to, with_answers}
-use Rattle.world_steps.specs.Cancelling.{Cancelling, HasCoreAt, IsCancellationOf, IsEntryOf, is_under_way, waiter_of}
-use Rattle.world_steps.specs.Moves.{IsPartOf}
-use Rattle.world_steps.specs.Plain.{AnswersPlainly}
-use Rattle.world_steps.specs.Ties.{Ties}
-use Rattle.world_steps.proofs.AnswersCome.{NameOneTask, waiting_after, answers_tied, answers_await, answers_noted}
-use Rattle.world_steps.proofs.CoresAfter.{marked_in, core_on, its_entry, cores_after}
-use Rattle.world_steps.proofs.DueActs.{all_pass, none_pass, knows_placed}
+use Rattle.world_moves.specs.declared.flight.Sent.{Sent}
+use Rattle.world_moves.specs.declared.listing.Listing.{Listing}
+use Rattle.world_moves.specs.declared.running.Running.{Running}
+use Rattle.world_moves.specs.Acts.{messages_in, answers_in}
+use Rattle.world_moves.specs.Cancels.{named_by, is_answered, waiting_for, waits_for_end, is_due, due_answers, answer_to, with_answers}
+use Rattle.world_moves.specs.Cancelling.{Cancelling, HasCoreAt, IsCancellationOf, IsEntryOf, is_under_way, waiter_of}
+use Rattle.world_moves.specs.Moves.{IsPartOf}
+use Rattle.world_moves.specs.Plain.{AnswersPlainly}
+use Rattle.world_moves.specs.Ties.{Ties}
+use Rattle.world_moves.proofs.AnswersCome.{NameOneTask, waiting_after, answers_tied, answers_await, answers_noted}
+use Rattle.world_moves.proofs.CoresAfter.{marked_in, core_on, its_entry, cores_after}
+use Rattle.world_moves.proofs.DueActs.{all_pass, none_pass, knows_placed}
 use Rattle.world_steps.proofs.NamedAfter.{waiters_same, first, cancel_lawful, not_waiting, ties_after_cancel, waits_as_told}
-use Rattle.world_steps.proofs.Naming.{is_in, named_in, in_filter, named_acted}
-use Rattle.world_steps.proofs.Parts.{part_lawful, part_plain, later_part}
+use Rattle.world_moves.proofs.Naming.{is_in, named_in, in_filter, named_acted}
+use Rattle.world_moves.proofs.Parts.{part_lawful, part_plain, later_part}
 
 -- ---- who waits
 

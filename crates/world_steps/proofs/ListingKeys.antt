@@ -1,16 +1,15 @@
 -- The order of listings.
-use Rattle.std.proofs.Common.{◌≡◌, ℕ, true, refl, sym, ap, ◌∙◌}
+use Rattle.std.proofs.Common.{◌≡◌, true, refl, ap, ◌∙◌}
 use Rattle.std.specs.Cmp.{IsTotalOrder}
 use Rattle.std.specs.Ordering.{nat_cmp, is_le, ordering_reverse}
 use Rattle.std.specs.declared.cmp.Ordering.{Ordering}
 use Rattle.std.specs.declared.cmp.Ordering.TheVariants.{Less, Equal, Greater}
 use Rattle.std.proofs.lemmas.Cmp.{nat_cmp_total, on_total, then_total}
 use Rattle.std.proofs.lemmas.Map.Lookups.{CmpEqualImpliesEq, exact_pairs, exact_unsigned}
-use Rattle.task_ids.specs.declared.task_id.TaskId.{TaskId}
 use Rattle.task_ids.specs.TaskIdOrder.{task_id_cmp}
 use Rattle.task_ids.proofs.TaskIdKeys.{exact_ids, ids_total}
-use Rattle.world_steps.specs.declared.listing.Listing.{Listing}
-use Rattle.world_steps.specs.Listings.{listing_cmp}
+use Rattle.world_moves.specs.declared.listing.Listing.{Listing}
+use Rattle.world_moves.specs.Listings.{listing_cmp}
 
 -- listings that compare alike are one
 pub exact_listings : CmpEqualImpliesEq listing_cmp

@@ -23,18 +23,18 @@ use Rattle.task_events.specs.Cancels.{beginning, is_named, waits}
 use Rattle.task_events.specs.Lawful.{AwaitsNoMark, Lawful}
 use Rattle.task_laws.proofs.Commands.{beginning_first, beginning_last}
 use Rattle.task_laws.proofs.Same.{same_task_tells, same_pair_refl, same_tests}
-use Rattle.world_steps.specs.declared.flight.Sent.{Sent}
-use Rattle.world_steps.specs.declared.listing.Listing.{Listing}
-use Rattle.world_steps.specs.declared.running.Running.{Running}
-use Rattle.world_steps.specs.Cancels.{waiting_for, waits_for_end, named_by, is_answered, after_cancel_of}
-use Rattle.world_steps.specs.Cancelling.{Cancelling, HasRows, HasBansAt, HasCoreAt, IsEntryOf, is_under_way, waiter_of, waiting_but}
-use Rattle.world_steps.specs.Roots.{root_request}
-use Rattle.world_steps.specs.Ties.{Ties}
-use Rattle.world_steps.proofs.FlightAfter.{all_stay}
-use Rattle.world_steps.proofs.Kept.{kept_same}
-use Rattle.world_steps.proofs.Listed.{listed_same}
-use Rattle.world_steps.proofs.Naming.{is_in, named_in, in_filter}
-use Rattle.world_steps.proofs.NodeTables.{no_entry}
+use Rattle.world_moves.specs.declared.flight.Sent.{Sent}
+use Rattle.world_moves.specs.declared.listing.Listing.{Listing}
+use Rattle.world_moves.specs.declared.running.Running.{Running}
+use Rattle.world_moves.specs.Cancels.{waiting_for, waits_for_end, named_by, is_answered, after_cancel_of}
+use Rattle.world_moves.specs.Cancelling.{Cancelling, HasRows, HasBansAt, HasCoreAt, IsEntryOf, is_under_way, waiter_of, waiting_but}
+use Rattle.world_moves.specs.Roots.{root_request}
+use Rattle.world_moves.specs.Ties.{Ties}
+use Rattle.world_moves.proofs.FlightAfter.{all_stay}
+use Rattle.world_moves.proofs.Kept.{kept_same}
+use Rattle.world_moves.proofs.Listed.{listed_same}
+use Rattle.world_moves.proofs.Naming.{is_in, named_in, in_filter}
+use Rattle.world_moves.proofs.NodeTables.{no_entry}
 use Rattle.world_steps.proofs.Unacted.{IsUnacted, unacted}
 
 -- the waiters that are another cancel's stay as they were

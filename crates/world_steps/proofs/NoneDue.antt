@@ -3,7 +3,7 @@ use Rattle.std.proofs.Common.{◌≡◌, ℕ, Bool, false, List, [], ◌∷◌, 
 use Rattle.task_ids.specs.declared.task_id.TaskId.{TaskId}
 use Rattle.task_events.specs.declared.event.Event.{Event}
 use Rattle.task_events.specs.Bans.{mark_of}
-use Rattle.world_steps.specs.Cancels.{waiting_for, is_due, answer_to, with_answers}
+use Rattle.world_moves.specs.Cancels.{waiting_for, is_due, answer_to, with_answers}
 
 none_kept : (p : ℕ → Bool) (cancels : List ℕ) → ((c : ℕ) → p c ≡ false) → filter p cancels ≡ []
 none_kept p [] none = refl

@@ -1,19 +1,19 @@
 -- Some first moves and one more.
 use Rattle.std.proofs.lemmas.List.{length-append}
-use Rattle.std.proofs.Common.{◌≡◌, ◌<◌, ◌≤◌, reverse, ℕ, ◌+◌, ◌-◌, List, [], ◌∷◌, ◌++◌, length, refl, sym, ap, subst, ◌∙◌, inl, inr, arith}
+use Rattle.std.proofs.Common.{◌<◌, ◌≤◌, reverse, ℕ, ◌+◌, ◌-◌, List, [], ◌∷◌, ◌++◌, length, refl, sym, subst, ◌∙◌, inl, inr, arith}
 use Rattle.task_ids.specs.declared.cluster.Cluster.{Cluster}
 use Rattle.task_ids.specs.declared.corpus.Corpus.{Corpus}
 use Rattle.task_events.specs.declared.event.Event.{Event}
 use Rattle.script_lang.specs.declared.command.Script.{Script}
 use Rattle.task_events.specs.declared.event.Event.TheVariants.{Refuse, Acked, End}
-use Rattle.world_steps.specs.Cancels.{due_answers, with_due}
-use Rattle.world_steps.specs.Moves.{IsPartly}
+use Rattle.world_moves.specs.Cancels.{due_answers, with_due}
+use Rattle.world_moves.specs.Moves.{IsPartly}
 use Rattle.world_steps.specs.Runs.{FirstMoves, Passes, PartlySettles}
 use Rattle.std.specs.BTreeSet.{BTreeSet}
 use Rattle.task_ids.specs.declared.task_id.TaskId.{TaskId}
-use Rattle.world_steps.specs.declared.state.State.{State}
-use Rattle.world_steps.specs.Stored.{AreFew}
-use Rattle.world_steps.specs.Ties.{IsTied, Keeps}
+use Rattle.world_moves.specs.declared.state.State.{State}
+use Rattle.world_moves.specs.Stored.{AreFew}
+use Rattle.world_moves.specs.Ties.{IsTied, Keeps}
 use Rattle.world_steps.specs.World.{HasReady, HasSettled}
 
 module _ (cluster : Cluster) (corpus : Corpus) (script : Script) where

@@ -24,14 +24,14 @@ use Rattle.task_work.specs.declared.work.Work.{Work}
 use Rattle.task_work.specs.declared.work.Work.TheVariants as works
 use Rattle.task_work.specs.Works.{IsWorkOn, next_of, does_wait}
 use Rattle.script_lang.specs.declared.command.Script.{Script}
-use Rattle.world_steps.specs.declared.flight.Sent.{Sent}
-use Rattle.world_steps.specs.declared.running.Running.{Running}
-use Rattle.world_steps.specs.Facts.{facts_of, awaited_by, requested_by, none_awaited}
-use Rattle.world_steps.specs.Roots.{root_request}
+use Rattle.world_moves.specs.declared.flight.Sent.{Sent}
+use Rattle.world_moves.specs.declared.running.Running.{Running}
+use Rattle.world_moves.specs.Facts.{facts_of, awaited_by, requested_by, none_awaited}
+use Rattle.world_moves.specs.Roots.{root_request}
 use Rattle.world_steps.specs.Runs as runs
-use Rattle.world_steps.specs.Ties.{Ties, Runs, WorksFor, DoesNext, goes_on, own_writes, written}
-use Rattle.world_steps.proofs.Answered.{ends_cancelled, waits_cancelled, tells_none}
-use Rattle.world_steps.proofs.StepsAfter.{kept_running, is_kept}
+use Rattle.world_moves.specs.Ties.{Ties, Runs, WorksFor, DoesNext, goes_on, own_writes, written}
+use Rattle.world_moves.proofs.Answered.{ends_cancelled, waits_cancelled, tells_none}
+use Rattle.world_moves.proofs.StepsAfter.{kept_running, is_kept}
 
 -- the plan of a task, if it was asked for something
 abbrev pub plan_of : Cluster → Corpus → TaskId → List Event → Option Request → Option Do

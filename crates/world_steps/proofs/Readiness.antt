@@ -22,17 +22,17 @@ use Rattle.task_events.specs.Searches.{search_step, query_step, fetch_step}
 use Rattle.task_events.specs.Steps.{event_of, planned_step, request_of}
 use Rattle.script_lang.specs.declared.command.Script.{Script}
 use Rattle.task_work.specs.Works.{does_wait}
-use Rattle.world_steps.specs.Facts.{Facts, facts_of, about, is_about, awaited_by, none_awaited}
-use Rattle.world_steps.specs.Flights.{event_at}
-use Rattle.world_steps.specs.Roots.{root_request}
+use Rattle.world_moves.specs.Facts.{Facts, facts_of, about, is_about, awaited_by, none_awaited}
+use Rattle.world_moves.specs.Flights.{event_at}
+use Rattle.world_moves.specs.Roots.{root_request}
 use Rattle.world_steps.specs.Runs.{next_of}
-use Rattle.world_steps.specs.Ties.{Keeps}
+use Rattle.world_moves.specs.Ties.{Keeps}
 use Rattle.world_steps.specs.World.{HasReady, HadReady, is_ready, past_of}
-use Rattle.world_steps.specs.declared.state.State.{State}
+use Rattle.world_moves.specs.declared.state.State.{State}
 use Rattle.task_events.specs.Same.{same_task}
 use Rattle.task_laws.proofs.Same.{same_tests}
-use Rattle.world_steps.proofs.Answered.{ends_cancelled}
-use Rattle.world_steps.proofs.FactsAfter.{frame}
+use Rattle.world_moves.proofs.Answered.{ends_cancelled}
+use Rattle.world_moves.proofs.FactsAfter.{frame}
 
 -- what a task's facts say of it
 abbrev plan_from : Cluster → Corpus → TaskId → Facts → Request → Do

@@ -24,15 +24,15 @@ use Rattle.task_work.specs.declared.work.Work.{Work as Doing}
 use Rattle.task_work.specs.declared.work.Work.TheVariants as works
 use Rattle.task_work.specs.Works.{next_of, does_wait}
 use Rattle.script_lang.specs.declared.command.Script.{Script}
-use Rattle.world_steps.specs.declared.flight.Sent.{Sent}
-use Rattle.world_steps.specs.declared.running.Running.{Running}
-use Rattle.world_steps.specs.Facts.{none_awaited}
-use Rattle.world_steps.specs.Roots.{root_request}
+use Rattle.world_moves.specs.declared.flight.Sent.{Sent}
+use Rattle.world_moves.specs.declared.running.Running.{Running}
+use Rattle.world_moves.specs.Facts.{none_awaited}
+use Rattle.world_moves.specs.Roots.{root_request}
 use Rattle.world_steps.specs.Runs as runs
-use Rattle.world_steps.specs.Ties.{Ties, WorksFor}
-use Rattle.world_steps.proofs.Answered.{none_to_await}
+use Rattle.world_moves.specs.Ties.{Ties, WorksFor}
+use Rattle.world_moves.proofs.Answered.{none_to_await}
 use Rattle.world_steps.proofs.Plans.{next_new, next_old, ends_marked, writes_at}
-use Rattle.world_steps.proofs.StepsAfter.{kept_running, is_kept}
+use Rattle.world_moves.proofs.StepsAfter.{kept_running, is_kept}
 
 -- with all answers a search does not wait, and other work never does
 ends_or_asks : (next : Option Request) (answered : Bool) (reply : Reply) → answered ≡ true → does_wait (ask_or_end next answered reply) ≡ false

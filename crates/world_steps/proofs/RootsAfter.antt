@@ -16,19 +16,19 @@ use Rattle.task_events.specs.Tasks.{live_on}
 use Rattle.task_events.specs.Cancels.{last_command, beginning}
 use Rattle.task_events.specs.Allowed.{TakesSlot}
 use Rattle.task_events.specs.Lawful.{AwaitsNoMark}
-use Rattle.world_steps.specs.declared.flight.Sent.{Sent}
-use Rattle.world_steps.specs.declared.running.Running.{Running}
-use Rattle.world_steps.specs.Facts.{Facts, facts_of}
-use Rattle.world_steps.specs.Moves.{IsStart}
-use Rattle.world_steps.specs.Roots.{root_request}
-use Rattle.world_steps.specs.Ties.{Ties}
-use Rattle.world_steps.proofs.FactsAfter.{at_root}
-use Rattle.world_steps.proofs.FlightAfter.{all_stay}
-use Rattle.world_steps.proofs.Kept.{kept_after, kept_same}
-use Rattle.world_steps.proofs.Listed.{listed_same}
-use Rattle.world_steps.proofs.Started.{started, first, runs_first}
-use Rattle.world_steps.proofs.Tables.{IsPutOn, put_node, put_takes, put_listed}
-use Rattle.world_steps.proofs.Unborn.{blank, unborn}
+use Rattle.world_moves.specs.declared.flight.Sent.{Sent}
+use Rattle.world_moves.specs.declared.running.Running.{Running}
+use Rattle.world_moves.specs.Facts.{Facts, facts_of}
+use Rattle.world_moves.specs.Moves.{IsStart}
+use Rattle.world_moves.specs.Roots.{root_request}
+use Rattle.world_moves.specs.Ties.{Ties}
+use Rattle.world_moves.proofs.FactsAfter.{at_root}
+use Rattle.world_moves.proofs.FlightAfter.{all_stay}
+use Rattle.world_moves.proofs.Kept.{kept_after, kept_same}
+use Rattle.world_moves.proofs.Listed.{listed_same}
+use Rattle.world_moves.proofs.Started.{started, first, runs_first}
+use Rattle.world_moves.proofs.Tables.{IsPutOn, put_node, put_takes, put_listed}
+use Rattle.world_moves.proofs.Unborn.{blank, unborn}
 
 module _ (cluster : Cluster) (corpus : Corpus) (script : Script) (h : List Event) (tasks : TaskId → Option Running) (tables : List Table) (flight : List Sent) (ties : Ties cluster corpus script h tasks tables flight) (awaits : AwaitsNoMark h) (command : ℕ) where
   pub after_begin : last_command h + 1 ≡ command → Ties cluster corpus script (Begin command ∷ h) tasks tables flight

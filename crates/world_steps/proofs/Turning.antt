@@ -1,9 +1,9 @@
 -- No move begins a command, so what a command does is its turn.
-use Rattle.std.proofs.Common.{◌≡◌, ◌≤◌, ◌<◌, ◌+◌, ℕ, suc, Bool, length, reverse, map, filter, arith, true, false, ◌||◌, List, [], ◌∷◌, ◌++◌, Option, Some, None, refl, sym, ap, subst, ◌∙◌, inl, inr}
+use Rattle.std.proofs.Common.{◌≡◌, ◌+◌, ℕ, Bool, reverse, map, filter, true, false, ◌||◌, List, [], ◌∷◌, ◌++◌, Option, Some, None, refl, sym, ap, subst, ◌∙◌, inl, inr}
 use Rattle.std.specs.Prelude.{option_map, is_some, if◌then◌else◌}
 use Rattle.std.specs.List.{list_any}
 use Rattle.std.specs.Option.{option_map_or}
-use Rattle.std.proofs.lemmas.List.{append_assoc, reverse-append, length-append}
+use Rattle.std.proofs.lemmas.List.{append_assoc, reverse-append}
 use Rattle.std.proofs.lemmas.List.Folds.{list_any-append}
 use Rattle.task_ids.specs.declared.task_id.TaskId.{TaskId}
 use Rattle.task_ids.specs.declared.cluster.Cluster.{Cluster}
@@ -26,14 +26,14 @@ use Rattle.script_lang.specs.declared.command.Command.TheVariants.{Search, Cance
 use Rattle.world_steps.specs.declared.acting.Stepped.{Stepped}
 use Rattle.world_steps.specs.declared.acting.Stepped.TheVariants.{Done, Waiting, NotRunning}
 use Rattle.script_lang.specs.declared.command.CancelTarget.{CancelTarget}
-use Rattle.world_steps.specs.declared.listing.Listing.{Listing}
-use Rattle.world_steps.specs.declared.listings.ListStep.{ListStep as ListingAnswer}
-use Rattle.world_steps.specs.declared.listings.ListStep.TheVariants.{Done as Listing_done, NoListing}
-use Rattle.world_steps.specs.Cancels.{after_cancel, after_cancel_of, answer_to, due_answers, is_due, target_of, waiting_for, waits_for_end, with_answers, with_cancel, with_due}
-use Rattle.world_steps.specs.Listings.{AnswersListing, IsListStep, ListSteps}
-use Rattle.world_steps.specs.Moves.{IsDelivery, Delivers, IsStart, Starts}
-use Rattle.world_steps.specs.Roots.{root_request}
-use Rattle.world_steps.specs.Runs.{next_of, AnswersStep, FirstMoves, Passes, Settles}
+use Rattle.world_moves.specs.declared.listing.Listing.{Listing}
+use Rattle.world_moves.specs.declared.listings.ListStep.{ListStep as ListingAnswer}
+use Rattle.world_moves.specs.declared.listings.ListStep.TheVariants.{Done as Listing_done, NoListing}
+use Rattle.world_moves.specs.Cancels.{after_cancel, after_cancel_of, answer_to, due_answers, is_due, target_of, waiting_for, waits_for_end, with_answers, with_cancel, with_due}
+use Rattle.world_moves.specs.Listings.{AnswersListing, IsListStep, ListSteps}
+use Rattle.world_moves.specs.Moves.{IsDelivery, Delivers, IsStart, Starts}
+use Rattle.world_moves.specs.Roots.{root_request}
+use Rattle.world_steps.specs.Runs.{AnswersStep, FirstMoves, Passes, Settles}
 use Rattle.world_steps.specs.Scripts.{can_start, StartsWhere, DeliversWhere, ListsWhere, Does, Commands, Drains, IsTurn, closing}
 
 -- some events came after, with none of which a command began

@@ -1,15 +1,3 @@
-pub mod Acts
-pub mod Asking
-pub mod Cancelling
-pub mod Cancels
-pub mod Facts
-pub mod Flights
-pub mod Listings
-pub mod Moves
-pub mod Plain
-pub mod Roots
 pub mod Runs
 pub mod Scripts
-pub mod Stored
-pub mod Ties
 pub mod World

@@ -1,5 +1,5 @@
 -- Steps, first moves, and settling: what they append to the past.
-use Rattle.std.specs.Prelude.{◌≡◌, ◌≢◌, ℕ, Bool, true, List, [], ◌∷◌, ◌⊎◌, Option, Some, None, false, length, ◌≤◌, ⊤}
+use Rattle.std.specs.Prelude.{◌≡◌, ◌≢◌, true, List, [], ◌∷◌, ◌⊎◌, Option, Some, None, false, length, ◌≤◌, ⊤}
 use Rattle.task_ids.specs.declared.task_id.TaskId.{TaskId}
 use Rattle.task_ids.specs.declared.cluster.Cluster.{Cluster}
 use Rattle.task_ids.specs.declared.corpus.Corpus.{Corpus}
@@ -13,11 +13,11 @@ use Rattle.task_events.specs.Steps.{next_step}
 use Rattle.script_lang.specs.declared.command.Script.{Script}
 use Rattle.world_steps.specs.declared.acting.Stepped.{Stepped}
 use Rattle.world_steps.specs.declared.acting.Stepped.TheVariants.{Done, Waiting, NotRunning}
-use Rattle.world_steps.specs.Roots.{root_request}
-use Rattle.world_steps.specs.Cancels.{with_due}
-use Rattle.world_steps.specs.declared.listing.Listing.{Listing}
-use Rattle.world_steps.specs.Listings.{is_open, IsFirstListing, ListSteps}
-use Rattle.world_steps.specs.Moves.{Delivers, IsPartly}
+use Rattle.world_moves.specs.Roots.{root_request}
+use Rattle.world_moves.specs.Cancels.{with_due}
+use Rattle.world_moves.specs.declared.listing.Listing.{Listing}
+use Rattle.world_moves.specs.Listings.{is_open, IsFirstListing, ListSteps}
+use Rattle.world_moves.specs.Moves.{Delivers, IsPartly}
 
 module _ (cluster : Cluster) (corpus : Corpus) (script : Script) where
   -- what a live task does next, and nothing where it waits

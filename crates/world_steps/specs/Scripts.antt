@@ -1,5 +1,5 @@
 -- The run of a script: command by command, and then the closing drain.
-use Rattle.std.specs.Prelude.{◌≡◌, ℕ, zero, suc, ◌+◌, ◌≤◌, Bool, true, false, ◌&&◌, List, [], ◌∷◌, ◌++◌, ◌⊎◌, length, slice_get, is_some, Some, ⊤}
+use Rattle.std.specs.Prelude.{◌≡◌, ℕ, zero, suc, ◌+◌, ◌≤◌, Bool, true, false, ◌&&◌, List, [], ◌∷◌, ◌++◌, ◌⊎◌, length, is_some, Some, ⊤}
 use Rattle.std.specs.List.{list_any}
 use Rattle.serde_json.specs.Data.{Data}
 use Rattle.query_parse.specs.Bodies.{body_at}
@@ -16,12 +16,12 @@ use Rattle.script_lang.specs.declared.command.Command.{Command}
 use Rattle.script_lang.specs.declared.command.Command.TheVariants.{Search, Cancel, Deliver, Step, ListStep, Settle, History}
 use Rattle.script_lang.specs.declared.command.Script.{Script}
 use Rattle.world_steps.specs.declared.acting.Stepped.{Stepped}
-use Rattle.world_steps.specs.declared.listing.Listing.{Listing}
-use Rattle.world_steps.specs.Cancels.{after_cancel}
-use Rattle.world_steps.specs.Listings.{is_open, ListSteps}
-use Rattle.world_steps.specs.Moves.{Delivers, Starts, NodeLacksNumber, IsPartly}
-use Rattle.world_steps.specs.Roots.{body_or_none, command_at}
-use Rattle.world_steps.specs.Stored.{has_index}
+use Rattle.world_moves.specs.declared.listing.Listing.{Listing}
+use Rattle.world_moves.specs.Cancels.{after_cancel}
+use Rattle.world_moves.specs.Listings.{is_open, ListSteps}
+use Rattle.world_moves.specs.Moves.{Delivers, Starts, NodeLacksNumber, IsPartly}
+use Rattle.world_moves.specs.Roots.{body_or_none, command_at}
+use Rattle.world_moves.specs.Stored.{has_index}
 use Rattle.world_steps.specs.Runs.{AnswersStep, Settles, PartlySettles}
 
 -- A command has begun, and some events came since, with none of which another began.

@@ -1,5 +1,5 @@
 -- What contracts see of a world, and what its tables keep.
-use Rattle.std.specs.Prelude.{◌≡◌, ℕ, false, Bool, ◌&&◌, List, [], ◌∷◌, Option, Some, None, is_some, map, length, drop, ◌≤◌, ◌+◌, ◌-◌}
+use Rattle.std.specs.Prelude.{◌≡◌, ℕ, Bool, ◌&&◌, List, Option, Some, None, is_some, map, length, drop, ◌≤◌, ◌+◌, ◌-◌}
 use Rattle.std.specs.List.{range_with_len}
 use Rattle.std.specs.BTreeSet.{BTreeSet, contains}
 use Rattle.std.specs.FinMap.{FinMap, empty}
@@ -11,14 +11,12 @@ use Rattle.task_ids.specs.TaskIdOrder.{task_id_cmp}
 use Rattle.task_events.specs.declared.event.Event.{Event}
 use Rattle.task_events.specs.declared.stop.Stop.{Stop}
 use Rattle.task_events.specs.Tasks.{is_live}
-use Rattle.task_events.specs.Lawful.{Lawful}
 use Rattle.script_lang.specs.declared.command.Script.{Script}
 use Rattle.task_table.specs.Table.{Table, new_table}
-use Rattle.world_steps.specs.declared.state.State.{State}
-use Rattle.world_steps.specs.Plain.{AnswersPlainly}
+use Rattle.world_moves.specs.declared.state.State.{State}
 use Rattle.world_steps.specs.Runs.{next_of, Passes}
 use Rattle.world_steps.specs.Scripts.{CanRun}
-use Rattle.world_steps.specs.Ties.{IsTied, HasShards, Keeps}
+use Rattle.world_moves.specs.Ties.{IsTied, HasShards, Keeps, KeepsLaws}
 
 -- the cluster, the documents and the script, what has happened, and why it came to an early end
 pub record WorldView : Type 0 where
@@ -57,11 +55,6 @@ pub record GoesOn (s : State) (ready : BTreeSet TaskId) : Type 0 where
   pub ready_known : HasReady s ready
   pub can_run : CanRun s.cluster.nodes s.script.now.commands
   pub few : length s.script.now.commands ≤ 65535
-
--- The past is lawful, and each search that has ended replied with the plain answer, unless it was cancelled.
-pub record KeepsLaws (s : State) : Type 0 where
-  pub lawful : Lawful s.cluster s.history
-  pub plain : AnswersPlainly s.cluster s.corpus.now s.script.now s.history
 
 -- A world that came to an early end keeps its past.
 abbrev pub IsWorld : State → BTreeSet TaskId → Option Stop → Type 0

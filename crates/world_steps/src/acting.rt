@@ -1,22 +1,21 @@
 //! The next step of a live task.
 
-ghost use Rattle.std.specs.Prelude.{◌≡◌, ◌∷◌, ◌≤◌, true, false, not, length, Ok, Some, None, IfOk, IfErr, OnOk, OnErr};
+ghost use Rattle.std.specs.Prelude.{◌≡◌, ◌≤◌, true, false, not, length, Ok, Some, None, IfOk, IfErr, OnOk, OnErr};
 ghost use Rattle.task_events.specs.Bans.{mark_of, ban_over};
 ghost use Rattle.task_events.specs.Tasks.{is_live, is_new};
 ghost use Rattle.task_events.specs.declared.history.TheConstants.{MAX_EVENTS};
-ghost use Rattle.world_steps.specs.Facts.{awaited_by, none_awaited};
-ghost use Rattle.world_steps.specs.Moves.{IsPartly, StopsMove};
+ghost use Rattle.world_moves.specs.Facts.{awaited_by, none_awaited};
+ghost use Rattle.world_moves.specs.Moves.{IsPartly, StopsMove};
 ghost use Rattle.world_steps.specs.Runs.{AnswersStep, HasRoom, Steps};
-ghost use Rattle.world_steps.specs.World.{KeepsLaws};
-ghost use Rattle.world_steps.specs.Ties.{IsTied, Keeps, HasShards, DoesNext, task_at};
+ghost use Rattle.world_moves.specs.Ties.{IsTied, Keeps, HasShards, DoesNext, task_at, KeepsLaws};
 
-use crate::asks::ask;
-use crate::ends::{finish, finish_cancelled, refuse};
-use crate::state::State;
-use crate::steps::pass;
-use crate::turns::turn;
 use task_events::{Do, Stop};
 use task_ids::TaskId;
+use world_moves::asks::ask;
+use world_moves::ends::{finish, finish_cancelled, refuse};
+use world_moves::state::State;
+use world_moves::steps::pass;
+use world_moves::turns::turn;
 
 /// What came of a step.
 #[derive(Clone, Copy, Debug, PartialEq, Eq)]

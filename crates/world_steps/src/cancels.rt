@@ -6,19 +6,18 @@ ghost use Rattle.task_events.specs.declared.history.TheConstants.{MAX_EVENTS};
 ghost use Rattle.task_events.specs.Cancels.{beginning};
 ghost use Rattle.task_events.specs.Bans.{mark_of};
 ghost use Rattle.task_events.specs.Tasks.{is_live};
-ghost use Rattle.world_steps.specs.Cancels.{after_cancel, target_of, with_answers, with_cancel};
-ghost use Rattle.world_steps.specs.Moves.{IsPartOf};
-ghost use Rattle.world_steps.specs.Ties.{IsTied, Keeps};
-ghost use Rattle.world_steps.specs.World.{KeepsLaws};
+ghost use Rattle.world_moves.specs.Cancels.{after_cancel, target_of, with_answers, with_cancel};
+ghost use Rattle.world_moves.specs.Moves.{IsPartOf};
+ghost use Rattle.world_moves.specs.Ties.{IsTied, Keeps, KeepsLaws};
 
-use crate::append::append;
-use crate::marks::mark;
-use crate::performing::perform;
-use crate::state::State;
 use cancel_core::Waiter;
 use script_lang::CancelTarget;
 use task_events::{Event, Stop};
 use task_ids::TaskId;
+use world_moves::append::append;
+use world_moves::marks::mark;
+use world_moves::performing::perform;
+use world_moves::state::State;
 
 /// Whether a live task is marked.
 fn is_marked(state: &State<'_>, task: TaskId) -> bool

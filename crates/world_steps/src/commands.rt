@@ -4,29 +4,30 @@ ghost use Rattle.std.specs.Prelude.{◌≡◌, ◌⊎◌, ◌∷◌, ◌+◌, �
 ghost use Rattle.query_parse.specs.Bodies.{body_at};
 ghost use Rattle.task_events.specs.Cancels.{last_command, beginning};
 ghost use Rattle.task_events.specs.Laws.{IsDrained};
-ghost use Rattle.world_steps.specs.Roots.{body_or_none, command_at, whole_ask};
+ghost use Rattle.world_moves.specs.Roots.{body_or_none, command_at, whole_ask};
 ghost use Rattle.task_ids.specs.Limits.{IsCancel};
-ghost use Rattle.world_steps.specs.Cancels.{after_cancel, AllAnswered};
-ghost use Rattle.world_steps.specs.Moves.{IsPartly};
+ghost use Rattle.world_moves.specs.Cancels.{after_cancel, AllAnswered};
+ghost use Rattle.world_moves.specs.Moves.{IsPartly};
 ghost use Rattle.world_steps.specs.Runs.{AnswersStep};
 ghost use Rattle.world_steps.specs.Scripts.{CanDo, CanRun, can_start, StartsWhere, DeliversWhere, ListsWhere, Does, PartlyDoes, Commands, PartlyCommands, Drains, PartlyDrains, StopsRun};
-ghost use Rattle.world_steps.specs.Ties.{IsTied, Keeps, HasShards};
-ghost use Rattle.world_steps.specs.World.{HasReady, KeepsLaws};
+ghost use Rattle.world_moves.specs.Ties.{IsTied, Keeps, HasShards, KeepsLaws};
+ghost use Rattle.world_steps.specs.World.{HasReady};
 
 use crate::acting::Stepped;
 use crate::cancels::cancel;
-use crate::listing::Listing;
 use crate::moving::{deliver_there, list_there, settle, step_there};
 use crate::ready::refresh;
 use crate::roots::{begin, start};
-use crate::state::State;
-use query_parse::{BodyError, SearchBody, read_body};
+use query_match::SearchBody;
+use query_parse::{BodyError, read_body};
 use script_lang::{CancelTarget, Command};
 use std::alloc::Global;
 use std::collections::BTreeSet;
 use task_events::{Event, SearchAsk, Stop};
 use task_ids::{DocSource, TaskId, Text};
 use task_laws::drained_bans;
+use world_moves::listing::Listing;
+use world_moves::state::State;
 
 /// The body of a search, unless it has a fault.
 fn body_of(alloc: Global, body: &DocSource) -> Result<Option<SearchBody>, Stop>

@@ -3,24 +3,24 @@
 ghost use Rattle.std.specs.Prelude.{◌≡◌, ◌<◌, ◌≤◌, length, true, false, Ok, OnOk, OnErr, IfOk, IfErr};
 ghost use Rattle.task_events.specs.declared.history.TheConstants.{MAX_EVENTS};
 ghost use Rattle.task_events.specs.Laws.{IsDrained};
-ghost use Rattle.world_steps.specs.Listings.{ListSteps, AnswersListing};
-ghost use Rattle.world_steps.specs.Moves.{Delivers, IsPartly, StopsDelivery, StopsMove};
+ghost use Rattle.world_moves.specs.Listings.{ListSteps, AnswersListing};
+ghost use Rattle.world_moves.specs.Moves.{Delivers, IsPartly, StopsDelivery, StopsMove};
 ghost use Rattle.world_steps.specs.Runs.{Steps, AnswersStep, FirstMoves, HasRoom, IsSettled, Settles, PartlySettles};
 ghost use Rattle.world_steps.specs.Scripts.{StopsRun};
-ghost use Rattle.world_steps.specs.Ties.{IsTied, Keeps, HasShards};
-ghost use Rattle.world_steps.specs.World.{HasReady, KeepsLaws};
+ghost use Rattle.world_moves.specs.Ties.{IsTied, Keeps, HasShards, KeepsLaws};
+ghost use Rattle.world_steps.specs.World.{HasReady};
 
 use crate::acting::{Stepped, act};
-use crate::answers::deliver_answer;
-use crate::bans::deliver_notice;
-use crate::listing::Listing;
-use crate::listings::{ListStep, list_step};
 use crate::ready::refresh;
-use crate::requests::deliver_request;
-use crate::state::State;
 use std::collections::BTreeSet;
 use task_events::Stop;
 use task_ids::TaskId;
+use world_moves::answers::deliver_answer;
+use world_moves::bans::deliver_notice;
+use world_moves::listing::Listing;
+use world_moves::listings::{ListStep, list_step};
+use world_moves::requests::deliver_request;
+use world_moves::state::State;
 
 /// Delivers the message of this place among those in flight.
 pub(crate) fn deliver_one(state: &mut State<'_>, nth: usize) -> Result<(), Stop>

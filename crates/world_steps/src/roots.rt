@@ -3,16 +3,16 @@
 ghost use Rattle.std.specs.Prelude.{◌≡◌, ◌∷◌, ◌+◌, ◌≤◌, ◌<◌, length, Err, Some, IfOk, OnOk, OnErr};
 ghost use Rattle.task_events.specs.declared.history.TheConstants.{MAX_EVENTS};
 ghost use Rattle.task_events.specs.Cancels.{beginning, last_command};
-ghost use Rattle.world_steps.specs.Moves.{Starts, NodeLacksNumber};
-ghost use Rattle.world_steps.specs.Roots.{root_request};
-ghost use Rattle.world_steps.specs.Ties.{IsTied, Keeps};
+ghost use Rattle.world_moves.specs.Moves.{Starts, NodeLacksNumber};
+ghost use Rattle.world_moves.specs.Roots.{root_request};
+ghost use Rattle.world_moves.specs.Ties.{IsTied, Keeps};
 
-use crate::append::append;
-use crate::starting::{keep, new_task, put_on, spend, with_work};
-use crate::state::State;
 use task_events::{Event, Request, SearchAsk, Stop};
 use task_ids::Boxed;
 use task_table::PutError;
+use world_moves::append::append;
+use world_moves::starting::{keep, new_task, put_on, spend, with_work};
+use world_moves::state::State;
 
 /// A command begins, the next in order. Commands are numbered from 1.
 pub(crate) fn begin(state: &mut State<'_>, command: u32) -> Result<(), Stop>

@@ -4,20 +4,15 @@ ghost use Rattle.task_events.specs.Cancels.{last_command};
 ghost use Rattle.task_events.specs.Laws.{IsDrained};
 ghost use Rattle.task_events.specs.Messages.{in_flight};
 ghost use Rattle.task_events.specs.Tasks.{is_live};
-ghost use Rattle.world_steps.specs.Cancels.{AllAnswered};
-ghost use Rattle.world_steps.specs.Listings.{ListSteps, AnswersListing};
-ghost use Rattle.world_steps.specs.Moves.{Delivers, IsPartly, StopsDelivery, StopsMove};
-ghost use Rattle.world_steps.specs.Plain.{AnswersPlainly};
+ghost use Rattle.world_moves.specs.Cancels.{AllAnswered};
+ghost use Rattle.world_moves.specs.Listings.{ListSteps, AnswersListing};
+ghost use Rattle.world_moves.specs.Moves.{Delivers, IsPartly, StopsDelivery, StopsMove};
+ghost use Rattle.world_moves.specs.Plain.{AnswersPlainly};
 ghost use Rattle.world_steps.specs.Runs.{Steps, AnswersStep, Settles, PartlySettles};
 ghost use Rattle.world_steps.specs.Scripts.{CanRun, Commands, PartlyCommands, Drains, PartlyDrains, IsTurn, closing, StopsRun};
 ghost use Rattle.world_steps.specs.World.{tables_from, cores_from, no_bans};
 
 use crate::acting::Stepped;
-use crate::flight::Flight;
-use crate::listing::Listing;
-use crate::listings::ListStep;
-use crate::shards::Shards;
-use crate::state::State;
 use crate::{commands, moving};
 use ban_table::BanTable;
 use cancel_core::CancelCore;
@@ -28,6 +23,11 @@ use std::marker::Model;
 use task_events::{History, Stop};
 use task_ids::{Cluster, Corpus, TaskId};
 use task_table::TaskTable;
+use world_moves::flight::Flight;
+use world_moves::listing::Listing;
+use world_moves::listings::ListStep;
+use world_moves::shards::Shards;
+use world_moves::state::State;
 
 /// The serial world: a cluster of nodes that runs a script, one event at a time.
 #[derive(Drop)]
@@ -286,7 +286,7 @@ impl<'a> World<'a> {
     }
 
     /// The listing of a task's children on a node makes its next step: the lowest live child without a mark is marked, or
-    /// where there is none the listing ends.
+    /// where there is none the listing ends. Where it is not open, as on a node outside the cluster, nothing happens.
     ///
     /// Once it has come to an early end, the world answers that for ever and keeps its past.
     pub fn list_step(&mut self, node: u32, parent: TaskId) -> Result<ListStep, Stop>

@@ -1,6 +1,6 @@
 use Rattle.std.proofs.Common.{Ok, Some, sym, ap, ◌∙◌}
 use Rattle.query_parse.specs.Paths.{path_text}
-use Rattle.query_parse.specs.Values.{value_of}
+use Rattle.query_match.specs.Values.{value_of}
 use Rattle.query_parse.proofs.Each.{goes_on_at, ends_at, is_done_at}
 use Rattle.query_parse.proofs.leaf.read_scalars.Goals as goal
 

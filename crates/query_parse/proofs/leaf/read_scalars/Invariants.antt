@@ -2,7 +2,7 @@ use Rattle.std.proofs.Common.{◌≡◌, drop}
 use Rattle.serde_json.specs.View.{items_view}
 use Rattle.query_parse.specs.Paths.{path_text}
 use Rattle.query_parse.specs.Reading.{each_at}
-use Rattle.query_parse.specs.Values.{value_of}
+use Rattle.query_match.specs.Values.{value_of}
 use Rattle.query_parse.proofs.Each.{with_front}
 use Rattle.query_parse.proofs.leaf.read_scalars.Given as goal
 

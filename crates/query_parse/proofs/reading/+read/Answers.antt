@@ -4,7 +4,7 @@ use Rattle.std.proofs.lemmas.Result.{err_from_is_err_and}
 use Rattle.serde_json.specs.View.{view, items_view, members_view}
 use Rattle.query_parse.specs.Paths.{path_text}
 use Rattle.query_parse.specs.Reading.{member_keys, is_clause_name, least_of, bool_of}
-use Rattle.query_parse.specs.View.{queries_view}
+use Rattle.query_match.specs.View.{queries_view}
 use Rattle.query_parse.proofs.Nodes.{view-Bool, clause_in-none, clause_in-some, query_in-some, goes_on, ends, is_done}
 use Rattle.query_parse.proofs.Sizes.{data_size, items_size, members_size, size-get_member, size-item}
 use Rattle.query_parse.proofs.reading.+read.Goals as goal

@@ -1,5 +1,5 @@
 -- The keys so far are the first of those that came; there is room for each that will be kept, so no push fails.
-use Rattle.std.proofs.Common.{rules, ◌≡◌, ◌+◌, ◌<◌, ◌≤◌, ◌∷◌, ◌++◌, length, take, filter, cond, true, false, List, [], sym, ap, ◌∙◌, arith, subst, true≢false, heap_items, heap_len}
+use Rattle.std.proofs.Common.{◌+◌, ◌<◌, ◌≤◌, ◌∷◌, ◌++◌, length, take, filter, true, false, [], sym, ap, ◌∙◌, arith, subst, true≢false, heap_items, heap_len}
 use Rattle.std.specs.BinaryHeap.{IsHeap, heap_capacity}
 use Rattle.std.proofs.lemmas.List.{append-nil, append_assoc, length-append, map-id}
 use Rattle.std.proofs.lemmas.List.Sorted.{IsPermutation-refl}

@@ -1,5 +1,6 @@
 -- Each place adds the key of its row, if there is one that matches.
-use Rattle.std.proofs.Common.{◌++◌, ◌∷◌, [], sym, ap, ◌∙◌, append_assoc}
+use Rattle.std.proofs.Common.{List, ◌++◌, ◌∷◌, [], sym, ap, ◌∙◌, append_assoc}
+use Rattle.task_events.specs.declared.request.HitKey.{HitKey}
 use Rattle.task_events.specs.Answers.{hit_key}
 use Rattle.search_phase.specs.Queries.{keys_below}
 use Rattle.search_phase.proofs.Rows.{no_row, row_found, row_not_found}
@@ -22,7 +23,7 @@ loop-place-preserved c =
           row_found ask c.args.version place writes c.in-Some.doc.now (sym c.in-Some.ensures) (sym c.is_found.ensures ∙ w.if-is_found.true)
           ∙ ap (λ keys. keys ++ key ∷ []) c.loop-place.invariant
           ∙ append_assoc before c.loop-place.keys.items (key ∷ [])
-          ∙ ap (λ keys. before ++ keys) (ap (λ k. c.loop-place.keys.items ++ k ∷ []) (sym w.in_ok-hit_key.ensures) ∙ sym w.in_ok-push.ensures.items ∙ ap (λ v. v.items) (sym w.keys-is))
+          ∙ ap (λ keys. before ++ keys) (ap (λ k. c.loop-place.keys.items ++ k ∷ []) (sym {A = HitKey} w.in_ok-hit_key.ensures) ∙ sym {A = List HitKey} w.in_ok-push.ensures.items ∙ ap (λ v. v.items) (sym w.keys-is))
       | else-is_found w ↦
           row_not_found ask c.args.version place writes c.in-Some.doc.now (sym c.in-Some.ensures) (sym c.is_found.ensures ∙ w.if-is_found.false)
           ∙ c.loop-place.invariant

@@ -1,5 +1,5 @@
 use Rattle.std.proofs.Common.{◌≡◌, ◌+◌, List, [], ◌∷◌, ◌++◌, Option, OnOk, subst, sym, rules}
-use Rattle.task_top.specs.declared.printing.idle.Idle.{Idle}
+use Rattle.line_print.specs.declared.idle.Idle.{Idle}
 use Rattle.task_top.specs.Progress.{HasCome}
 use Rattle.task_top.proofs.ProgressLemmas.{has_come, stops_in_command}
 use Rattle.task_top.proofs.run.run_command.Goals as goal

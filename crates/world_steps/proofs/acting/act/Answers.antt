@@ -2,9 +2,9 @@ use Rattle.std.proofs.Common.{◌∙◌, refl, ap, sym}
 use Rattle.std.specs.Option.{option_copied}
 use Rattle.child_track.specs.Track.{unanswered}
 use Rattle.std.specs.Prelude.{nat_lt}
-use Rattle.world_steps.specs.Facts.{awaited_by}
-use Rattle.world_steps.proofs.Answered.{tells_some}
-use Rattle.world_steps.proofs.StepsAfter.{runs_of, gone_of}
+use Rattle.world_moves.specs.Facts.{awaited_by}
+use Rattle.world_moves.proofs.Answered.{tells_some}
+use Rattle.world_moves.proofs.StepsAfter.{runs_of, gone_of}
 use Rattle.world_steps.proofs.acting.act.Goals as goal
 
 pub returns-in_default-clause-stepped : goal.returns-in_default-clause-stepped

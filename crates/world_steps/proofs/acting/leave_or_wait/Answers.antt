@@ -1,5 +1,5 @@
 use Rattle.std.proofs.Common.{◌≡◌, Bool, true, false, not, refl, inr}
-use Rattle.world_steps.proofs.Answered.{none_unanswered}
+use Rattle.world_moves.proofs.Answered.{none_unanswered}
 use Rattle.world_steps.proofs.Plans.{waits_marked, ends_marked}
 use Rattle.world_steps.proofs.acting.leave_or_wait.Goals as goal
 

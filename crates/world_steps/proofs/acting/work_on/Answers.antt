@@ -1,7 +1,7 @@
 use Rattle.std.proofs.Common.{◌∷◌, ◌∙◌, refl, sym, subst}
 use Rattle.task_events.specs.declared.event.Event.TheVariants.{End}
 use Rattle.task_events.specs.declared.step.Do.TheVariants.{AskNext, Turn, Wait, Finish}
-use Rattle.world_steps.specs.Ties.{DoesNext, task_at}
+use Rattle.world_moves.specs.Ties.{DoesNext, task_at}
 use Rattle.world_steps.proofs.NoneDue.{none_due}
 use Rattle.world_steps.proofs.Plans.{does}
 use Rattle.world_steps.proofs.acting.work_on.Goals as goal

@@ -1,10 +1,10 @@
-use Rattle.std.proofs.Common.{◌∷◌, [], refl, sym, subst}
+use Rattle.std.proofs.Common.{[], refl, sym, subst}
 use Rattle.task_events.specs.declared.event.Event.TheVariants.{NotFound}
-use Rattle.world_steps.specs.Cancels.{target_of}
-use Rattle.world_steps.specs.Moves.{IsPartOf}
-use Rattle.world_steps.proofs.MarksAfter.{nothing_yet, on_error}
+use Rattle.world_moves.specs.Cancels.{target_of}
+use Rattle.world_moves.specs.Moves.{IsPartOf}
+use Rattle.world_moves.proofs.MarksAfter.{nothing_yet, on_error}
 use Rattle.world_steps.proofs.NamedAfter.{names_none, ties_after_missing}
-use Rattle.world_steps.proofs.Uninvolved.{noted}
+use Rattle.world_moves.proofs.Uninvolved.{noted}
 use Rattle.world_steps.proofs.cancels.cancel.Goals as goal
 
 pub returns-in_err-append-clause-part : goal.returns-in_err-append-clause-part

@@ -1,7 +1,7 @@
 use Rattle.std.proofs.Common.{◌∙◌, sym, ap}
 use Rattle.std.specs.Prelude.{is_some}
 use Rattle.std.specs.Option.{option_copied}
-use Rattle.world_steps.proofs.StepsAfter.{is_kept, kept_running}
+use Rattle.world_moves.proofs.StepsAfter.{is_kept, kept_running}
 use Rattle.world_steps.proofs.cancels.is_marked.Goals as goal
 
 pub unreachable-requires : goal.unreachable-requires

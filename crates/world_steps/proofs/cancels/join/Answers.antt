@@ -5,12 +5,12 @@ use Rattle.cancel_core.specs.Acts.{join_acts, joined_by}
 use Rattle.cancel_core.specs.Cancellation.{Cancellation, opened, WaitsWherePlaced}
 use Rattle.cancel_core.specs.Cancellations.{with_entry}
 use Rattle.task_events.specs.declared.event.Event.TheVariants.{Cancel}
-use Rattle.world_steps.specs.Acts.{messages_in}
-use Rattle.world_steps.specs.Cancels.{waiting_for, with_answers}
-use Rattle.world_steps.specs.Moves.{IsPartOf}
-use Rattle.world_steps.proofs.CoresAfter.{has_core}
+use Rattle.world_moves.specs.Acts.{messages_in}
+use Rattle.world_moves.specs.Cancels.{waiting_for, with_answers}
+use Rattle.world_moves.specs.Moves.{IsPartOf}
+use Rattle.world_moves.proofs.CoresAfter.{has_core}
 use Rattle.world_steps.proofs.JoinsAfter.{waiter, join_high, join_core, join_entry, join_open, joined_sent, join_tied, join_await, join_noted, join_happened, join_part, join_laws, nothing_yet}
-use Rattle.world_steps.proofs.MarksAfter.{on_error}
+use Rattle.world_moves.proofs.MarksAfter.{on_error}
 use Rattle.world_steps.proofs.cancels.join.Goals as goal
 
 pub index_mut-requires : goal.index_mut-requires

@@ -1,8 +1,8 @@
 use Rattle.std.proofs.Common.{◌≡◌, ◌∙◌, Some, sym, ap}
 use Rattle.std.specs.Option.{option_copied}
 use Rattle.task_events.specs.Tasks.{is_live}
-use Rattle.world_steps.specs.Cancels.{target_of}
-use Rattle.world_steps.proofs.StepsAfter.{kept_where_live}
+use Rattle.world_moves.specs.Cancels.{target_of}
+use Rattle.world_moves.proofs.StepsAfter.{kept_where_live}
 use Rattle.world_steps.proofs.cancels.live_target.Goals as goal
 use Rattle.world_steps.proofs.cancels.live_target.Goals.{in-Task, in-Command+in_ok-task-in-Command}
 

@@ -3,12 +3,12 @@ use Rattle.std.specs.Prelude.{reverse, is_some}
 use Rattle.task_events.specs.declared.event.Event.TheVariants.{Cancel, Mark}
 use Rattle.task_events.specs.Bans.{mark_of}
 use Rattle.task_laws.proofs.Reach.{reach_facts}
-use Rattle.world_steps.specs.Cancels.{due_answers, waiting_for, with_answers}
-use Rattle.world_steps.specs.Moves.{IsPartOf}
-use Rattle.world_steps.proofs.MarksAfter.{nothing_yet, on_error, two_parts}
+use Rattle.world_moves.specs.Cancels.{due_answers, waiting_for, with_answers}
+use Rattle.world_moves.specs.Moves.{IsPartOf}
+use Rattle.world_moves.proofs.MarksAfter.{nothing_yet, on_error, two_parts}
 use Rattle.world_steps.proofs.NamedAfter.{ties_after_cancel, cancels_after_cancel, mark_lawful, waits_alone}
-use Rattle.world_steps.proofs.NodeTables.{nobody_waits}
-use Rattle.world_steps.proofs.Parts.{later_part}
+use Rattle.world_moves.proofs.NodeTables.{nobody_waits}
+use Rattle.world_moves.proofs.Parts.{later_part}
 use Rattle.world_steps.proofs.cancels.name_and_mark.Goals as goal
 
 -- nothing is there

@@ -1,4 +1,4 @@
-use Rattle.std.proofs.Common.{[], ◌∷◌, refl}
+use Rattle.std.proofs.Common.{[], ◌∷◌}
 use Rattle.task_events.specs.declared.event.Event.TheVariants.{Begin}
 use Rattle.world_steps.proofs.HadBefore.{had_ready_by}
 use Rattle.world_steps.proofs.commands.begin_there.Goals as goal

@@ -1,5 +1,5 @@
 use Rattle.std.proofs.Common.{◌≡◌, refl, inr}
-use Rattle.world_steps.specs.Cancels.{after_cancel}
+use Rattle.world_moves.specs.Cancels.{after_cancel}
 use Rattle.world_steps.proofs.HadBefore.{had_ready, not_past, wholly}
 use Rattle.world_steps.proofs.Turning.{cancel_after}
 use Rattle.world_steps.proofs.commands.cancel_there.Goals as goal

@@ -1,4 +1,4 @@
-use Rattle.std.proofs.Common.{◌∙◌, ◌-◌, ◌<◌, length, ap, sym, subst, inr, arith}
+use Rattle.std.proofs.Common.{◌∙◌, ◌-◌, ap, sym, subst, inr, arith}
 use Rattle.world_steps.specs.Scripts.{Does, PartlyDoes, CanDo}
 use Rattle.world_steps.proofs.Commanded.{partly_begun, at_number, can_do, carried, from_get_or}
 use Rattle.world_steps.proofs.commands.command.Goals as goal

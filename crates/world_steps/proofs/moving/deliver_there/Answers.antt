@@ -1,4 +1,4 @@
-use Rattle.world_steps.specs.Moves.{Delivers}
+use Rattle.world_moves.specs.Moves.{Delivers}
 use Rattle.world_steps.proofs.HadBefore.{had_ready, not_past, wholly}
 use Rattle.world_steps.proofs.Turning.{delivered}
 use Rattle.world_steps.proofs.moving.deliver_there.Goals as goal

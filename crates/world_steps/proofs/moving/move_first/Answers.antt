@@ -1,4 +1,4 @@
-use Rattle.std.proofs.Common.{Ok, ap, sym, ◌∙◌, ◌≡◌, false, rules}
+use Rattle.std.proofs.Common.{Ok, ap, ◌≡◌, rules}
 use Rattle.std.specs.BTreeSet.{btree_set_len}
 use Rattle.world_steps.proofs.FirstListing.{listing_moves, listing_done, listing_partly, none_open}
 use Rattle.world_steps.proofs.FirstReady.{nothing_in_flight, first_move, first_part, first_has_room}

@@ -1,4 +1,3 @@
-use Rattle.world_steps.specs.Runs.{Steps}
 use Rattle.world_steps.proofs.HadBefore.{had_ready, not_past, partly_stepped}
 use Rattle.world_steps.proofs.Turning.{stepped_there}
 use Rattle.world_steps.proofs.moving.step_there.Goals as goal

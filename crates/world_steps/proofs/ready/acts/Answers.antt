@@ -3,7 +3,7 @@ use Rattle.std.specs.Prelude.{is_some}
 use Rattle.std.specs.Option.{option_copied}
 use Rattle.world_steps.specs.Runs.{next_of}
 use Rattle.world_steps.proofs.Plans.{acts_kept, writes_at}
-use Rattle.world_steps.proofs.StepsAfter.{runs_of, gone_of}
+use Rattle.world_moves.proofs.StepsAfter.{runs_of, gone_of}
 use Rattle.world_steps.proofs.ready.acts.Goals as goal
 
 pub returns-in-Some : goal.returns-in-Some

@@ -2,7 +2,7 @@ use Rattle.std.proofs.Common.{◌∙◌, true, false, sym}
 use Rattle.std.specs.BTreeSet.{contains}
 use Rattle.task_ids.specs.TaskIdOrder.{task_id_cmp}
 use Rattle.world_steps.specs.World.{ready_in}
-use Rattle.world_steps.proofs.Kept.{known_at}
+use Rattle.world_moves.proofs.Kept.{known_at}
 use Rattle.world_steps.proofs.ready.note.Goals as goal
 
 pub returns-then-not-acts-clause-known : goal.returns-then-not-acts-clause-known

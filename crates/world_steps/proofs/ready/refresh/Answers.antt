@@ -2,7 +2,7 @@ use Rattle.std.proofs.Common.{◌∙◌, ap, sym, arith}
 use Rattle.std.specs.BTreeSet.{contains}
 use Rattle.std.specs.Option.{option_copied}
 use Rattle.task_ids.specs.TaskIdOrder.{task_id_cmp}
-use Rattle.world_steps.proofs.ByPlace.{event_from_oldest}
+use Rattle.world_moves.proofs.ByPlace.{event_from_oldest}
 use Rattle.world_steps.proofs.Readiness.{none_noted, one_noted, other_noted, all_noted}
 use Rattle.world_steps.proofs.ready.refresh.Goals as goal
 use Rattle.world_steps.proofs.ready.refresh.Goals.{in-Some-task_of+in_ok-note, in_default-task_of}

@@ -1,8 +1,8 @@
 use Rattle.std.proofs.Common.{refl}
 use Rattle.task_events.specs.declared.event.Event.TheVariants.{Begin}
-use Rattle.world_steps.specs.Cancels.{waiting_for}
+use Rattle.world_moves.specs.Cancels.{waiting_for}
 use Rattle.world_steps.proofs.RootsAfter.{after_begin}
-use Rattle.world_steps.proofs.Uninvolved.{noted}
+use Rattle.world_moves.proofs.Uninvolved.{noted}
 use Rattle.world_steps.proofs.roots.begin.Goals as goal
 
 pub returns-clause-tied : goal.returns-clause-tied

@@ -9,17 +9,17 @@ use Rattle.child_track.specs.Token.{Token}
 use Rattle.task_events.specs.declared.event.Event.TheVariants.{Root, RootRejected}
 use Rattle.task_events.specs.declared.request.SearchAsk.{SearchAsk}
 use Rattle.task_events.specs.declared.request.Request.TheVariants.{Search}
-use Rattle.world_steps.specs.declared.running.Running.{Running}
+use Rattle.world_moves.specs.declared.running.Running.{Running}
 use Rattle.task_events.specs.Lawful.{AwaitsNoMark}
-use Rattle.world_steps.specs.Cancels.{waiting_for}
-use Rattle.world_steps.specs.Ties.{task_at}
-use Rattle.world_steps.proofs.Kept.{at_changed, off_changed}
+use Rattle.world_moves.specs.Cancels.{waiting_for}
+use Rattle.world_moves.specs.Ties.{task_at}
+use Rattle.world_moves.proofs.Kept.{at_changed, off_changed}
 use Rattle.world_steps.proofs.RootsAfter.{starts_root, after_root, after_root_rejected}
-use Rattle.world_steps.proofs.SameTies.{same_ties, same_cancels}
-use Rattle.world_steps.proofs.Started.{first}
-use Rattle.world_steps.proofs.StartsNoted.{noted_root}
-use Rattle.world_steps.proofs.Tables.{IsPutOn, node_has_table, no_slot, no_number}
-use Rattle.world_steps.proofs.Uninvolved.{noted}
+use Rattle.world_moves.proofs.SameTies.{same_ties, same_cancels}
+use Rattle.world_moves.proofs.Started.{first}
+use Rattle.world_moves.proofs.StartsNoted.{noted_root}
+use Rattle.world_moves.proofs.Tables.{IsPutOn, node_has_table, no_slot, no_number}
+use Rattle.world_moves.proofs.Uninvolved.{noted}
 use Rattle.world_steps.proofs.roots.start.Goals as goal
 
 pub put_on-requires-clause-high : goal.put_on-requires-clause-high

@@ -1,4 +1,4 @@
-use Rattle.std.proofs.Common.{rules, ◌+◌, ℕ, arith}
+use Rattle.std.proofs.Common.{rules, ℕ, arith}
 use Rattle.std.proofs.lemmas.List.FromFn.{map-range_with_len_more}
 use Rattle.std.specs.FinMap.{FinMap, empty}
 use Rattle.task_ids.specs.TaskIdOrder.{task_id_cmp}

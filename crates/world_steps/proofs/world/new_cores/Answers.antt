@@ -1,4 +1,4 @@
-use Rattle.std.proofs.Common.{rules, ◌+◌, ℕ, arith}
+use Rattle.std.proofs.Common.{rules, ◌+◌, arith}
 use Rattle.std.proofs.lemmas.List.FromFn.{map-range_with_len_more}
 use Rattle.cancel_core.specs.Cancellations.{no_cancellations}
 use Rattle.world_steps.proofs.world.new_cores.Goals as goal

@@ -1,8 +1,8 @@
-use Rattle.std.proofs.Common.{◌≡◌, Bool, true, false, not, ◌&&◌, List, [], nat_lt, filter, sym, ap, ◌∙◌, Ok, Err}
+use Rattle.std.proofs.Common.{◌≡◌, Bool, true, false, not, ◌&&◌, List, nat_lt, filter, sym, ap, ◌∙◌, Ok, Err}
 use Rattle.std.specs.Prelude.{Result, OnOk, OnErr}
 use Rattle.std.specs.List.{position_or_len}
 use Rattle.cancel_core.specs.declared.act.Waiter.{Waiter}
-use Rattle.cancel_core.specs.Cancellation.{Cancellation, is_placed}
+use Rattle.cancel_core.specs.Cancellation.{is_placed}
 use Rattle.cancel_core.proofs.Placed.{late_noted}
 use Rattle.cancel_core.proofs.entry.Entry.join.Goals as goal
 

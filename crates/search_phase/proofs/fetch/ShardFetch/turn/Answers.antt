@@ -1,5 +1,5 @@
 -- After the turn places are left, or it was the last.
-use Rattle.std.proofs.Common.{◌≡◌, ◌+◌, ◌-◌, ◌*◌, ◌≤◌, ◌∙◌, ◌++◌, [], List, length, min, filter_map, slice_range, refl, sym, ap, subst, arith}
+use Rattle.std.proofs.Common.{◌≡◌, ◌+◌, ◌-◌, ◌*◌, ◌≤◌, ◌∙◌, List, length, min, ap, subst, arith}
 use Rattle.search_phase.specs.declared.fetch.FetchAnswer.TheVariants.{More, Ready}
 use Rattle.search_phase.specs.Fetches.{FetchState, fetched_in}
 use Rattle.search_phase.specs.TurnAnswers.{fetch_answer}

@@ -1,5 +1,5 @@
 -- One more turn's rows are counted, and their keys are kept among the first.
-use Rattle.std.proofs.Common.{ℕ, ◌+◌, ◌*◌, ◌≤◌, ◌∙◌, length, refl, ap, arith, heap_items}
+use Rattle.std.proofs.Common.{◌+◌, ◌*◌, ◌≤◌, ◌∙◌, length, refl, ap, arith, heap_items}
 use Rattle.search_phase.specs.Queries.{QueryState, looked}
 use Rattle.search_phase.proofs.Turns.{can_turn, turn_start, few_kept, few_counted, looked_on}
 use Rattle.search_phase.proofs.query.ShardQuery.look.Goals as goal

@@ -1,5 +1,5 @@
 use Rattle.std.proofs.Common.{subst}
-use Rattle.world_steps.specs.Moves.{Delivers, IsPartly, StopsDelivery}
+use Rattle.world_moves.specs.Moves.{Delivers, IsPartly, StopsDelivery}
 use Rattle.world_steps.proofs.world.World.deliver.Goals as goal
 
 pub returns-in-Ok-clause-done : goal.returns-in-Ok-clause-done

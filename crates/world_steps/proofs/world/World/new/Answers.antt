@@ -4,8 +4,8 @@ use Rattle.std.specs.BTreeMap.{is_at}
 use Rattle.std.specs.List.{list_any}
 use Rattle.std.specs.Ordering.{nat_cmp}
 use Rattle.task_ids.specs.TaskIdOrder.{task_id_cmp}
-use Rattle.world_steps.specs.Listings.{listing_cmp}
-use Rattle.world_steps.specs.Ties.{task_at}
+use Rattle.world_moves.specs.Listings.{listing_cmp}
+use Rattle.world_moves.specs.Ties.{task_at}
 use Rattle.world_steps.proofs.Empty.{nothing_yet, nothing_cancelled}
 use Rattle.world_steps.proofs.world.World.new.Goals as goal
 

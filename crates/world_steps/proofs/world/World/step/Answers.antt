@@ -1,6 +1,6 @@
 use Rattle.std.proofs.Common.{subst}
 use Rattle.world_steps.specs.Runs.{Steps}
-use Rattle.world_steps.specs.Moves.{IsPartly}
+use Rattle.world_moves.specs.Moves.{IsPartly}
 use Rattle.world_steps.proofs.world.World.step.Goals as goal
 
 pub returns-in-Err-clause-part : goal.returns-in-Err-clause-part

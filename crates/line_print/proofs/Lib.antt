@@ -1,0 +1,6 @@
+pub mod EndLemmas
+pub mod FoundLemmas
+pub mod KnownLemmas
+pub mod PrintLemmas
+pub mod TurnLemmas
+pub mod WholeLemmas

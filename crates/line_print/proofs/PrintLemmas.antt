@@ -1,0 +1,92 @@
+-- The texts of a reply's parts, as they are appended one after another.
+use Rattle.std.proofs.Common.{◌≡◌, ℕ, ◌-◌, false, List, [], ◌∷◌, ◌++◌, length, map, codes, refl, sym, ap, ◌∙◌, append_assoc, decimal}
+use Rattle.json.specs.Print.{quoted, escape_byte}
+use Rattle.serde_json.specs.Data.{Data, Items, array}
+use Rattle.serde_json.specs.View.{items_of}
+use Rattle.serde_json.specs.Written.{compact_text, items_text}
+use Rattle.task_events.specs.declared.reply.Hit.{Hit}
+use Rattle.task_events.specs.declared.reply.SearchReply.{SearchReply}
+use Rattle.line_print.specs.Lines.{error_line}
+use Rattle.task_events.specs.Printed.{hit_json, hits_json, shards_json, search_json, total_json, reply_line}
+
+-- parts that were appended in turn are appended as one
+pub appended : (o a b c d e f g : List ℕ) → ((((((o ++ a) ++ b) ++ c) ++ d) ++ e) ++ f) ++ g ≡ o ++ (a ++ (b ++ (c ++ (d ++ (e ++ (f ++ g))))))
+appended o a b c d e f g = simp append_assoc
+
+hit_parts : (hit : Hit) → codes "{\"_id\":" ++ (quoted hit.doc.id ++ (codes ",\"_index\":" ++ (quoted hit.index ++ (codes ",\"_source\":" ++ (compact_text hit.doc.source ++ codes "}"))))) ≡ compact_text (hit_json hit)
+unfolding escape_byte
+hit_parts hit = refl
+
+pub hit_text : (hit : Hit) (o : List ℕ)
+    → ((((((o ++ codes "{\"_id\":") ++ quoted hit.doc.id) ++ codes ",\"_index\":") ++ quoted hit.index) ++ codes ",\"_source\":") ++ compact_text hit.doc.source) ++ codes "}" ≡ o ++ compact_text (hit_json hit)
+hit_text hit o = appended o _ _ _ _ _ _ _ ∙ ap (λ text. o ++ text) (hit_parts hit)
+
+shards_parts : (shards failed : ℕ)
+    → codes "{\"failed\":" ++ (decimal failed ++ (codes ",\"successful\":" ++ (decimal (shards - failed) ++ (codes ",\"total\":" ++ (decimal shards ++ codes "}"))))) ≡ compact_text (shards_json shards failed)
+unfolding escape_byte
+shards_parts shards failed = refl
+
+pub shards_text : (shards failed : ℕ) (o : List ℕ)
+    → ((((((o ++ codes "{\"failed\":") ++ decimal failed) ++ codes ",\"successful\":") ++ decimal (shards - failed)) ++ codes ",\"total\":") ++ decimal shards) ++ codes "}" ≡ o ++ compact_text (shards_json shards failed)
+shards_text shards failed o = appended o _ _ _ _ _ _ _ ∙ ap (λ text. o ++ text) (shards_parts shards failed)
+
+appended_three : (o a b c : List ℕ) → ((o ++ a) ++ b) ++ c ≡ o ++ (a ++ (b ++ c))
+appended_three o a b c = simp append_assoc
+
+total_parts : (total : ℕ) → codes "{\"relation\":\"eq\",\"value\":" ++ (decimal total ++ codes "}") ≡ compact_text (total_json total)
+unfolding escape_byte
+total_parts total = refl
+
+pub total_text : (total : ℕ) (o : List ℕ) → ((o ++ codes "{\"relation\":\"eq\",\"value\":") ++ decimal total) ++ codes "}" ≡ o ++ compact_text (total_json total)
+total_text total o = appended_three o _ _ _ ∙ ap (λ text. o ++ text) (total_parts total)
+
+appended_five : (o a b c d e : List ℕ) → ((((o ++ a) ++ b) ++ c) ++ d) ++ e ≡ o ++ (a ++ (b ++ (c ++ (d ++ e))))
+appended_five o a b c d e = simp append_assoc
+
+found_parts : (reply : SearchReply)
+    → codes "{\"hits\":[" ++ (items_text false (items_of (map hit_json reply.hits)) ++ (codes ",\"total\":" ++ (compact_text (total_json reply.total) ++ codes "}"))) ≡ compact_text (hits_json reply)
+unfolding escape_byte
+found_parts reply = refl
+
+pub found_text : (reply : SearchReply) (o : List ℕ)
+    → ((((o ++ codes "{\"hits\":[") ++ items_text false (items_of (map hit_json reply.hits))) ++ codes ",\"total\":") ++ compact_text (total_json reply.total)) ++ codes "}" ≡ o ++ compact_text (hits_json reply)
+found_text reply o = appended_five o _ _ _ _ _ ∙ ap (λ text. o ++ text) (found_parts reply)
+
+reply_parts : (shards : ℕ) (reply : SearchReply)
+    → codes "{\"_shards\":" ++ (compact_text (shards_json shards (length reply.failed)) ++ (codes ",\"hits\":" ++ (compact_text (hits_json reply) ++ codes "}"))) ≡ compact_text (search_json shards reply)
+unfolding escape_byte
+reply_parts shards reply = refl
+
+pub reply_text : (shards : ℕ) (reply : SearchReply) (o : List ℕ)
+    → ((((o ++ codes "{\"_shards\":") ++ compact_text (shards_json shards (length reply.failed))) ++ codes ",\"hits\":") ++ compact_text (hits_json reply)) ++ codes "}" ≡ o ++ compact_text (search_json shards reply)
+reply_text shards reply o = appended_five o _ _ _ _ _ ∙ ap (λ text. o ++ text) (reply_parts shards reply)
+
+line_parts : (command : ℕ) (reply : Data)
+    → codes "{\"command\":" ++ (decimal command ++ (codes ",\"reply\":" ++ (compact_text reply ++ codes "}\n"))) ≡ reply_line command reply
+unfolding escape_byte
+line_parts command reply = ap (λ rest. codes "{\"command\":" ++ rest) (ap (λ rest. decimal command ++ (codes ",\"reply\":" ++ rest)) (sym (append_assoc (compact_text reply) (codes "}") (codes "\n"))) ∙ sym (append_assoc (decimal command) (codes ",\"reply\":" ++ (compact_text reply ++ codes "}")) (codes "\n")))
+
+pub line_text : (command : ℕ) (reply : Data) (o : List ℕ)
+    → ((((o ++ codes "{\"command\":") ++ decimal command) ++ codes ",\"reply\":") ++ compact_text reply) ++ codes "}\n" ≡ o ++ reply_line command reply
+line_text command reply o = appended_five o _ _ _ _ _ ∙ ap (λ text. o ++ text) (line_parts command reply)
+
+error_parts : (command : ℕ) (error : Data)
+    → codes "{\"command\":" ++ (decimal command ++ (codes ",\"error\":" ++ (compact_text error ++ codes "}\n"))) ≡ error_line command error
+unfolding escape_byte
+error_parts command error = ap (λ rest. codes "{\"command\":" ++ rest) (ap (λ rest. decimal command ++ (codes ",\"error\":" ++ rest)) (sym (append_assoc (compact_text error) (codes "}") (codes "\n"))) ∙ sym (append_assoc (decimal command) (codes ",\"error\":" ++ (compact_text error ++ codes "}")) (codes "\n")))
+
+pub error_text : (command : ℕ) (error : Data) (o : List ℕ)
+    → ((((o ++ codes "{\"command\":") ++ decimal command) ++ codes ",\"error\":") ++ compact_text error) ++ codes "}\n" ≡ o ++ error_line command error
+error_text command error o = appended_five o _ _ _ _ _ ∙ ap (λ text. o ++ text) (error_parts command error)
+
+opened : (a r i : List ℕ) → (a ++ (r ++ 91 ∷ [])) ++ i ≡ (a ++ r) ++ 91 ∷ i
+opened a r i = simp append_assoc
+
+-- a line whose reply is a list that was appended item by item
+pub list_text : (command : ℕ) (items : Items) (o out : List ℕ)
+    → out ++ codes "]" ≡ (((o ++ codes "{\"command\":") ++ decimal command) ++ codes ",\"reply\":[") ++ items_text false items
+    → out ++ codes "]}\n" ≡ o ++ reply_line command (array items)
+list_text command items o out h =
+    sym (append_assoc out (codes "]") (codes "}\n"))
+    ∙ ap (λ text. text ++ codes "}\n") (h ∙ opened ((o ++ codes "{\"command\":") ++ decimal command) (codes ",\"reply\":") (items_text false items))
+    ∙ line_text command (array items) o

@@ -1,0 +1,12 @@
+use Rattle.std.proofs.Common.{◌≡◌, map, reverse}
+use Rattle.std.specs.List.{range_with_len}
+use Rattle.task_events.specs.Turns.{events_of}
+use Rattle.line_print.proofs.TurnLemmas.{rest_at}
+use Rattle.line_print.proofs.turns.turns_of.Given as goal
+
+-- the turns so far, and what comes after as many beginnings
+abbrev pub invariant-loop : goal.invariant-loop
+invariant-loop l = record {
+  told : map (λ turn. turn.now) l.turns.items ≡ map (λ k. events_of k (reverse l.events)) (range_with_len 0 l.counter);
+  left : l.rest ≡ rest_at l.counter l.events;
+}

@@ -1,0 +1,8 @@
+use Rattle.task_events.specs.Printed.{search_json}
+use Rattle.line_print.proofs.PrintLemmas.{line_text}
+use Rattle.line_print.proofs.write.hits_line.Goals as goal
+
+pub returns : goal.returns
+returns c =
+    rw (c.in_ok-push-3.ensures, c.in_ok-push_reply.ensures, c.in_ok-push-2.ensures, c.in_ok-push_number.ensures, c.from.ensures, c.in_ok-push.ensures)
+    (line_text c.args.command (search_json c.args.shards c.args.reply.now) c.args.out.now.items)

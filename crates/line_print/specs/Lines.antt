@@ -1,0 +1,185 @@
+-- The lines of a script's output: one JSON object a command, compact, its keys in byte order, and a newline. Commands are numbered from 1.
+use Rattle.std.specs.Prelude.{◌≡◌, ℕ, ◌+◌, ◌-◌, Bool, true, false, List, [], ◌∷◌, ◌++◌, length, map, filter_map, if◌then◌else◌, Option, Some, None, option_and_then, Result, Ok, Err, codes, slice_get, nat_le, unwrap_or}
+use Rattle.std.specs.List.{list_any}
+use Rattle.std.specs.Str.{bytes_eq}
+use Rattle.serde_json.specs.Data.{Data, boolean, string, array}
+use Rattle.serde_json.specs.View.{items_of}
+use Rattle.serde_json.specs.Written.{compact_text}
+use Rattle.query_parse.specs.declared.fault.BodyError.{BodyError}
+use Rattle.query_match.specs.declared.body.SearchBody.{SearchBody}
+use Rattle.query_parse.specs.Bodies.{body_at}
+use Rattle.task_ids.specs.declared.task_id.TaskId.{TaskId}
+use Rattle.task_ids.specs.declared.cluster.Cluster.{Cluster}
+use Rattle.task_ids.specs.declared.corpus.Corpus.{Corpus}
+use Rattle.task_ids.specs.TaskId.{task_id_text}
+use Rattle.script_lang.specs.declared.command.CancelTarget.{CancelTarget}
+use Rattle.script_lang.specs.declared.command.CancelTarget.TheVariants.{Task, Command as Of}
+use Rattle.script_lang.specs.declared.command.Command.{Command}
+use Rattle.script_lang.specs.declared.command.Command.TheVariants as commands
+use Rattle.task_events.specs.declared.event.Event.{Event}
+use Rattle.task_events.specs.declared.event.Event.TheVariants.{Root, RootRejected, Refuse, Cancel, NotFound, End}
+use Rattle.task_events.specs.declared.reply.Reply.{Reply}
+use Rattle.task_events.specs.declared.reply.Reply.TheVariants.{Search, AllFailed, Cancelled}
+use Rattle.task_events.specs.Printed.{object_of, count, search_json, reply_line}
+use Rattle.task_events.specs.Tasks.{no_counts, is_live, reply_of}
+use Rattle.task_events.specs.Messages.{in_flight}
+use Rattle.task_events.specs.Texts.{event_text}
+use Rattle.task_events.specs.Turns.{events_of, events_before, history_before}
+use Rattle.line_print.specs.declared.idle.Idle.{Idle}
+use Rattle.line_print.specs.declared.idle.Idle.TheVariants.{NoSuchMessage, NotRunning, Waiting, NoListing}
+use Rattle.line_print.specs.Errors.{body_error, index_not_found, rejected, task_cancelled, all_shards_failed, not_found, plain_error, no_such_message}
+
+-- the line of a command that has no reply
+abbrev pub error_line : ℕ → Data → List ℕ
+error_line k error = compact_text (object_of ((codes "command", count k) ∷ (codes "error", error) ∷ [])) ++ 10 ∷ []
+
+-- ---- events
+
+-- the reason that a command gives, if it is a cancel
+abbrev pub reason_in : Option Command → List ℕ
+reason_in (Some (commands.Cancel target reason wait)) = reason
+reason_in _ = []
+
+-- the reason of the cancellation of this number
+abbrev pub reason_of : List Command → ℕ → List ℕ
+reason_of script c = reason_in (slice_get script (c - 1))
+
+-- the reason that an event's text tells
+abbrev pub reason_for : List Command → Event → List ℕ
+reason_for script (Refuse t c) = reason_of script c
+reason_for script _ = []
+
+abbrev pub told : List Command → Event → List ℕ
+told script event = event_text (reason_for script event) event
+
+-- the texts of events, as a JSON list
+abbrev pub told_all : List Command → List Event → Data
+told_all script events = array (items_of (map (λ event. string (told script event)) events))
+
+-- ---- searches
+
+-- the task that ends with an event, and its reply
+abbrev pub ending : Event → Option (TaskId × Reply)
+ending (Refuse t c) = Some (t, Cancelled t c no_counts)
+ending (End t reply) = Some (t, reply)
+ending _ = None
+
+-- the task that a command started, by one of its events
+abbrev pub root_in : Event → Option TaskId
+root_in (Root k t) = Some t
+root_in _ = None
+
+-- the node that had no slot for it
+abbrev pub full_node_in : Event → Option ℕ
+full_node_in (RootRejected k n) = Some n
+full_node_in _ = None
+
+-- the first thing that is found in a list
+abbrev pub first_in : {X Y : Type 0} → (X → Option Y) → List X → Option Y
+first_in look xs = slice_get (filter_map look xs) 0
+
+-- the task that a command started
+abbrev pub started : ℕ → List Event → Option TaskId
+started k history = first_in root_in (events_of k history)
+
+-- some document of the input is in the index
+abbrev pub is_known : Corpus → List ℕ → Bool
+is_known corpus index = list_any (λ line. bytes_eq index line.index) corpus.lines
+
+-- Why a search has no task: the first that fits of a fault of its body, an index that there is not, and a node without a free slot.
+abbrev pub refusal : List ℕ → Result SearchBody BodyError → Bool → Option ℕ → Option Data
+refusal index (Err fault) known full_node = Some (body_error fault)
+refusal index (Ok body) false full_node = Some (index_not_found index)
+refusal index (Ok body) true (Some node) = Some (rejected node)
+refusal index (Ok body) true None = None
+
+-- how a search ended: with its hits, or with all its shards failed, or cancelled
+abbrev pub ended_line : ℕ → List Command → ℕ → Option Reply → List ℕ
+ended_line shards script k (Some (Search reply)) = reply_line k (search_json shards reply)
+ended_line shards script k (Some (AllFailed failed)) = error_line k (all_shards_failed failed)
+ended_line shards script k (Some (Cancelled t c counts)) = error_line k (task_cancelled (reason_of script c) t)
+ended_line shards script k _ = []
+
+-- why a search has no task, or how its task ended
+abbrev pub search_line : ℕ → List Command → ℕ → Option Data → Option Reply → List ℕ
+search_line shards script k (Some error) reply = error_line k error
+search_line shards script k None reply = ended_line shards script k reply
+
+-- ---- cancels
+
+-- the task that a cancel is about
+abbrev pub target_in : List Command → List Event → CancelTarget → Option TaskId
+target_in script history (Task t) = Some t
+target_in script history (Of k) = if nat_le k (length script) then started k history else None
+
+-- the task that a cancel names, by one of its events
+abbrev pub named_in : Event → Option TaskId
+named_in (Cancel c t wait) = Some t
+named_in _ = None
+
+abbrev pub finds_none : Event → Bool
+finds_none (NotFound c) = true
+finds_none _ = false
+
+-- the tasks that a cancel named, in the order in which it named them
+abbrev pub cancelled : List TaskId → Bool → Data
+cancelled tasks wait = object_of ((codes "cancelled", array (items_of (map (λ t. string (task_id_text t)) tasks))) ∷ (codes "waited", boolean wait) ∷ [])
+
+-- the tasks that it named, or that it found none
+abbrev pub cancel_line : ℕ → Option TaskId → Bool → List Event → List ℕ
+cancel_line k target wait events =
+    if list_any finds_none events then error_line k (not_found target) else reply_line k (cancelled (filter_map named_in events) wait)
+
+-- ---- lines of a schedule
+
+-- why a line of a schedule makes nothing happen
+abbrev pub idle_of : Command → List Event → Option Idle
+idle_of (commands.Deliver nth) past = Some (NoSuchMessage (length (in_flight past)))
+idle_of (commands.Step t) past = Some (if is_live t past then Waiting else NotRunning)
+idle_of (commands.ListStep n p) past = Some NoListing
+idle_of _ past = None
+
+abbrev pub idle_error : Idle → Data
+idle_error (NoSuchMessage in_flight) = no_such_message in_flight
+idle_error NotRunning = plain_error (codes "not_running")
+idle_error Waiting = plain_error (codes "waiting")
+idle_error NoListing = plain_error (codes "no_listing")
+
+-- what a line of a schedule made happen, or why it made nothing happen
+abbrev pub moved_line : List Command → ℕ → List Event → Option Idle → List ℕ
+moved_line script k [] None = []
+moved_line script k [] (Some idle) = error_line k (idle_error idle)
+moved_line script k (e ∷ es) idle = reply_line k (told_all script (e ∷ es))
+
+abbrev pub settled : ℕ → Data
+settled events = object_of ((codes "events", count events) ∷ [])
+
+-- ---- all lines
+
+-- The line of a command. The last is why it makes nothing happen, which tells only where nothing happened.
+abbrev pub line_of : Cluster → Corpus → List Command → List Event → ℕ → Command → Option Idle → List ℕ
+line_of cluster corpus script history k (commands.Search index node body) idle =
+    search_line cluster.shards script k (refusal index (body_at false 0 body) (is_known corpus index) (first_in full_node_in (events_of k history))) (option_and_then (λ t. reply_of t history) (started k history))
+line_of cluster corpus script history k (commands.Cancel target reason wait) idle = cancel_line k (target_in script history target) wait (events_of k history)
+line_of cluster corpus script history k commands.Settle idle = reply_line k (settled (length (events_of k history)))
+line_of cluster corpus script history k commands.History idle = reply_line k (told_all script (events_before k history))
+line_of cluster corpus script history k (commands.Deliver nth) idle = moved_line script k (events_of k history) idle
+line_of cluster corpus script history k (commands.Step t) idle = moved_line script k (events_of k history) idle
+line_of cluster corpus script history k (commands.ListStep n p) idle = moved_line script k (events_of k history) idle
+
+-- the lines of some commands, of which the first has this number
+abbrev pub lines_from : (ℕ → Command → List ℕ) → ℕ → List Command → List ℕ
+lines_from line k [] = []
+lines_from line k (command ∷ more) = line k command ++ lines_from line (k + 1) more
+
+-- The output of a script after its run: the line of each command, in order.
+abbrev pub printed : Cluster → Corpus → List Command → List Event → List ℕ
+printed cluster corpus script history = lines_from (λ k command. line_of cluster corpus script history k command (idle_of command (history_before k history))) 1 script
+
+-- the same, where it was told of each command why it makes nothing happen
+abbrev pub printed_by : List (Option Idle) → Cluster → Corpus → List Command → List Event → List ℕ
+printed_by found cluster corpus script history = lines_from (λ k command. line_of cluster corpus script history k command (unwrap_or (slice_get found (k - 1)) None)) 1 script
+
+-- of each command that makes nothing happen it was told why
+abbrev pub IsFound : List Command → List Event → List (Option Idle) → Type 0
+IsFound script history found = (i : ℕ) (command : Command) → slice_get script i ≡ Some command → events_of (i + 1) history ≡ [] → slice_get found i ≡ Some (idle_of command (history_before (i + 1) history))

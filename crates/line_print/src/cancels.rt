@@ -1,0 +1,82 @@
+//! The lines of cancels.
+
+ghost use Rattle.std.specs.Prelude.{◌≡◌, ◌++◌, OnOk, IfOk, map, filter_map};
+ghost use Rattle.std.specs.List.{list_any};
+ghost use Rattle.serde_json.specs.Data.{array, string};
+ghost use Rattle.serde_json.specs.View.{view, items_of};
+ghost use Rattle.task_ids.specs.TaskId.{task_id_text};
+ghost use Rattle.line_print.specs.Lines.{named_in, finds_none, cancelled, cancel_line};
+
+use crate::errors::{id_value, not_found};
+use crate::write::{error_line, reply_line};
+use serde_json::{Value, json};
+use std::alloc::{AllocError, Global};
+use task_events::Event;
+use task_ids::TaskId;
+
+fn named_in(event: &Event) -> Option<TaskId>
+    ensures { result ≡ named_in event.now }
+{
+    match event {
+        Event::Cancel { task, .. } => Some(*task),
+        _ => None,
+    }
+}
+
+fn is_not_found(event: &Event) -> bool
+    ensures { result ≡ finds_none event.now }
+{
+    matches!(event, Event::NotFound { .. })
+}
+
+fn finds_none(turn: &[Event]) -> bool
+    ensures { result ≡ list_any finds_none turn.now }
+{
+    for event in turn {
+        if is_not_found(event) {
+            return true;
+        }
+    }
+    false
+}
+
+/// The ids of the tasks that a cancel named, by the events of its turn.
+fn named(alloc: Global, turn: &[Event]) -> Result<Value, AllocError>
+    ensures { IfOk result (λ value. view value
+        ≡ array (items_of (map (λ t. string (task_id_text t)) (filter_map named_in turn.now)))) }
+{
+    let mut values = Vec::new(alloc);
+    for event in turn {
+        if let Some(task) = named_in(event) {
+            values.push(id_value(alloc, task)?)?;
+        }
+    }
+    Ok(Value::Array(values))
+}
+
+fn cancelled(alloc: Global, turn: &[Event], wait: bool) -> Result<Value, AllocError>
+    ensures { IfOk result (λ value. view value ≡ cancelled (filter_map named_in turn.now) wait) }
+{
+    let tasks = named(alloc, turn)?;
+    json!(in alloc; {"cancelled": tasks, "waited": wait})
+}
+
+/// Appends the line of a cancel, by the events of its turn.
+pub(crate) fn cancel_line(
+    alloc: Global,
+    out: &mut Vec<u8>,
+    command: u32,
+    target: Option<TaskId>,
+    wait: bool,
+    turn: &[Event],
+) -> Result<(), AllocError>
+    ensures { OnOk result (out.new.items ≡ out.old.items ++ cancel_line command target wait turn.now) }
+{
+    if finds_none(turn) {
+        let error = not_found(alloc, target)?;
+        error_line(alloc, out, command, &error)
+    } else {
+        let reply = cancelled(alloc, turn, wait)?;
+        reply_line(alloc, out, command, &reply)
+    }
+}

@@ -1,0 +1,134 @@
+//! All lines of a script's output.
+
+ghost use Rattle.std.specs.Prelude.{◌≡◌, ◌+◌, ◌<◌, ◌≤◌, ◌++◌, None, IfOk, OnOk, length, reverse, slice_get, unwrap_or};
+ghost use Rattle.line_print.specs.Lines.{line_of, printed, printed_by, IsFound};
+ghost use Rattle.line_print.specs.Looked.{IsReady};
+
+use crate::cancels::cancel_line;
+use crate::ends::ends_of;
+use crate::idle::Idle;
+use crate::moves::{moved_line, settled_line};
+use crate::run::Run;
+use crate::searches::{indices_of, search_line};
+use crate::told::events_line;
+use crate::turns::turns_of;
+use script_lang::{Command, Script};
+use std::alloc::{AllocError, Global};
+use task_events::{Event, History};
+use task_ids::{Cluster, Corpus};
+
+/// Appends the line of a command, which has this number, and which made nothing happen for this reason, if it did not.
+fn command_line(
+    alloc: Global,
+    out: &mut Vec<u8>,
+    run: &Run,
+    number: usize,
+    command: &Command,
+    idle: Option<Idle>,
+) -> Result<(), AllocError>
+    requires ready { IsReady run.now }
+    requires number { number ≤ length run.now.script.now }
+    requires few { length run.now.script.now ≤ 65535 }
+    ensures { OnOk result (out.new.items ≡ out.old.items
+        ++ line_of run.now.cluster.now run.now.corpus.now run.now.script.now (reverse run.now.events.now) number command.now idle) }
+{
+    let k = number as u32;
+    let turn = run.turn(number);
+    match command {
+        Command::Search { index, body, .. } => {
+            search_line(alloc, out, run, k, index.as_str(), body)
+        }
+        Command::Cancel { target, wait, .. } => {
+            cancel_line(alloc, out, k, run.target(*target), *wait, turn)
+        }
+        Command::Settle => settled_line(alloc, out, k, turn.len()),
+        Command::History => events_line(alloc, out, run.script, k, run.turns_before(number)),
+        Command::Deliver { .. } | Command::Step { .. } | Command::ListStep { .. } => {
+            moved_line(alloc, out, run.script, k, turn, idle)
+        }
+    }
+}
+
+/// What is looked up of a run, in one pass over its events and one over the input's documents.
+fn run_of<'a>(
+    alloc: Global,
+    cluster: &'a Cluster,
+    corpus: &'a Corpus,
+    script: &'a [Command],
+    events: &'a [Event],
+) -> Result<Run<'a>, AllocError>
+    ensures ready { IfOk result (λ run. IsReady run) }
+    ensures same { IfOk result (λ run. (run.cluster.now ≡ cluster.now) × (run.corpus.now ≡ corpus.now) × (run.script.now ≡ script.now) × (run.events.now ≡ events.now)) }
+{
+    Ok(Run {
+        cluster,
+        corpus,
+        script,
+        events,
+        turns: turns_of(alloc, events, script.len())?,
+        ends: ends_of(alloc, events)?,
+        known: indices_of(alloc, corpus)?,
+    })
+}
+
+/// Why the command at a place, from 0, made nothing happen.
+fn idle_at(found: &[Option<Idle>], place: usize) -> Option<Idle>
+    ensures { result ≡ unwrap_or (slice_get found.now place) None }
+{
+    match found.get(place) {
+        Some(idle) => *idle,
+        None => None,
+    }
+}
+
+/// Appends the lines of all commands.
+fn run_lines(
+    alloc: Global,
+    out: &mut Vec<u8>,
+    run: &Run,
+    found: &[Option<Idle>],
+) -> Result<(), AllocError>
+    requires ready { IsReady run.now }
+    requires few { length run.now.script.now ≤ 65535 }
+    ensures { OnOk result (out.new.items ≡ out.old.items
+        ++ printed_by found.now run.now.cluster.now run.now.corpus.now run.now.script.now (reverse run.now.events.now)) }
+{
+    for (place, command) in run.script.iter().enumerate() {
+        command_line(alloc, out, run, place + 1, command, idle_at(found, place))?;
+    }
+    Ok(())
+}
+
+/// Appends the output of a script after its run: one line of JSON a command, in order.
+///
+/// A search tells its hits, as Elasticsearch's search API does, or why it has none; a cancel the tasks that it named; `deliver`,
+/// `step` and `list_step` the events that they made, or why they made none; `settle` how many it made; `history` all events
+/// before it.
+///
+/// At the place of its command `found` tells of each line of a schedule that made nothing happen why. Where memory runs out a
+/// part of the output may have been appended.
+pub fn print_lines(
+    alloc: Global,
+    cluster: &Cluster,
+    corpus: &Corpus,
+    script: &Script,
+    history: &History,
+    found: &[Option<Idle>],
+    out: &mut Vec<u8>,
+) -> Result<(), AllocError>
+    requires { length script.now.commands ≤ 65535 }
+    ensures by { OnOk result (out.new.items ≡ out.old.items ++ printed_by found.now cluster.now corpus.now script.now.commands history.now) }
+
+    // Where `found` tells of each line of a schedule that made nothing happen why, it is the script's output.
+    ensures printed { IsFound script.now.commands history.now found.now
+        → OnOk result (out.new.items ≡ out.old.items ++ printed cluster.now corpus.now script.now.commands history.now) }
+{
+    let run = run_of(
+        alloc,
+        cluster,
+        corpus,
+        script.commands.as_slice(),
+        history.as_slice(),
+    )?;
+    run_lines(alloc, out, &run, found)
+}

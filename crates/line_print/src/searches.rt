@@ -1,0 +1,162 @@
+//! The lines of searches.
+
+ghost use Rattle.std.specs.Prelude.{◌≡◌, ◌≤◌, ◌++◌, ℕ, false, length, reverse, List, OnOk, IfOk, Some, None, option_map, option_and_then};
+ghost use Rattle.std.specs.HashSet.{contains_by};
+ghost use Rattle.std.specs.Str.{bytes_eq};
+ghost use Rattle.serde_json.specs.View.{view};
+ghost use Rattle.query_parse.specs.Bodies.{body_at};
+ghost use Rattle.task_events.specs.Tasks.{reply_of};
+ghost use Rattle.task_events.specs.Turns.{events_of};
+ghost use Rattle.line_print.specs.Lines.{is_known, first_in, root_in, full_node_in, started, ending, refusal, ended_line, search_line};
+ghost use Rattle.line_print.specs.Looked.{IsReady};
+
+use crate::errors;
+use crate::run::Run;
+use crate::told::reason_of;
+use crate::write::{error_line, hits_line};
+use query_parse::{BodyError, read_body};
+use script_lang::Command;
+use serde_json::Value;
+use std::alloc::{AllocError, Global};
+use std::collections::HashSet;
+use task_events::{Event, Reply};
+use task_ids::{Corpus, DocSource, TaskId};
+
+fn root_in(event: &Event) -> Option<TaskId>
+    ensures { result ≡ root_in event.now }
+{
+    match event {
+        Event::Root { task, .. } => Some(*task),
+        _ => None,
+    }
+}
+
+/// The task that a command started, by the events of its turn.
+pub(crate) fn started(turn: &[Event]) -> Option<TaskId>
+    ensures { result ≡ first_in root_in turn.now }
+{
+    for event in turn {
+        if let Some(task) = root_in(event) {
+            return Some(task);
+        }
+    }
+    None
+}
+
+fn full_node_in(event: &Event) -> Option<u32>
+    ensures { result ≡ full_node_in event.now }
+{
+    match event {
+        Event::RootRejected { node, .. } => Some(*node),
+        _ => None,
+    }
+}
+
+/// The node that had no slot for a command's task, by the events of its turn.
+fn full_node(turn: &[Event]) -> Option<u32>
+    ensures { result ≡ first_in full_node_in turn.now }
+{
+    for event in turn {
+        if let Some(node) = full_node_in(event) {
+            return Some(node);
+        }
+    }
+    None
+}
+
+/// The indices of the input's documents.
+pub(crate) fn indices_of<'a>(
+    alloc: Global,
+    corpus: &'a Corpus,
+) -> Result<HashSet<&'a str>, AllocError>
+    ensures { IfOk result (λ known. (index : List ℕ) → contains_by (λ k. bytes_eq index k.now) known ≡ is_known corpus.now index) }
+{
+    let mut known = HashSet::new(alloc);
+    for line in corpus.lines.as_slice() {
+        known.insert(line.index.as_str())?;
+    }
+    Ok(known)
+}
+
+/// Why a search has no task, by the events of its turn, if it has none.
+pub(crate) fn refusal(
+    alloc: Global,
+    index: &str,
+    body: &DocSource,
+    known: bool,
+    turn: &[Event],
+) -> Result<Option<Value>, AllocError>
+    ensures { IfOk result (λ error. option_map view error
+        ≡ refusal index.now (body_at false 0 body.now) known (first_in full_node_in turn.now)) }
+{
+    match read_body(alloc, body.as_value(), false, 0) {
+        Ok(_) if !known => Ok(Some(errors::index_not_found(alloc, index)?)),
+        Ok(_) => match full_node(turn) {
+            Some(node) => Ok(Some(errors::rejected(alloc, node)?)),
+            None => Ok(None),
+        },
+        Err(BodyError::Memory) => Err(AllocError),
+        Err(fault) => Ok(Some(errors::body_error(alloc, &fault)?)),
+    }
+}
+
+/// Appends the line of a search whose task ended with an event, where its index has so many shards.
+fn end_line(
+    alloc: Global,
+    out: &mut Vec<u8>,
+    shards: u32,
+    script: &[Command],
+    command: u32,
+    event: &Event,
+) -> Result<(), AllocError>
+    ensures { OnOk result (out.new.items
+        ≡ out.old.items ++ ended_line shards script.now command (option_map (λ end. end.1) (ending event.now))) }
+{
+    match event {
+        Event::End {
+            reply: Reply::Search(reply),
+            ..
+        } => { hits_line(alloc, out, shards, command, reply.get()) }
+        Event::End {
+            reply: Reply::AllFailed(failed),
+            ..
+        } => {
+            let error = errors::all_shards_failed(alloc, failed.as_slice())?;
+            error_line(alloc, out, command, &error)
+        }
+        Event::End {
+            reply: Reply::Cancelled { task, cancel, .. },
+            ..
+        }
+        | Event::Refuse { task, cancel } => {
+            let error = errors::task_cancelled(alloc, reason_of(script, *cancel), *task)?;
+            error_line(alloc, out, command, &error)
+        }
+        _ => Ok(()),
+    }
+}
+
+/// Appends the line of a search.
+pub(crate) fn search_line(
+    alloc: Global,
+    out: &mut Vec<u8>,
+    run: &Run,
+    command: u32,
+    index: &str,
+    body: &DocSource,
+) -> Result<(), AllocError>
+    requires ready { IsReady run.now }
+    requires command { command ≤ length run.now.script.now }
+    ensures { OnOk result (out.new.items ≡ out.old.items ++ search_line run.now.cluster.now.shards run.now.script.now command
+        (refusal index.now (body_at false 0 body.now) (is_known run.now.corpus.now index.now) (first_in full_node_in (events_of command (reverse run.now.events.now))))
+        (option_and_then (λ t. reply_of t (reverse run.now.events.now)) (started command (reverse run.now.events.now)))) }
+{
+    let turn = run.turn(command as usize);
+    match refusal(alloc, index, body, run.known.contains(index), turn)? {
+        Some(error) => error_line(alloc, out, command, &error),
+        None => match run.end_of(started(turn)) {
+            Some(event) => end_line(alloc, out, run.cluster.shards, run.script, command, event),
+            None => Ok(()),
+        },
+    }
+}

@@ -1,6 +1,0 @@
-use Rattle.task_top.proofs.PrintLemmas.{found_text}
-use Rattle.task_top.proofs.print.push_found.Goals as goal
-
-pub returns : goal.returns
-returns c =
-    rw (c.in_ok-push-3.ensures, c.in_ok-push_total.ensures, c.in_ok-push-2.ensures, c.in_ok-push_hits.ensures, c.as_slice.ensures, c.in_ok-push.ensures) (found_text c.args.reply.now c.args.out.now.items)

@@ -1,7 +1,0 @@
-use Rattle.task_top.proofs.PrintLemmas.{hit_text}
-use Rattle.task_top.proofs.print.push_hit.Goals as goal
-
-pub returns : goal.returns
-returns c =
-    rw (c.in_ok-push-4.ensures, c.in_ok-print.ensures.ok, c.in_ok-push-3.ensures, c.in_ok-push_quoted-2.ensures, c.as_str-2.ensures, c.in_ok-push-2.ensures, c.in_ok-push_quoted.ensures, c.as_str.ensures, c.in_ok-push.ensures)
-    (hit_text c.args.hit.now c.args.out.now.items)

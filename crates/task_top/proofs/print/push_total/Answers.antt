@@ -1,6 +1,0 @@
-use Rattle.task_top.proofs.PrintLemmas.{total_text}
-use Rattle.task_top.proofs.print.push_total.Goals as goal
-
-pub returns : goal.returns
-returns c =
-    rw (c.in_ok-push-2.ensures, c.in_ok-push_number.ensures, c.in_ok-push.ensures) (total_text c.args.total c.args.out.now.items)

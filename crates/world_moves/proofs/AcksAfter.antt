@@ -1,0 +1,228 @@
+-- The tables fit the past after an acknowledgement has come, with the answers and the unbans that come due with it.
+use Rattle.std.proofs.Common.{◌≡◌, ◌≤◌, ◌-◌, ◌==◌, ℕ, Bool, true, false, cond, not, List, [], ◌∷◌, ◌++◌, map, filter, Option, Some, None, refl, sym, ap, subst, ◌∙◌, inr, arith}
+use Rattle.std.specs.Prelude.{◌&&◌, slice_get, slice_set, remove, is_some, reverse, Contains}
+use Rattle.std.specs.List.{list_all, AllByRecursion}
+use Rattle.std.specs.BTreeSet.{BTreeSet}
+use Rattle.std.specs.FinMap.{FinMap, get}
+use Rattle.std.proofs.lemmas.List.{map-append}
+use Rattle.std.proofs.lemmas.Map.Views.{Contains-from_any, exact_unsigned_eq}
+use Rattle.task_ids.specs.declared.task_id.TaskId.{TaskId}
+use Rattle.task_ids.specs.declared.cluster.Cluster.{Cluster}
+use Rattle.task_ids.specs.declared.corpus.Corpus.{Corpus}
+use Rattle.task_ids.specs.TaskIdOrder.{task_id_cmp}
+use Rattle.task_table.specs.Table.{Table}
+use Rattle.cancel_core.specs.Acts.{due_acts}
+use Rattle.cancel_core.specs.declared.act.Act.{Act}
+use Rattle.cancel_core.specs.Cancellation.{Cancellation, with_ack, rest_of}
+use Rattle.cancel_core.specs.Cancellations.{Cancellations, with_entry}
+use Rattle.task_events.specs.declared.event.Event.{Event}
+use Rattle.task_events.specs.declared.event.Event.TheVariants.{Acked}
+use Rattle.task_events.specs.Same.{same_task}
+use Rattle.task_events.specs.Tasks.{has_ended}
+use Rattle.task_events.specs.Bans.{mark_of, banned_nodes, is_acked, unbans_are_sent}
+use Rattle.task_events.specs.Lawful.{AwaitsNoMark, Lawful}
+use Rattle.task_events.specs.Messages.{in_flight, unbans_from}
+use Rattle.task_events.specs.Messages.Message.{Ack, Unban}
+use Rattle.task_laws.proofs.Bans.{BanFacts, ban_facts, placed_acked}
+use Rattle.task_laws.proofs.Numbers.{in_list}
+use Rattle.task_laws.proofs.Same.{same_tests}
+use Rattle.script_lang.specs.declared.command.Script.{Script}
+use Rattle.world_moves.specs.declared.flight.Notice.TheVariants as notices
+use Rattle.world_moves.specs.declared.flight.Sent.{Sent}
+use Rattle.world_moves.specs.declared.flight.Sent.TheVariants as sent
+use Rattle.world_moves.specs.declared.listing.Listing.{Listing}
+use Rattle.world_moves.specs.declared.running.Running.{Running}
+use Rattle.world_moves.specs.Acts.{messages_in, answers_in}
+use Rattle.world_moves.specs.Cancels.{waiting_for, with_answers, due_answers}
+use Rattle.world_moves.specs.Cancelling.{Cancelling, HasCoreAt, IsCancellationOf, IsEntryOf, is_under_way, waiter_of}
+use Rattle.world_moves.specs.Flights.{message_of}
+use Rattle.world_moves.specs.Moves.{Delivers, IsPartOf, IsPartly}
+use Rattle.world_moves.specs.Plain.{AnswersPlainly}
+use Rattle.world_moves.specs.Roots.{root_request}
+use Rattle.world_moves.specs.Ties.{Ties, IsGood}
+use Rattle.world_moves.proofs.AnswersCome.{NameOneTask, waiting_after, answers_tied, answers_noted}
+use Rattle.world_moves.proofs.BansCome.{ack_here, ack_taken, ack_new, ack_banned}
+use Rattle.world_moves.proofs.ByPlace.{pairs_left, all_left}
+use Rattle.world_moves.proofs.CoresAfter.{marked_in, core_on, its_entry, cores_after}
+use Rattle.world_moves.proofs.DueActs.{due_answered, due_sent, due_left}
+use Rattle.world_moves.proofs.FlightAfter.{all_stay}
+use Rattle.world_moves.proofs.Kept.{kept_same}
+use Rattle.world_moves.proofs.Listed.{listed_same}
+use Rattle.world_moves.proofs.Naming.{is_in, in_filter}
+use Rattle.world_moves.proofs.Parts.{part_lawful, part_plain, later_part}
+
+-- ---- tasks and messages
+
+all_append : {X : Type 0} (P : X → Type 0) (xs ys : List X) → AllByRecursion P xs → AllByRecursion P ys → AllByRecursion P (xs ++ ys)
+all_append P [] ys a b = b
+all_append P (x ∷ xs) ys a b = (a.0, all_append P xs ys a.1 b)
+
+module _ (cluster : Cluster) (corpus : Corpus) (past : List Event) (p : TaskId) where
+  good_each : (ns : List ℕ) → AllByRecursion (IsGood cluster corpus past) (map (Unban p) ns)
+  good_each [] = tt
+  good_each (n ∷ ns) = (tt, good_each ns)
+
+  good_unbans : (b : Bool) (ns : List ℕ) → AllByRecursion (IsGood cluster corpus past) (cond b (map (Unban p) ns) [])
+  good_unbans true ns = good_each ns
+  good_unbans false ns = tt
+
+module _ (cluster : Cluster) (corpus : Corpus) (script : Script) (h : List Event) (tasks : TaskId → Option Running) (tables : List Table) (flight : List Sent) (ties : Ties cluster corpus script h tasks tables flight) (awaits : AwaitsNoMark h) (nth : ℕ) (p : TaskId) (n : ℕ) (here : slice_get flight nth ≡ Some (sent.Notice (notices.Ack p n))) where
+  pub tied_ack : (more : List Sent) → map (message_of (Acked p n ∷ h)) more ≡ map Some (unbans_from p (Acked p n ∷ h)) → Ties cluster corpus script (Acked p n ∷ h) tasks tables (remove flight nth ++ more)
+  tied_ack more says =
+      let taken = ack_taken cluster corpus script h tasks tables flight ties nth p n here in
+      record {
+        lawful = (taken.0, ties.lawful, awaits);
+        kept = kept_same cluster corpus (root_request script) (Acked p n) h tasks refl ties.kept;
+        listed = λ place. listed_same cluster (Acked p n) h (λ m. refl) refl place _ (ties.listed place);
+        sent = map-append (message_of (Acked p n ∷ h)) (remove flight nth) more
+            ∙ ap (λ ms. ms ++ map (message_of (Acked p n ∷ h)) more) (all_stay (Acked p n) h (remove flight nth) (remove (in_flight h) nth) (pairs_left (message_of h) flight (in_flight h) nth ties.sent))
+            ∙ ap (λ ms. map Some (remove (in_flight h) nth) ++ ms) says
+            ∙ sym (map-append Some (remove (in_flight h) nth) (unbans_from p (Acked p n ∷ h)))
+            ∙ ap (λ ms. map Some (ms ++ unbans_from p (Acked p n ∷ h))) (sym taken.1);
+        good = rw taken.1 (all_append (IsGood cluster corpus (Acked p n ∷ h)) (remove (in_flight h) nth) (unbans_from p (Acked p n ∷ h)) (all_left (IsGood cluster corpus h) (in_flight h) nth ties.good)
+            (good_unbans cluster corpus (Acked p n ∷ h) p (unbans_are_sent p (Acked p n ∷ h)) (banned_nodes p h)));
+        plain = ties.plain;
+      }
+
+  facts : BanFacts h
+  facts = ban_facts cluster h ties.lawful
+
+  pub ack_marked : is_some (mark_of p h) ≡ true
+  ack_marked = by_mark (mark_of p h) refl
+    where
+      by_mark : (o : Option ℕ) → mark_of p h ≡ o → is_some (mark_of p h) ≡ true
+      by_mark (Some c) e = rw e refl
+      by_mark None e =
+          let banned = ack_banned cluster corpus script h tasks tables flight ties nth p n here in
+          let none = facts.unmarked p e in
+          absurd (let b = rw none at banned in cc)
+
+  -- the cancellation of its task is under way
+  pub ack_under_way : is_under_way p h ≡ true
+  ack_under_way =
+      let fresh = ack_new cluster corpus script h tasks tables flight ties nth p n here in
+      let banned = ack_banned cluster corpus script h tasks tables flight ties nth p n here in
+      let acked = placed_acked n p h in
+      let marked = ack_marked in
+      grind (arith, in_list n (banned_nodes p h) (facts.once n p), acked)
+
+  -- the core of its task awaits the node
+  module _ (cores : List Cancellations) (are : (place : ℕ) → HasCoreAt cluster (λ t. waiting_for t h) place h (slice_get cores place)) where
+    pub ack_high : p.node ≤ cluster.nodes
+    ack_high = marked_in cluster p h ties.lawful ack_marked
+
+    pub ack_core : (core : Cancellations) × (slice_get cores (p.node - 1) ≡ Some core)
+    ack_core = core_on cluster (λ t. waiting_for t h) h cores are p ack_high
+
+    pub ack_entry : (core : Cancellations) → slice_get cores (p.node - 1) ≡ Some core → (c : Cancellation) × (get core.entries p ≡ Some c) × IsCancellationOf (waiting_for p h) p h c
+    ack_entry core on = its_entry cluster (λ t. waiting_for t h) h cores are p ack_high core on ack_under_way
+
+  pub ack_awaited : (c : Cancellation) → IsCancellationOf (waiting_for p h) p h c → Contains c.awaited n
+  ack_awaited c known =
+      let fresh = ack_new cluster corpus script h tasks tables flight ties nth p n here in
+      let banned = ack_banned cluster corpus script h tasks tables flight ties nth p n here in
+      let stays = in_filter (λ m. not (is_acked m p h)) n (banned_nodes p h) ∙ ap (λ b. b && is_in n (banned_nodes p h)) (ap not fresh) in
+      subst (λ ns. Contains ns n) (sym known.2) (Contains-from_any exact_unsigned_eq n (filter (λ m. not (is_acked m p h)) (banned_nodes p h)) (stays ∙ banned))
+
+-- ---- the cancellation
+
+module _ (h : List Event) (p : TaskId) (n : ℕ) where
+  awaited_now : (ns : List ℕ) → filter (λ m. not (m == n)) (filter (λ m. not (is_acked m p h)) ns) ≡ filter (λ m. not (is_acked m p (Acked p n ∷ h))) ns
+  awaited_now [] = refl
+  awaited_now (m ∷ ns) = let rest = awaited_now ns in grind (arith, same_tests)
+
+  -- a core knows that the node has acknowledged
+  pub acked_known : (c : Cancellation) → IsCancellationOf (waiting_for p h) p h c → IsCancellationOf (waiting_for p (Acked p n ∷ h)) p (Acked p n ∷ h) (with_ack c n)
+  acked_known c known = (known.0, known.1, ap (filter (λ m. not (m == n))) known.2 ∙ awaited_now (banned_nodes p h), known.3, known.4)
+
+  -- what a core knows of another task's cancellation, by who has acknowledged
+  abbrev EntryBy : List ℕ → TaskId → (ℕ → Bool) → Option Cancellation → Type 0
+  EntryBy waiting u acked None = ((is_some (mark_of u h) && not (has_ended u h && (is_some (mark_of u h) && list_all acked (banned_nodes u h)))) ≡ false) × (waiting ≡ [])
+  EntryBy waiting u acked (Some c) =
+      ((is_some (mark_of u h) && not (has_ended u h && (is_some (mark_of u h) && list_all acked (banned_nodes u h)))) ≡ true)
+      × ((mark_of u h ≡ Some c.cancel) × (c.banned ≡ banned_nodes u h) × (c.awaited ≡ filter (λ m. not (acked m)) (banned_nodes u h)) × (c.waiters ≡ map (waiter_of h) waiting) × (is_some c.receipt ≡ has_ended u h))
+
+  others_stay : (u : TaskId) → same_task p u ≡ false → (o : Option Cancellation) → IsEntryOf (waiting_for u h) u h o → IsEntryOf (waiting_for u (Acked p n ∷ h)) u (Acked p n ∷ h) o
+  others_stay u differs o has = by_entry o (subst (λ (acked : ℕ → Bool). EntryBy (waiting_for u h) u acked o) tests (as_before o has))
+    where
+      same : (m : ℕ) → is_acked m u (Acked p n ∷ h) ≡ is_acked m u h
+      same m = grind (arith, same_tests)
+
+      before : ℕ → Bool
+      before m = is_acked m u h
+
+      now : ℕ → Bool
+      now m = is_acked m u (Acked p n ∷ h)
+
+      tests : before ≡ now
+      tests = λ i m. sym (same m) i
+
+      as_before : (o : Option Cancellation) → IsEntryOf (waiting_for u h) u h o → EntryBy (waiting_for u h) u (λ m. is_acked m u h) o
+      as_before None e = e
+      as_before (Some c) e = e
+
+      by_entry : (o : Option Cancellation) → EntryBy (waiting_for u h) u (λ m. is_acked m u (Acked p n ∷ h)) o → IsEntryOf (waiting_for u (Acked p n ∷ h)) u (Acked p n ∷ h) o
+      by_entry None e = e
+      by_entry (Some c) e = e
+
+  pub noted_ack : (cluster : Cluster) (tables : List Table) (roots : ℕ → Option TaskId) (bans : List (FinMap task_id_cmp ℕ)) (cores : List Cancellations) (listings : BTreeSet Listing)
+      → Cancelling cluster (λ t. waiting_for t h) h tables roots bans cores listings → p.node ≤ cluster.nodes
+      → (core : Cancellations) → slice_get cores (p.node - 1) ≡ Some core → (c : Cancellation) → IsCancellationOf (waiting_for p h) p h c
+      → Cancelling cluster (waiting_after p (Acked p n ∷ h)) (Acked p n ∷ h) tables roots bans (slice_set cores (p.node - 1) (with_entry core p (rest_of (with_ack c n)))) listings
+  noted_ack cluster tables roots bans cores listings ties high core here c known = record {
+    rows_are = ties.rows_are;
+    roots_are = ties.roots_are;
+    bans_are = ties.bans_are;
+    cores_are = cores_after cluster (λ t. waiting_for t h) h cores ties.cores_are p high core here (waiting_after p (Acked p n ∷ h)) (Acked p n ∷ h) (rest_of (with_ack c n)) this others;
+    listings_are = ties.listings_are;
+    one_task = ties.one_task;
+  }
+    where
+      own : (ws vs : List ℕ) → cond (same_task p p) ws vs ≡ ws
+      own ws vs = let is_one : same_task p p ≡ true = grind (arith, same_tests) in rw is_one refl
+
+      this : IsEntryOf (waiting_after p (Acked p n ∷ h) p) p (Acked p n ∷ h) (rest_of (with_ack c n))
+      this = subst (λ ws. IsEntryOf ws p (Acked p n ∷ h) (rest_of (with_ack c n))) (sym (own _ _)) (due_left p (Acked p n ∷ h) (with_ack c n) (acked_known c known))
+
+      others : (u : TaskId) → same_task p u ≡ false → (o : Option Cancellation) → IsEntryOf (waiting_for u h) u h o → IsEntryOf (waiting_after p (Acked p n ∷ h) u) u (Acked p n ∷ h) o
+      others u differs o has =
+          let ws : waiting_after p (Acked p n ∷ h) u ≡ waiting_for u (Acked p n ∷ h) = rw differs refl in
+          subst (λ xs. IsEntryOf xs u (Acked p n ∷ h) o) (sym ws) (others_stay u differs o has)
+
+-- ---- the whole of it
+
+module _ (cluster : Cluster) (corpus : Corpus) (script : Script) (h : List Event) (tasks : TaskId → Option Running) (tables : List Table) (flight : List Sent) (ties : Ties cluster corpus script h tasks tables flight) (awaits : AwaitsNoMark h) (nth : ℕ) (p : TaskId) (n : ℕ) (here : slice_get flight nth ≡ Some (sent.Notice (notices.Ack p n)))
+    (c : Cancellation) (known : IsCancellationOf (waiting_for p h) p h c) (one : NameOneTask h) where
+  tied_now : Ties cluster corpus script (Acked p n ∷ h) tasks tables (remove flight nth ++ messages_in p.node (due_acts p (with_ack c n)))
+  tied_now =
+      tied_ack cluster corpus script h tasks tables flight ties awaits nth p n here (messages_in p.node (due_acts p (with_ack c n)))
+      (due_sent p (Acked p n ∷ h) (with_ack c n) (acked_known h p n c known) p.node (Acked p n ∷ h))
+
+  pub tied_after : Ties cluster corpus script (with_answers p (Acked p n ∷ h)) tasks tables (remove flight nth ++ messages_in p.node (due_acts p (with_ack c n)))
+  tied_after = answers_tied cluster p (Acked p n ∷ h) corpus script tasks tables _ tied_now tt one
+
+  -- the past after the answers
+  pub ack_happened : (past new : List Event) (acts : List Act) → past ≡ Acked p n ∷ h → acts ≡ due_acts p (with_ack c n) → new ≡ answers_in acts ++ past → new ≡ with_answers p (Acked p n ∷ h)
+  ack_happened past new acts is are happened =
+      happened ∙ ap (λ xs. answers_in xs ++ past) are ∙ ap (λ es. es ++ past) (due_answered p (Acked p n ∷ h) (with_ack c n) (acked_known h p n c known)) ∙ ap (λ es. reverse (due_answers p (Acked p n ∷ h)) ++ es) is
+
+  pub noted_after : (roots : ℕ → Option TaskId) (bans : List (FinMap task_id_cmp ℕ)) (cores : List Cancellations) (listings : BTreeSet Listing)
+      → Cancelling cluster (λ t. waiting_for t h) h tables roots bans cores listings → p.node ≤ cluster.nodes
+      → (core : Cancellations) → slice_get cores (p.node - 1) ≡ Some core
+      → Cancelling cluster (λ t. waiting_for t (with_answers p (Acked p n ∷ h))) (with_answers p (Acked p n ∷ h)) tables roots bans (slice_set cores (p.node - 1) (with_entry core p (rest_of (with_ack c n)))) listings
+  noted_after roots bans cores listings cancels high core on =
+      answers_noted cluster p (Acked p n ∷ h) tables roots bans _ listings tied_now.lawful (noted_ack h p n cluster tables roots bans cores listings cancels high core on c known)
+
+  pub delivers_ack : Delivers cluster h nth (with_answers p (Acked p n ∷ h))
+  delivers_ack = (Ack p n, Acked p n, ack_here cluster corpus script h tasks tables flight ties nth p n here, (refl, refl), refl)
+
+  -- where only a part has come
+  module _ (past new : List Event) (acts : List Act) (is : past ≡ Acked p n ∷ h) (are : acts ≡ due_acts p (with_ack c n)) (part : IsPartOf past new (answers_in acts ++ past)) where
+    part_of : IsPartOf h new (with_answers p (Acked p n ∷ h))
+    part_of = later_part (Acked p n) h new _ (subst (λ x. IsPartOf x new (with_answers p (Acked p n ∷ h))) is (subst (IsPartOf past new) (ack_happened past _ acts is are refl) part))
+
+    pub partly_ack : IsPartly (λ x y. Delivers cluster x nth y) h new
+    partly_ack = inr (with_answers p (Acked p n ∷ h), delivers_ack, part_of)
+
+    pub part_laws : Lawful cluster new × AnswersPlainly cluster corpus script new
+    part_laws = (part_lawful cluster corpus script h new _ part_of tied_after.lawful, part_plain cluster corpus script h new _ part_of tied_after.plain)

@@ -1,0 +1,61 @@
+use Rattle.std.proofs.Common.{◌∙◌, Some, refl, sym, ap}
+use Rattle.std.specs.Option.{option_copied_mut}
+use Rattle.task_events.specs.declared.event.Event.TheVariants.{Answered}
+use Rattle.world_moves.specs.Cancels.{waiting_for}
+use Rattle.world_moves.specs.Ties.{task_at}
+use Rattle.world_moves.proofs.Kept.{some_of, at_changed, off_changed}
+use Rattle.world_moves.proofs.StepsAfter.{is_kept}
+use Rattle.world_moves.proofs.AnswersAfter.{has_parent, has_reply, asker_live, own, takes_reply, delivers, after_answer}
+use Rattle.world_moves.proofs.Uninvolved.{noted}
+use Rattle.world_moves.proofs.answers.deliver_answer.Goals as goal
+
+pub unreachable-requires : goal.unreachable-requires
+unreachable-requires c =
+    let s = c.args.state.now in
+    has_parent s.cluster s.corpus.now s.script.now s.history _ _ _ c.requires.tied.ties c.args.nth c.take_answer-receipt.result.0 c.take_answer-receipt.result.1 c.take_answer-receipt.ensures.taken (sym c.parent.ensures ∙ c.in_default.is)
+
+pub reply_at-requires : goal.reply_at-requires
+reply_at-requires c =
+    let s = c.args.state.now in
+    has_reply s.cluster s.corpus.now s.script.now s.history _ _ _ c.requires.tied.ties c.args.nth c.take_answer-receipt.result.0 c.take_answer-receipt.result.1 c.take_answer-receipt.ensures.taken c.in-Some.parent (sym c.parent.ensures ∙ c.in-Some.is)
+
+pub unreachable-requires-in_default-get_mut : goal.unreachable-requires-in_default-get_mut
+unreachable-requires-in_default-get_mut c =
+    let s = c.args.state.now in
+    let live = asker_live s.cluster s.corpus.now s.script.now s.history _ _ _ c.requires.tied.ties c.args.nth c.take_answer-receipt.result.0 c.take_answer-receipt.result.1 c.take_answer-receipt.ensures.taken c.in-Some.parent (sym c.parent.ensures ∙ c.in-Some.is) c.in_ok-reply.reply c.in_ok-reply.ensures.reply in
+    is_kept s.cluster s.corpus.now s.script.now s.history _ _ _ c.requires.tied.ties c.in-Some.parent live (sym c.get_mut.ensures.value ∙ ap option_copied_mut c.in_default-get_mut.is)
+
+pub take_reply-requires-clause-own : goal.take_reply-requires-clause-own
+take_reply-requires-clause-own c =
+    let s = c.args.state.now in
+    let was = sym c.get_mut.ensures.value ∙ ap option_copied_mut c.in-Some-get_mut.is in
+    own s.cluster s.corpus.now s.script.now s.history _ _ _ c.requires.tied.ties c.args.nth c.take_answer-receipt.result.0 c.take_answer-receipt.result.1 c.take_answer-receipt.ensures.taken c.in-Some.parent (sym c.parent.ensures ∙ c.in-Some.is) c.in_ok-reply.reply c.in_ok-reply.ensures.reply c.in-Some-get_mut.running.now was
+
+pub take_reply-requires-clause-takes : goal.take_reply-requires-clause-takes
+take_reply-requires-clause-takes c =
+    let s = c.args.state.now in
+    let was = sym c.get_mut.ensures.value ∙ ap option_copied_mut c.in-Some-get_mut.is in
+    takes_reply s.cluster s.corpus.now s.script.now s.history _ _ _ c.requires.tied.ties c.args.nth c.take_answer-receipt.result.0 c.take_answer-receipt.result.1 c.take_answer-receipt.ensures.taken c.in-Some.parent (sym c.parent.ensures ∙ c.in-Some.is) c.in_ok-reply.reply c.in_ok-reply.ensures.reply c.in-Some-get_mut.running.now was
+
+pub returns-clause-delivered : goal.returns-clause-delivered
+returns-clause-delivered c =
+    let s = c.args.state.now in
+    rw (c.in_ok-append.ensures.ok, c.ask.ensures)
+    (delivers s.cluster s.corpus.now s.script.now s.history _ _ _ c.requires.tied.ties c.args.nth c.take_answer-receipt.result.0 c.take_answer-receipt.result.1 c.take_answer-receipt.ensures.taken c.in-Some.parent (sym c.parent.ensures ∙ c.in-Some.is) c.in_ok-reply.reply c.in_ok-reply.ensures.reply)
+
+pub returns-clause-tied : goal.returns-clause-tied
+returns-clause-tied c =
+    let s = c.args.state.now in
+    let was = sym c.get_mut.ensures.value ∙ ap option_copied_mut c.in-Some-get_mut.is in
+    let w = c.take_reply.new.self in
+    let changed = ((c.get_mut.follows.holds w).3 (some_of _ _ was)).0 in
+    let here = at_changed c.in-Some.parent (Some w) (task_at s.tasks) _ changed ∙ ap Some c.in_ok-take_reply.ensures.taken in
+    let others = off_changed c.in-Some.parent (Some w) (task_at s.tasks) _ changed in
+    rw (c.in_ok-append.ensures.ok, c.ask.ensures, c.take_answer-receipt.ensures.rest) (record {
+      ties = after_answer s.cluster s.corpus.now s.script.now s.history _ _ _ c.requires.tied.ties c.args.nth c.take_answer-receipt.result.0 c.take_answer-receipt.result.1 c.take_answer-receipt.ensures.taken c.in-Some.parent (sym c.parent.ensures ∙ c.in-Some.is) c.in_ok-reply.reply c.in_ok-reply.ensures.reply c.in-Some-get_mut.running.now was c.requires.tied.awaits _ here others;
+      cancels = noted s.cluster (λ t. waiting_for t s.history) s.history _ _ _ _ _ c.requires.tied.cancels (Answered c.in-Some.parent c.take_answer-receipt.result.0.ask) refl refl;
+      awaits = tt;
+    })
+
+pub returns-clause-room : goal.returns-clause-room
+returns-clause-room c = c.in_ok-append.ensures.room

@@ -1,0 +1,40 @@
+use Rattle.std.proofs.Common.{◌∙◌, Some, refl, sym, ap, arith}
+use Rattle.std.proofs.lemmas.Option.{get_or_from_slice_get}
+use Rattle.task_events.specs.declared.event.Event.TheVariants.{BanGone}
+use Rattle.task_events.specs.Messages.Message.{Unban}
+use Rattle.world_moves.proofs.BansAfter.{bans_on, has_bans, tied_gone, noted_gone}
+use Rattle.world_moves.proofs.BansCome.{unban_here, unban_in}
+use Rattle.world_moves.proofs.bans.deliver_unban.Goals as goal
+
+pub overflow_sub-node : goal.overflow_sub-node
+overflow_sub-node c =
+    let s = c.args.state.now in
+    (unban_in s.cluster s.corpus.now s.script.now s.history _ _ s.flight c.requires.tied.ties c.args.nth c.args.parent c.args.node c.requires.there).0
+
+pub index_mut-requires : goal.index_mut-requires
+index_mut-requires c =
+    let s = c.args.state.now in
+    let node = unban_in s.cluster s.corpus.now s.script.now s.history _ _ s.flight c.requires.tied.ties c.args.nth c.args.parent c.args.node c.requires.there in
+    let many = has_bans s.cluster s.history _ _ s.bans.items _ _ c.requires.tied.cancels c.args.node node.0 node.1 in
+    omega (arith, many)
+
+pub returns-clause-delivered : goal.returns-clause-delivered
+returns-clause-delivered c =
+    let s = c.args.state.now in
+    let here = unban_here s.cluster s.corpus.now s.script.now s.history _ _ s.flight c.requires.tied.ties c.args.nth c.args.parent c.args.node c.requires.there in
+    (Unban c.args.parent c.args.node, BanGone c.args.node c.args.parent, here, (refl, refl), c.in_ok-append.ensures.ok)
+
+pub returns-clause-tied : goal.returns-clause-tied
+returns-clause-tied c =
+    let s = c.args.state.now in
+    let node = unban_in s.cluster s.corpus.now s.script.now s.history _ _ s.flight c.requires.tied.ties c.args.nth c.args.parent c.args.node c.requires.there in
+    let on = bans_on s.cluster s.history _ _ s.bans.items _ _ c.requires.tied.cancels c.args.node node.0 node.1 in
+    let is = c.index_mut.ensures.value ∙ get_or_from_slice_get s.bans.items _ on.0 _ on.1 in
+    let here = on.1 ∙ ap Some (sym is) in
+    let rest = rw (c.take-unban.ensures.taken ∙ c.requires.there) at c.take-unban.ensures.rest in
+    let happened = c.in_ok-append.ensures.ok in
+    record {
+      ties = rw (happened, rest) (tied_gone s.cluster s.corpus.now s.script.now s.history _ _ s.flight c.requires.tied.ties c.requires.tied.awaits c.args.nth c.args.parent c.args.node c.requires.there);
+      cancels = rw (happened, c.remove-stood.ensures.removed) (noted_gone s.cluster s.history _ _ s.bans.items _ _ c.requires.tied.cancels c.args.node node.0 node.1 c.args.parent c.index_mut.result.now here);
+      awaits = rw happened tt;
+    }

@@ -1,0 +1,68 @@
+use Rattle.std.proofs.Common.{◌∙◌, ◌-◌, ◌++◌, None, refl, ap, sym, arith}
+use Rattle.std.specs.Prelude.{slice_set}
+use Rattle.task_table.specs.Table.{without_task}
+use Rattle.task_events.specs.declared.event.Event.TheVariants.{End}
+use Rattle.world_moves.specs.Flights.{told_parent}
+use Rattle.world_moves.specs.Ties.{task_at}
+use Rattle.world_moves.proofs.Kept.{at_changed, off_changed}
+use Rattle.world_moves.proofs.SameTies.{same_ties}
+use Rattle.world_moves.proofs.StepsAfter.{is_kept}
+use Rattle.world_moves.proofs.EndsAfter.{after_finish, all_come}
+use Rattle.world_moves.proofs.LeftNotes.{noted_unmarked}
+use Rattle.world_moves.proofs.Leaving.{nothing_open, own_track, has_table, table_is, stands, runs}
+use Rattle.world_moves.proofs.ends.finish.Goals as goal
+
+pub unreachable-requires : goal.unreachable-requires
+unreachable-requires c =
+    let s = c.args.state.now in
+    is_kept s.cluster s.corpus.now s.script.now s.history _ _ _ c.requires.tied.ties c.args.task c.requires.live (sym c.remove.ensures.value ∙ c.in_default.is)
+
+pub index_mut-requires : goal.index_mut-requires
+index_mut-requires c =
+    let s = c.args.state.now in
+    let low = c.args.task.node_in_range.0 in
+    let many = has_table s.cluster s.corpus.now s.script.now s.history _ _ _ c.requires.tied.ties c.args.task c.requires.live in
+    omega (arith, low, many)
+
+pub end_in-receipt-requires-clause-live : goal.end_in-receipt-requires-clause-live
+end_in-receipt-requires-clause-live c =
+    let s = c.args.state.now in
+    let was = sym c.remove.ensures.value ∙ c.in-Some.is in
+    let its = table_is s.cluster s.corpus.now s.script.now s.history _ _ _ c.requires.tied.ties c.args.task c.requires.live c.index_mut.result.now c.index_mut.ensures.value in
+    stands s.cluster s.corpus.now s.script.now s.history _ _ _ c.requires.tied.ties c.args.task c.requires.live c.in-Some.running was c.index_mut.result.now its
+
+pub end_in-receipt-requires-clause-track : goal.end_in-receipt-requires-clause-track
+end_in-receipt-requires-clause-track c =
+    let s = c.args.state.now in
+    let was = sym c.remove.ensures.value ∙ c.in-Some.is in
+    own_track s.cluster s.corpus.now s.script.now s.history _ _ _ c.requires.tied.ties c.args.task c.requires.live c.in-Some.running was
+
+pub end_in-receipt-requires-clause-answered : goal.end_in-receipt-requires-clause-answered
+end_in-receipt-requires-clause-answered c =
+    let s = c.args.state.now in
+    let r = c.in-Some.running in
+    let was = sym c.remove.ensures.value ∙ c.in-Some.is in
+    let next = rw was at c.requires.next in
+    nothing_open s.cluster s.corpus.now s.script.now s.history _ _ _ c.requires.tied.ties c.args.task c.requires.live r was
+    (all_come s.cluster s.corpus.now s.script.now s.history _ _ _ c.requires.tied.ties c.requires.shards.few c.args.task r c.args.reply c.requires.live c.requires.passed c.requires.unmarked was next)
+
+pub returns-clause-tied : goal.returns-clause-tied
+returns-clause-tied c =
+    let s = c.args.state.now in
+    let r = c.in-Some.running in
+    let was = sym c.remove.ensures.value ∙ c.in-Some.is in
+    let next = rw was at c.requires.next in
+    let its = table_is s.cluster s.corpus.now s.script.now s.history _ _ _ c.requires.tied.ties c.args.task c.requires.live c.index_mut.result.now c.index_mut.ensures.value in
+    let changed = c.remove.ensures.updates.0 in
+    let row = c.end_in-receipt.ensures.row ∙ ap (λ id. without_task c.index_mut.result.now id.number) (runs s.cluster s.corpus.now s.script.now s.history _ _ _ c.requires.tied.ties c.args.task c.requires.live r was).id in
+    record {
+      ties =
+          same_ties s.cluster s.corpus.now s.script.now _ _ _ _ _ _ _ c.in_ok-append.ensures.ok (ap (slice_set s.tables.items (c.args.task.node - 1)) row)
+          (c.in_ok-tell_parent.ensures.ok ∙ ap (λ at. s.flight ++ told_parent c.end_in-receipt.result at) c.len.ensures)
+          (after_finish s.cluster s.corpus.now s.script.now s.history _ _ _ c.requires.tied.ties c.requires.shards.few c.args.task r c.args.reply c.requires.live c.requires.passed c.requires.unmarked was next c.requires.tied.awaits
+          c.index_mut.result.now c.end_in-receipt.result _ its c.end_in-receipt.ensures.receipt (at_changed c.args.task None (task_at s.tasks) _ changed) (off_changed c.args.task None (task_at s.tasks) _ changed));
+      cancels =
+          rw (c.in_ok-append.ensures.ok, row) (noted_unmarked c.args.task s.history (End c.args.task c.args.reply) refl c.requires.unmarked s.cluster s.tables.items _ s.bans.items s.cores.items s.listings
+          c.index_mut.result.now its c.requires.tied.cancels);
+      awaits = rw c.in_ok-append.ensures.ok tt;
+    }

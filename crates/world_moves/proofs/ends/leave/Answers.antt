@@ -1,0 +1,205 @@
+use Rattle.std.proofs.Common.{◌∙◌, ◌∷◌, ◌++◌, ◌-◌, reverse, None, Some, ap, sym, arith}
+use Rattle.std.specs.Prelude.{slice_set}
+use Rattle.std.proofs.lemmas.Option.{slice_get_within}
+use Rattle.task_table.specs.Table.{without_task}
+use Rattle.cancel_core.specs.Cancellations.{entry_of}
+use Rattle.world_moves.specs.Acts.{messages_in, answers_in}
+use Rattle.world_moves.specs.Cancels.{due_answers}
+use Rattle.world_moves.specs.Flights.{told_parent}
+use Rattle.world_moves.specs.Ties.{task_at}
+use Rattle.world_moves.proofs.Kept.{at_changed, off_changed}
+use Rattle.world_moves.proofs.SameTies.{same_ties}
+use Rattle.world_moves.proofs.StepsAfter.{is_kept}
+use Rattle.world_moves.proofs.AnswersCome.{answers_lawful, answers_await, answers_tied, answers_noted}
+use Rattle.world_moves.proofs.CancelledEnds.{leaves_so, leaver_lives, awaits_none, left_lawful, left_plain, none_part, first_part, leaver_open, after_cancelled, after_unmarked}
+use Rattle.world_moves.proofs.LeftEntries.{core_is, known_there, no_receipt, unmarked_there, nobody_there, answered_then, sent_then, part_then, answers_plain, set_again, on_err}
+use Rattle.world_moves.proofs.LeftNotes.{noted_unmarked, noted_ended, nothing_due, core_there, one_task_left}
+use Rattle.world_moves.proofs.Leaving.{own_track, has_table, in_cluster, table_is, stands, runs}
+use Rattle.world_moves.proofs.Parts.{part_lawful, part_plain, later_part}
+use Rattle.world_moves.proofs.ends.leave.Goals as goal
+
+pub unreachable-requires : goal.unreachable-requires
+unreachable-requires c =
+    let s = c.args.state.now in
+    is_kept s.cluster s.corpus.now s.script.now s.history _ _ _ c.requires.tied.ties c.args.task (leaver_lives c.args.task s.history c.args.event c.requires.leaves) (sym c.remove.ensures.value ∙ c.in_default.is)
+
+pub index_mut-requires : goal.index_mut-requires
+index_mut-requires c =
+    let s = c.args.state.now in
+    let low = c.args.task.node_in_range.0 in
+    let many = has_table s.cluster s.corpus.now s.script.now s.history _ _ _ c.requires.tied.ties c.args.task (leaver_lives c.args.task s.history c.args.event c.requires.leaves) in
+    omega (arith, low, many)
+
+pub end_in-receipt-requires-clause-live : goal.end_in-receipt-requires-clause-live
+end_in-receipt-requires-clause-live c =
+    let s = c.args.state.now in
+    let live = leaver_lives c.args.task s.history c.args.event c.requires.leaves in
+    let was = sym c.remove.ensures.value ∙ c.in-Some.is in
+    let its = table_is s.cluster s.corpus.now s.script.now s.history _ _ _ c.requires.tied.ties c.args.task live c.index_mut.result.now c.index_mut.ensures.value in
+    stands s.cluster s.corpus.now s.script.now s.history _ _ _ c.requires.tied.ties c.args.task live c.in-Some.running was c.index_mut.result.now its
+
+pub end_in-receipt-requires-clause-track : goal.end_in-receipt-requires-clause-track
+end_in-receipt-requires-clause-track c =
+    let s = c.args.state.now in
+    let was = sym c.remove.ensures.value ∙ c.in-Some.is in
+    own_track s.cluster s.corpus.now s.script.now s.history _ _ _ c.requires.tied.ties c.args.task (leaver_lives c.args.task s.history c.args.event c.requires.leaves) c.in-Some.running was
+
+pub end_in-receipt-requires-clause-answered : goal.end_in-receipt-requires-clause-answered
+end_in-receipt-requires-clause-answered c =
+    let s = c.args.state.now in
+    let was = sym c.remove.ensures.value ∙ c.in-Some.is in
+    leaver_open s.cluster s.corpus.now s.script.now s.history _ _ _ c.requires.tied.ties c.args.task c.args.event c.requires.leaves c.in-Some.running was
+
+pub returns-in_err-tell_parent-clause-part : goal.returns-in_err-tell_parent-clause-part
+returns-in_err-tell_parent-clause-part c =
+    let h = c.args.state.now.history in
+    on_err c.from_residual.result _ (none_part h (reverse (due_answers c.args.task (c.args.event ∷ h))) c.args.event)
+
+pub returns-in_err-append-clause-part : goal.returns-in_err-append-clause-part
+returns-in_err-append-clause-part c =
+    let h = c.args.state.now.history in
+    on_err c.from_residual-in_err-append.result _
+    (rw c.in_err-append.ensures.err (none_part h (reverse (due_answers c.args.task (c.args.event ∷ h))) c.args.event))
+
+pub index_mut-core-requires : goal.index_mut-core-requires
+index_mut-core-requires c =
+    let s = c.args.state.now in
+    let low = c.args.task.node_in_range.0 in
+    let there = core_there c.args.task s.history s.cluster s.tables.items _ s.bans.items s.cores.items s.listings c.requires.tied.cancels
+    (in_cluster s.cluster s.corpus.now s.script.now s.history _ _ _ c.requires.tied.ties c.args.task (leaver_lives c.args.task s.history c.args.event c.requires.leaves)) in
+    let within = slice_get_within s.cores.items (c.args.task.node - 1) there.0 there.1 in
+    omega (arith, within)
+
+pub returns-then-not-has-clause-happened : goal.returns-then-not-has-clause-happened
+returns-then-not-has-clause-happened c =
+    let s = c.args.state.now in
+    let live = leaver_lives c.args.task s.history c.args.event c.requires.leaves in
+    let core = c.index_mut-core.result.now in
+    let none = nobody_there s.cluster s.history s.tables.items _ s.bans.items s.cores.items s.listings c.requires.tied.cancels c.requires.tied.ties.lawful c.args.task live core c.index_mut-core.ensures.value
+    (sym c.has.ensures ∙ c.if-not-has.true) in
+    c.in_ok-append.ensures.ok ∙ sym (nothing_due c.args.task s.history c.args.event (leaves_so c.args.task s.history c.args.event c.requires.leaves) none)
+
+pub returns-then-not-has-clause-tied : goal.returns-then-not-has-clause-tied
+returns-then-not-has-clause-tied c =
+    let s = c.args.state.now in
+    let e = c.args.event in
+    let r = c.in-Some.running in
+    let live = leaver_lives c.args.task s.history e c.requires.leaves in
+    let leaves = leaves_so c.args.task s.history e c.requires.leaves in
+    let was = sym c.remove.ensures.value ∙ c.in-Some.is in
+    let its = table_is s.cluster s.corpus.now s.script.now s.history _ _ _ c.requires.tied.ties c.args.task live c.index_mut.result.now c.index_mut.ensures.value in
+    let changed = c.remove.ensures.updates.0 in
+    let core = c.index_mut-core.result.now in
+    let unmarked = unmarked_there s.cluster s.history s.tables.items _ s.bans.items s.cores.items s.listings c.requires.tied.cancels c.requires.tied.ties.lawful c.args.task live core c.index_mut-core.ensures.value
+    (sym c.has.ensures ∙ c.if-not-has.true) in
+    let at_core = core_is s.cluster s.history s.tables.items _ s.bans.items s.cores.items s.listings c.requires.tied.cancels c.requires.tied.ties.lawful c.args.task live core c.index_mut-core.ensures.value in
+    let row = c.end_in-receipt.ensures.row ∙ ap (λ id. without_task c.index_mut.result.now id.number) (runs s.cluster s.corpus.now s.script.now s.history _ _ _ c.requires.tied.ties c.args.task live r was).id in
+    record {
+      ties =
+          same_ties s.cluster s.corpus.now s.script.now _ _ _ _ _ _ _ c.in_ok-append.ensures.ok (ap (slice_set s.tables.items (c.args.task.node - 1)) row)
+          (c.in_ok-tell_parent.ensures.ok ∙ ap (λ at. s.flight ++ told_parent c.end_in-receipt.result at) c.len.ensures)
+          (after_unmarked s.cluster s.corpus.now s.script.now s.history _ _ _ c.requires.tied.ties c.args.task e c.requires.leaves r was c.requires.tied.awaits unmarked
+          c.index_mut.result.now c.end_in-receipt.result _ its c.end_in-receipt.ensures.receipt (at_changed c.args.task None (task_at s.tasks) _ changed) (off_changed c.args.task None (task_at s.tasks) _ changed));
+      cancels =
+          rw (c.in_ok-append.ensures.ok, row, set_again s.cores.items (c.args.task.node - 1) core at_core)
+          (noted_unmarked c.args.task s.history e leaves unmarked s.cluster s.tables.items _ s.bans.items s.cores.items s.listings c.index_mut.result.now its c.requires.tied.cancels);
+      awaits = rw c.in_ok-append.ensures.ok (awaits_none c.args.task s.history e c.requires.leaves);
+    }
+
+pub ended-requires-clause-open_task : goal.ended-requires-clause-open_task
+ended-requires-clause-open_task c =
+    let s = c.args.state.now in
+    let live = leaver_lives c.args.task s.history c.args.event c.requires.leaves in
+    let core = c.index_mut-core.result.now in
+    no_receipt s.cluster s.history s.tables.items _ s.bans.items s.cores.items s.listings c.requires.tied.cancels c.requires.tied.ties.lawful c.args.task live core c.index_mut-core.ensures.value
+    (sym c.has.ensures ∙ c.if-not-has.false)
+
+pub ended-requires-clause-own : goal.ended-requires-clause-own
+ended-requires-clause-own c =
+    let s = c.args.state.now in
+    let was = sym c.remove.ensures.value ∙ c.in-Some.is in
+    let x = runs s.cluster s.corpus.now s.script.now s.history _ _ _ c.requires.tied.ties c.args.task (leaver_lives c.args.task s.history c.args.event c.requires.leaves) c.in-Some.running was in
+    ap (λ receipt. receipt.task) c.end_in-receipt.ensures.receipt ∙ ap (λ track. Some track.task) x.track
+
+pub returns-in_default-ended-clause-part : goal.returns-in_default-ended-clause-part
+returns-in_default-ended-clause-part c =
+    let h = c.args.state.now.history in
+    rw c.in_ok-append.ensures.ok (first_part h (reverse (due_answers c.args.task (c.args.event ∷ h))) c.args.event)
+
+pub returns-in_err-perform-clause-part : goal.returns-in_err-perform-clause-part
+returns-in_err-perform-clause-part c =
+    let s = c.args.state.now in
+    let live = leaver_lives c.args.task s.history c.args.event c.requires.leaves in
+    let core = c.index_mut-core.result.now in
+    let known = known_there s.cluster s.history s.tables.items _ s.bans.items s.cores.items s.listings c.requires.tied.cancels c.requires.tied.ties.lawful c.args.task live core c.index_mut-core.ensures.value
+    (sym c.has.ensures ∙ c.if-not-has.false) in
+    let part = part_then c.args.task c.args.event s.history (leaves_so c.args.task s.history c.args.event c.requires.leaves) (entry_of core c.args.task) c.end_in-receipt.result known c.as_slice.result.now
+    (c.as_slice.ensures.value ∙ c.in-Ok.ensures.acts) c.append.new.history c.perform.new.history c.in_ok-append.ensures.ok c.in_err-perform.ensures.part in
+    on_err c.from_residual-in_err-perform.result _ (later_part c.args.event s.history c.perform.new.history _ part)
+
+pub returns-in_err-perform-clause-laws : goal.returns-in_err-perform-clause-laws
+returns-in_err-perform-clause-laws c =
+    let s = c.args.state.now in
+    let e = c.args.event in
+    let m = c.requires.leaves in
+    let live = leaver_lives c.args.task s.history e m in
+    let core = c.index_mut-core.result.now in
+    let leaves = leaves_so c.args.task s.history e m in
+    let known = known_there s.cluster s.history s.tables.items _ s.bans.items s.cores.items s.listings c.requires.tied.cancels c.requires.tied.ties.lawful c.args.task live core c.index_mut-core.ensures.value
+    (sym c.has.ensures ∙ c.if-not-has.false) in
+    let part = part_then c.args.task e s.history leaves (entry_of core c.args.task) c.end_in-receipt.result known c.as_slice.result.now
+    (c.as_slice.ensures.value ∙ c.in-Ok.ensures.acts) c.append.new.history c.perform.new.history c.in_ok-append.ensures.ok c.in_err-perform.ensures.part in
+    on_err c.from_residual-in_err-perform.result _ (record {
+      lawful = part_lawful s.cluster s.corpus.now s.script.now (e ∷ s.history) c.perform.new.history _ part
+          (answers_lawful s.cluster c.args.task (e ∷ s.history) (left_lawful c.args.task s.history s.cluster c.requires.tied.ties.lawful c.requires.tied.awaits e m) (awaits_none c.args.task s.history e m)
+          (one_task_left c.args.task s.history e leaves c.requires.tied.cancels.one_task));
+      plain = part_plain s.cluster s.corpus.now s.script.now (e ∷ s.history) c.perform.new.history _ part
+          (answers_plain s.cluster s.corpus.now s.script.now c.args.task (e ∷ s.history) (left_plain c.args.task s.history s.cluster s.corpus.now s.script.now e m c.requires.tied.ties.plain));
+    })
+
+pub returns-clause-happened : goal.returns-clause-happened
+returns-clause-happened c =
+    let s = c.args.state.now in
+    let live = leaver_lives c.args.task s.history c.args.event c.requires.leaves in
+    let core = c.index_mut-core.result.now in
+    let known = known_there s.cluster s.history s.tables.items _ s.bans.items s.cores.items s.listings c.requires.tied.cancels c.requires.tied.ties.lawful c.args.task live core c.index_mut-core.ensures.value
+    (sym c.has.ensures ∙ c.if-not-has.false) in
+    c.in_ok-perform.ensures.answered ∙ ap (λ past. answers_in c.as_slice.result.now ++ past) c.in_ok-append.ensures.ok
+    ∙ answered_then c.args.task c.args.event s.history (leaves_so c.args.task s.history c.args.event c.requires.leaves) (entry_of core c.args.task) c.end_in-receipt.result known c.as_slice.result.now
+    (c.as_slice.ensures.value ∙ c.in-Ok.ensures.acts)
+
+pub returns-clause-tied : goal.returns-clause-tied
+returns-clause-tied c =
+    let s = c.args.state.now in
+    let e = c.args.event in
+    let m = c.requires.leaves in
+    let r = c.in-Some.running in
+    let live = leaver_lives c.args.task s.history e m in
+    let leaves = leaves_so c.args.task s.history e m in
+    let awaits = awaits_none c.args.task s.history e m in
+    let was = sym c.remove.ensures.value ∙ c.in-Some.is in
+    let its = table_is s.cluster s.corpus.now s.script.now s.history _ _ _ c.requires.tied.ties c.args.task live c.index_mut.result.now c.index_mut.ensures.value in
+    let changed = c.remove.ensures.updates.0 in
+    let core = c.index_mut-core.result.now in
+    let acts = c.as_slice.result.now in
+    let receipt = c.end_in-receipt.result in
+    let known = known_there s.cluster s.history s.tables.items _ s.bans.items s.cores.items s.listings c.requires.tied.cancels c.requires.tied.ties.lawful c.args.task live core c.index_mut-core.ensures.value
+    (sym c.has.ensures ∙ c.if-not-has.false) in
+    let at_core = core_is s.cluster s.history s.tables.items _ s.bans.items s.cores.items s.listings c.requires.tied.cancels c.requires.tied.ties.lawful c.args.task live core c.index_mut-core.ensures.value in
+    let row = c.end_in-receipt.ensures.row ∙ ap (λ id. without_task c.index_mut.result.now id.number) (runs s.cluster s.corpus.now s.script.now s.history _ _ _ c.requires.tied.ties c.args.task live r was).id in
+    let sent = sent_then c.args.task e s.history leaves (entry_of core c.args.task) receipt known acts (c.as_slice.ensures.value ∙ c.in-Ok.ensures.acts) c.args.task.node in
+    let one = one_task_left c.args.task s.history e leaves c.requires.tied.cancels.one_task in
+    let happened = returns-clause-happened c in
+    record {
+      ties =
+          same_ties s.cluster s.corpus.now s.script.now _ _ _ _ _ _ _ happened (ap (slice_set s.tables.items (c.args.task.node - 1)) row)
+          (c.in_ok-perform.ensures.sent ∙ ap (λ queue. queue ++ messages_in c.args.task.node acts) (c.in_ok-tell_parent.ensures.ok ∙ ap (λ at. s.flight ++ told_parent receipt at) c.len.ensures))
+          (answers_tied s.cluster c.args.task (e ∷ s.history) s.corpus.now s.script.now _ _ _
+          (after_cancelled s.cluster s.corpus.now s.script.now s.history _ _ _ c.requires.tied.ties c.args.task e m r was c.requires.tied.awaits
+          c.index_mut.result.now receipt _ (messages_in c.args.task.node acts) its c.end_in-receipt.ensures.receipt (at_changed c.args.task None (task_at s.tasks) _ changed) (off_changed c.args.task None (task_at s.tasks) _ changed) sent) awaits one);
+      cancels =
+          rw (happened, row, c.in-Ok.ensures.ended)
+          (answers_noted s.cluster c.args.task (e ∷ s.history) _ _ _ _ _ (left_lawful c.args.task s.history s.cluster c.requires.tied.ties.lawful c.requires.tied.awaits e m)
+          (noted_ended c.args.task s.history e leaves s.cluster s.tables.items _ s.bans.items s.cores.items s.listings c.index_mut.result.now core (entry_of core c.args.task) receipt its at_core known c.requires.tied.cancels));
+      awaits = rw happened (answers_await s.cluster c.args.task (e ∷ s.history) awaits);
+    }

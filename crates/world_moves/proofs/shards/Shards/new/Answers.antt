@@ -1,0 +1,27 @@
+use Rattle.std.proofs.Common.{take, subst, ◌∙◌, sym, ap, ◌++◌, ◌∷◌, []}
+use Rattle.std.proofs.lemmas.List.{take_more, take_all}
+use Rattle.world_moves.specs.Stored.{AreShards, AreFew}
+use Rattle.world_moves.proofs.StoredShards.{no_lines, as_many_shards}
+use Rattle.world_moves.proofs.shards.Shards.new.Goals as goal
+
+pub loop-line-init : goal.loop-line-init
+loop-line-init c = no_lines c.args.count c.new-by_index.result c.requires c.new-by_index.ensures.empty
+
+pub loop-line-preserved : goal.loop-line-preserved
+loop-line-preserved c =
+    let items = c.as_slice-line-items.result.now in
+    let more = take_more items c.loop-line.line-index c.line-item.result c.loop-line-test.true ∙ ap (λ line. take c.loop-line.line-index items ++ line ∷ []) (sym c.line-item.is) in
+    subst (λ lines. AreShards lines c.args.count c.place.new.by_index) (sym more) (c.in_ok-place.ensures (take c.loop-line.line-index items) c.loop-line.invariant)
+
+pub place-requires-clause-as_many : goal.place-requires-clause-as_many
+place-requires-clause-as_many c = as_many_shards _ c.args.count c.loop-line.by_index c.loop-line.invariant
+
+pub invariant_of-result : goal.invariant_of-result
+invariant_of-result c =
+    let all = take_all c.loop-line.line-index c.as_slice-line-items.result.now c.loop-line-test.false ∙ c.as_slice-line-items.ensures in
+    (subst (λ lines. AreShards lines c.args.count c.loop-line.by_index) all c.loop-line.invariant, c.new.ensures)
+
+pub returns-clause-few : goal.returns-clause-few
+returns-clause-few c =
+    let all = take_all c.loop-line.line-index c.as_slice-line-items.result.now c.loop-line-test.false ∙ c.as_slice-line-items.ensures in
+    subst (λ lines. AreFew lines c.args.count) all c.loop-line.invariant.few

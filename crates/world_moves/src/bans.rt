@@ -1,0 +1,126 @@
+//! Messages about bans reach their nodes.
+
+ghost use Rattle.std.specs.Prelude.{◌≡◌, ◌≤◌, length, slice_get, Err, Some, OnOk, OnErr, IfErr};
+ghost use Rattle.task_events.specs.declared.history.TheConstants.{MAX_EVENTS};
+ghost use Rattle.world_moves.specs.declared.flight.Notice.TheVariants as notices;
+ghost use Rattle.world_moves.specs.declared.flight.Sent.TheVariants as sent;
+ghost use Rattle.world_moves.specs.Moves.{Delivers, IsPartly, StopsDelivery};
+ghost use Rattle.world_moves.specs.Ties.{IsTied, Keeps, KeepsLaws};
+
+use crate::append::append;
+use crate::flight::Notice;
+use crate::listing::Listing;
+use crate::performing::perform;
+use crate::state::State;
+use ban_table::BanPut;
+use task_events::{Event, Stop};
+use task_ids::TaskId;
+
+/// A ban reaches its node. It stands there from then on, and the listing of the task's children is open.
+fn deliver_ban(
+    state: &mut State<'_>,
+    nth: usize,
+    parent: TaskId,
+    cancel: u32,
+    node: u32,
+) -> Result<(), Stop>
+    requires tied { IsTied state.old }
+    requires there { slice_get state.old.flight nth ≡ Some (sent.Notice (notices.Ban parent cancel node)) }
+    ensures delivered { OnOk result (Delivers state.old.cluster state.old.history nth state.new.history) }
+    ensures tied { OnOk result (IsTied state.new) }
+    ensures keeps { Keeps state.old state.new }
+    ensures room { OnOk result (length state.new.history ≤ MAX_EVENTS) }
+    ensures err { OnErr result (state.new.history ≡ state.old.history) }
+    ensures full { result ≡ Err Stop.HistoryFull → length state.old.history ≡ MAX_EVENTS }
+    ensures numbers { result ≡ Err Stop.NumbersSpent → ⊥ }
+{
+    let _ban = state.flight.take(nth);
+    match state.bans[node as usize - 1].put(parent, cancel) {
+        Ok(BanPut::Put) => {}
+        Ok(BanPut::There(_)) => unreachable!(),
+        Err(_) => return Err(Stop::Memory),
+    }
+    let Ok(_) = state.listings.insert(Listing { node, parent }) else {
+        return Err(Stop::Memory);
+    };
+    append(
+        &mut state.history,
+        Event::BanPut {
+            node,
+            parent,
+            cancel,
+        },
+    )?;
+    Ok(())
+}
+
+/// An acknowledgement reaches the node of its task. The answers follow that come due with it, and where the task has ended
+/// and this was the last one, its unbans are sent.
+///
+/// Where it fails, it may have come.
+fn deliver_ack(state: &mut State<'_>, nth: usize, parent: TaskId, node: u32) -> Result<(), Stop>
+    requires tied { IsTied state.old }
+    requires there { slice_get state.old.flight nth ≡ Some (sent.Notice (notices.Ack parent node)) }
+    ensures delivered { OnOk result (Delivers state.old.cluster state.old.history nth state.new.history) }
+    ensures tied { OnOk result (IsTied state.new) }
+    ensures keeps { Keeps state.old state.new }
+    ensures room { OnOk result (length state.new.history ≤ MAX_EVENTS) }
+    ensures part { OnErr result (IsPartly (λ h new. Delivers state.old.cluster h nth new) state.old.history state.new.history) }
+    ensures laws { OnErr result (KeepsLaws state.new) }
+    ensures full { result ≡ Err Stop.HistoryFull → length state.new.history ≡ MAX_EVENTS }
+    ensures numbers { result ≡ Err Stop.NumbersSpent → ⊥ }
+{
+    let _ack = state.flight.take(nth);
+    let Ok(acts) = state.cores[parent.node as usize - 1].acked(parent, node) else {
+        return Err(Stop::Memory);
+    };
+    append(&mut state.history, Event::Acked { parent, from: node })?;
+    perform(
+        &mut state.flight,
+        &mut state.history,
+        parent.node,
+        acts.as_slice(),
+    )?;
+    Ok(())
+}
+
+/// An unban reaches its node, where the ban is taken away.
+fn deliver_unban(state: &mut State<'_>, nth: usize, parent: TaskId, node: u32) -> Result<(), Stop>
+    requires tied { IsTied state.old }
+    requires there { slice_get state.old.flight nth ≡ Some (sent.Notice (notices.Unban parent node)) }
+    ensures delivered { OnOk result (Delivers state.old.cluster state.old.history nth state.new.history) }
+    ensures tied { OnOk result (IsTied state.new) }
+    ensures keeps { Keeps state.old state.new }
+    ensures room { OnOk result (length state.new.history ≤ MAX_EVENTS) }
+    ensures err { OnErr result (state.new.history ≡ state.old.history) }
+    ensures full { result ≡ Err Stop.HistoryFull → length state.old.history ≡ MAX_EVENTS }
+    ensures numbers { result ≡ Err Stop.NumbersSpent → ⊥ }
+{
+    let _unban = state.flight.take(nth);
+    let _stood = state.bans[node as usize - 1].remove(parent);
+    append(&mut state.history, Event::BanGone { node, parent })?;
+    Ok(())
+}
+
+/// The message about bans of this place among those in flight, counted from 0, is delivered.
+pub fn deliver_notice(state: &mut State<'_>, nth: usize, notice: Notice) -> Result<(), Stop>
+    requires tied { IsTied state.old }
+    requires there { slice_get state.old.flight nth ≡ Some (sent.Notice notice) }
+    ensures delivered { OnOk result (Delivers state.old.cluster state.old.history nth state.new.history) }
+    ensures tied { OnOk result (IsTied state.new) }
+    ensures keeps { Keeps state.old state.new }
+    ensures room { OnOk result (length state.new.history ≤ MAX_EVENTS) }
+    ensures part { OnErr result (IsPartly (λ h new. Delivers state.old.cluster h nth new) state.old.history state.new.history) }
+    ensures laws { OnErr result (KeepsLaws state.new) }
+    ensures stop { IfErr result (λ stop. StopsDelivery state.old.cluster state.old.history nth state.new.history stop) }
+{
+    let delivered = match notice {
+        Notice::Ban { parent, cancel, to } => deliver_ban(state, nth, parent, cancel, to),
+        Notice::Ack { parent, from } => deliver_ack(state, nth, parent, from),
+        Notice::Unban { parent, to } => deliver_unban(state, nth, parent, to),
+    };
+    match delivered {
+        Ok(()) => Ok(()),
+        Err(stop) => Err(stop),
+    }
+}

@@ -1,0 +1,154 @@
+//! The end of a live task.
+
+ghost use Rattle.std.specs.Prelude.{◌≡◌, ◌∷◌, ◌++◌, ◌≤◌, true, false, length, [], Err, None, Some, IfErr, OnOk, OnErr};
+ghost use Rattle.child_track.specs.Track.{unanswered, sealed};
+ghost use Rattle.task_table.specs.Table.{IsLive, without_task};
+ghost use Rattle.task_events.specs.declared.history.TheConstants.{MAX_EVENTS};
+ghost use Rattle.task_events.specs.Allowed.{RefuseAllowed};
+ghost use Rattle.task_events.specs.Asks as events;
+ghost use Rattle.task_events.specs.Bans.{mark_of};
+ghost use Rattle.task_events.specs.Tasks.{is_live, is_new, no_counts};
+ghost use Rattle.task_events.specs.declared.reply.Reply.TheVariants.{Cancelled};
+ghost use Rattle.world_moves.specs.Cancels.{with_answers, with_due};
+ghost use Rattle.world_moves.specs.Flights.{told_parent};
+ghost use Rattle.world_moves.specs.Moves.{IsPartOf, MayLeave, StopsMove};
+ghost use Rattle.world_moves.specs.Ties.{IsTied, Keeps, HasShards, DoesNext, task_at, KeepsLaws};
+
+use crate::append::append;
+use crate::flight::{Flight, Sent};
+use crate::performing::perform;
+use crate::running::Running;
+use crate::sending::send;
+use crate::state::State;
+use child_track::Receipt;
+use task_events::{Do, Event, Reply, Stop};
+use task_ids::TaskId;
+use task_table::TaskTable;
+
+/// Takes a task out of the table of its node. Its receipt is left.
+fn end_in(table: &mut TaskTable, running: Running) -> Receipt
+    requires live { IsLive table.old running.ticket.id }
+    requires track { running.track.task ≡ running.ticket.id }
+    requires answered { unanswered running.track ≡ 0 }
+    ensures receipt { result ≡ sealed running.track running.ticket.token }
+    ensures row { table.new ≡ without_task table.old running.ticket.id.number }
+{
+    let (ticket, track) = running.into_parts();
+    let ended = table.end(ticket, track);
+    ended.receipt
+}
+
+/// Sends the receipt of a task that has ended to the task that asked for it, where there is one.
+fn tell_parent(flight: &mut Flight, receipt: Receipt, at: usize) -> Result<(), Stop>
+    ensures ok { OnOk result (flight.new ≡ flight.old ++ told_parent receipt at) }
+    ensures err { IfErr result (λ stop. stop ≡ Stop.Memory) }
+{
+    if receipt.parent().is_none() {
+        return Ok(());
+    }
+    send(flight, Sent::Answer { receipt, at })
+}
+
+/// A task that has passed and whose work ends next ends with its reply. The task that asked for it is told.
+pub fn finish(state: &mut State<'_>, task: TaskId, reply: Reply) -> Result<(), Stop>
+    requires tied { IsTied state.old }
+    requires shards { HasShards state.old }
+    requires live { is_live task state.old.history ≡ true }
+    requires passed { is_new task state.old.history ≡ false }
+    requires unmarked { mark_of task state.old.history ≡ None }
+    requires next { DoesNext (task_at state.old.tasks task) (Do.Finish reply) }
+    ensures happened { OnOk result (state.new.history ≡ Event.End task reply ∷ state.old.history) }
+    ensures tied { OnOk result (IsTied state.new) }
+    ensures keeps { Keeps state.old state.new }
+    ensures room { OnOk result (length state.new.history ≤ MAX_EVENTS) }
+    ensures err { OnErr result (state.new.history ≡ state.old.history) }
+    ensures full { result ≡ Err Stop.HistoryFull → length state.old.history ≡ MAX_EVENTS }
+    ensures numbers { result ≡ Err Stop.NumbersSpent → ⊥ }
+{
+    let Some(running) = state.tasks.remove(&task) else {
+        unreachable!()
+    };
+    let receipt = end_in(&mut state.tables[task.node as usize - 1], running);
+    tell_parent(&mut state.flight, receipt, state.history.len())?;
+    append(&mut state.history, Event::End { task, reply })?;
+    Ok(())
+}
+
+/// A cancelled task ends, or a child is refused, with this event. The task that asked for it is told. Where a cancellation of
+/// it is under way, the answers follow that come due, and its unbans are sent if its bans are placed.
+///
+/// Where it fails, the event may have come.
+fn leave(state: &mut State<'_>, task: TaskId, event: Event) -> Result<(), Stop>
+    requires tied { IsTied state.old }
+    requires leaves { MayLeave task event state.old.history }
+    ensures happened { OnOk result (state.new.history ≡ with_answers task (event ∷ state.old.history)) }
+    ensures tied { OnOk result (IsTied state.new) }
+    ensures keeps { Keeps state.old state.new }
+    ensures room { OnOk result (length state.new.history ≤ MAX_EVENTS) }
+    ensures part { OnErr result (IsPartOf state.old.history state.new.history (with_answers task (event ∷ state.old.history))) }
+    ensures laws { OnErr result (KeepsLaws state.new) }
+    ensures full { result ≡ Err Stop.HistoryFull → length state.new.history ≡ MAX_EVENTS }
+    ensures numbers { result ≡ Err Stop.NumbersSpent → ⊥ }
+{
+    let place = task.node as usize - 1;
+    let Some(running) = state.tasks.remove(&task) else {
+        unreachable!()
+    };
+    let receipt = end_in(&mut state.tables[place], running);
+    tell_parent(&mut state.flight, receipt, state.history.len())?;
+    append(&mut state.history, event)?;
+    let core = &mut state.cores[place];
+    if !core.has(task) {
+        return Ok(());
+    }
+    let Ok(acts) = core.ended(task, receipt) else {
+        return Err(Stop::Memory);
+    };
+    perform(
+        &mut state.flight,
+        &mut state.history,
+        task.node,
+        acts.as_slice(),
+    )?;
+    Ok(())
+}
+
+/// A child that has not passed is refused with the number of the ban of its parent on its node.
+pub fn refuse(state: &mut State<'_>, task: TaskId, cancel: u32) -> Result<(), Stop>
+    requires tied { IsTied state.old }
+    requires refused { RefuseAllowed task cancel state.old.history }
+    ensures happened { OnOk result (state.new.history ≡ with_due (Event.Refuse task cancel) state.old.history) }
+    ensures tied { OnOk result (IsTied state.new) }
+    ensures keeps { Keeps state.old state.new }
+    ensures room { OnOk result (length state.new.history ≤ MAX_EVENTS) }
+    ensures part { OnErr result (IsPartOf state.old.history state.new.history (with_due (Event.Refuse task cancel) state.old.history)) }
+    ensures laws { OnErr result (KeepsLaws state.new) }
+    ensures stop { IfErr result (λ stop. StopsMove state.new.history stop) }
+{
+    match leave(state, task, Event::Refuse { task, cancel }) {
+        Ok(()) => Ok(()),
+        Err(stop) => Err(stop),
+    }
+}
+
+/// A marked task whose asks are all answered ends as cancelled, with the number of its mark.
+pub fn finish_cancelled(state: &mut State<'_>, task: TaskId, cancel: u32) -> Result<(), Stop>
+    requires tied { IsTied state.old }
+    requires live { is_live task state.old.history ≡ true }
+    requires passed { is_new task state.old.history ≡ false }
+    requires marked { mark_of task state.old.history ≡ Some cancel }
+    requires answered { events.unanswered task state.old.history ≡ [] }
+    ensures happened { OnOk result (state.new.history ≡ with_due (Event.End task (Cancelled task cancel no_counts)) state.old.history) }
+    ensures tied { OnOk result (IsTied state.new) }
+    ensures keeps { Keeps state.old state.new }
+    ensures room { OnOk result (length state.new.history ≤ MAX_EVENTS) }
+    ensures part { OnErr result (IsPartOf state.old.history state.new.history (with_due (Event.End task (Cancelled task cancel no_counts)) state.old.history)) }
+    ensures laws { OnErr result (KeepsLaws state.new) }
+    ensures stop { IfErr result (λ stop. StopsMove state.new.history stop) }
+{
+    let reply = Reply::cancelled(task, cancel);
+    match leave(state, task, Event::End { task, reply }) {
+        Ok(()) => Ok(()),
+        Err(stop) => Err(stop),
+    }
+}

@@ -1,0 +1,151 @@
+//! The messages in flight.
+
+ghost use Rattle.std.specs.Prelude.{◌≡◌, true, Some, ◌∷◌, [], ◌++◌, ◌<◌, length, remove, slice_get, IfErr, OnOk, OnErr, OnSome, IfNone};
+ghost use Rattle.world_moves.specs.Flights.{is_request_entry, is_answer_entry, notice_at};
+
+use child_track::{AskToken, Receipt};
+use std::alloc::{AllocFailed, Global};
+use std::collections::VecDeque;
+use std::marker::Model;
+use task_ids::TaskId;
+
+/// A message about the bans of a marked task.
+#[derive(Clone, Copy, Debug, PartialEq, Eq)]
+pub enum Notice {
+    /// A node is to refuse the task's new children, and to mark those that it has.
+    Ban {
+        parent: TaskId,
+        cancel: u32,
+        to: u32,
+    },
+    /// A node has done so.
+    Ack {
+        parent: TaskId,
+        from: u32,
+    },
+    /// A node is told that the task has ended.
+    Unban {
+        parent: TaskId,
+        to: u32,
+    },
+}
+
+/// A message that was sent. What a request or an answer says stands in the history, at the place of the event that sent
+/// it.
+#[derive(Debug)]
+pub enum Sent {
+    /// The request of an ask, with the right to answer it, to a node.
+    Request { token: AskToken, to: u32, at: usize },
+    /// The answer to an ask, with the receipt of the child that ended or of the rejection.
+    Answer { receipt: Receipt, at: usize },
+    /// A message about bans.
+    Notice(Notice),
+}
+
+impl Sent {
+    /// The right to answer a request, its node, and the place in the history of its ask.
+    pub(crate) fn into_request(self) -> (AskToken, u32, usize)
+        requires { is_request_entry (Some self) ≡ true }
+        ensures { self ≡ Sent.Request result.0 result.1 result.2 }
+    {
+        match self {
+            Sent::Request { token, to, at } => (token, to, at),
+            Sent::Answer { .. } | Sent::Notice(..) => unreachable!(),
+        }
+    }
+
+    /// The receipt of an answer, and the place in the history of the event that sent it.
+    pub(crate) fn into_answer(self) -> (Receipt, usize)
+        requires { is_answer_entry (Some self) ≡ true }
+        ensures { self ≡ Sent.Answer result.0 result.1 }
+    {
+        match self {
+            Sent::Answer { receipt, at } => (receipt, at),
+            Sent::Request { .. } | Sent::Notice(..) => unreachable!(),
+        }
+    }
+}
+
+/// A message that is not delivered is given up.
+impl Drop for Sent {
+    fn drop(self) {
+        match self {
+            Sent::Request {
+                token,
+                to: _,
+                at: _,
+            } => {
+                let _receipt = token.reject();
+            }
+            Sent::Answer { receipt: _, at: _ } => {}
+            Sent::Notice(_notice) => {}
+        }
+    }
+}
+
+/// The messages in flight, in the order of their sending. Any of them can be taken out; near either end that costs
+/// no more than its distance from there.
+#[derive(Debug, Drop)]
+pub struct Flight {
+    queue: VecDeque<Sent>,
+}
+
+impl Model for Flight {
+    ghost use Rattle.std.specs.Prelude.{List};
+    ghost use Rattle.world_moves.specs.declared.flight.Sent.{Sent};
+
+    ghost Value = { List Sent };
+
+    ghost view = { λ a. a.queue.items };
+}
+
+impl Flight {
+    pub fn new(alloc: Global) -> Flight
+        ensures { result ≡ [] }
+    {
+        Flight {
+            queue: VecDeque::new(alloc),
+        }
+    }
+
+    pub fn len(&self) -> usize
+        ensures { result ≡ length self.now }
+    {
+        self.queue.len()
+    }
+
+    /// Sends a message after all others. Where memory runs out it comes back.
+    pub fn send(&mut self, sent: Sent) -> Result<(), AllocFailed<Sent>>
+        ensures ok { OnOk result (self.new ≡ self.old ++ sent ∷ []) }
+        ensures err { OnErr result (self.new ≡ self.old) }
+        ensures given_back { IfErr result (λ failed. failed.value ≡ sent) }
+    {
+        self.queue.push_back(sent)
+    }
+
+    /// Whether the message of this place is a request, if there is one.
+    pub fn is_request(&self, nth: usize) -> bool
+        ensures { result ≡ is_request_entry (slice_get self.now nth) }
+    {
+        matches!(self.queue.get(nth), Some(Sent::Request { .. }))
+    }
+
+    /// The message of this place, if it is one about bans.
+    pub fn notice(&self, nth: usize) -> Option<Notice>
+        ensures { result ≡ notice_at (slice_get self.now nth) }
+    {
+        match self.queue.get(nth) {
+            Some(Sent::Notice(notice)) => Some(*notice),
+            _ => None,
+        }
+    }
+
+    /// Takes the message of this place out, counted from 0. There is none exactly past the end.
+    pub fn take(&mut self, nth: usize) -> Option<Sent>
+        ensures taken { result ≡ slice_get self.old nth }
+        ensures rest { OnSome result (self.new ≡ remove self.old nth) }
+        ensures none { IfNone result (self.new ≡ self.old) }
+    {
+        self.queue.remove(nth)
+    }
+}

@@ -1,0 +1,23 @@
+//! The state of the serial world and its single moves: a message reaches its node, a task makes a step, a listing marks a child, a mark is made.
+//!
+//! Each move appends its event, with the answers that come due with it, and leaves the tables saying of the past what they should.
+#![tactic(auto)]
+
+pub mod answers;
+pub mod append;
+pub mod asks;
+pub mod bans;
+pub mod ends;
+pub mod flight;
+pub mod listing;
+pub mod listings;
+pub mod marks;
+pub mod performing;
+pub mod requests;
+pub mod running;
+mod sending;
+pub mod shards;
+pub mod starting;
+pub mod state;
+pub mod steps;
+pub mod turns;

@@ -1,0 +1,61 @@
+//! Marks.
+
+ghost use Rattle.std.specs.Prelude.{◌≡◌, ◌∷◌, ◌≤◌, length, Err, Some, IfSome, OnOk, OnErr};
+ghost use Rattle.task_ids.specs.Limits.{IsCancel};
+ghost use Rattle.task_events.specs.declared.history.TheConstants.{MAX_EVENTS};
+ghost use Rattle.task_events.specs.Lawful.{Lawful};
+ghost use Rattle.world_moves.specs.Cancels.{waiting_for, waits_for_end, with_answers};
+ghost use Rattle.world_moves.specs.Cancelling.{waiting_but, cancels_of};
+ghost use Rattle.world_moves.specs.Moves.{IsPartOf};
+ghost use Rattle.world_moves.specs.Ties.{HasTies, HasCancels, IsTied, Keeps, KeepsLaws};
+
+use crate::append::append;
+use crate::performing::perform;
+use crate::state::State;
+use cancel_core::Waiter;
+use task_events::{Event, Stop};
+use task_ids::TaskId;
+
+/// Marks a live task that has no mark, for the cancel that waits or for a listing: the task asks for nothing more, and bans
+/// of it go to the nodes of its unanswered asks. The answer follows where it is due.
+///
+/// Where it fails, the mark may have come.
+pub fn mark(
+    state: &mut State<'_>,
+    task: TaskId,
+    cancel: u32,
+    waiter: Option<Waiter>,
+) -> Result<(), Stop>
+    requires ties { HasTies state.old }
+    requires cancels { HasCancels (waiting_but task state.old.history) state.old }
+    requires lawful { Lawful state.old.cluster (Event.Mark task cancel ∷ state.old.history) }
+    requires number { IsCancel cancel }
+    requires waiting { waiting_for task state.old.history ≡ cancels_of waiter }
+    requires wait { IfSome waiter (λ w. (w.wait ≡ waits_for_end w.cancel state.old.history) × IsCancel w.cancel) }
+    ensures happened { OnOk result (state.new.history ≡ with_answers task (Event.Mark task cancel ∷ state.old.history)) }
+    ensures tied { OnOk result (IsTied state.new) }
+    ensures keeps { Keeps state.old state.new }
+    ensures room { OnOk result (length state.new.history ≤ MAX_EVENTS) }
+    ensures part { OnErr result (IsPartOf state.old.history state.new.history (with_answers task (Event.Mark task cancel ∷ state.old.history))) }
+    ensures laws { OnErr result (KeepsLaws state.new) }
+    ensures full { result ≡ Err Stop.HistoryFull → length state.new.history ≡ MAX_EVENTS }
+    ensures numbers { result ≡ Err Stop.NumbersSpent → ⊥ }
+{
+    let place = task.node as usize - 1;
+    let Some(running) = state.tasks.get_mut(&task) else {
+        unreachable!()
+    };
+    let asked = running.track.close(cancel);
+    let _marked = state.tables[place].mark(task.number, cancel);
+    let Ok(acts) = state.cores[place].begin(task, cancel, asked, waiter) else {
+        return Err(Stop::Memory);
+    };
+    append(&mut state.history, Event::Mark { task, cancel })?;
+    perform(
+        &mut state.flight,
+        &mut state.history,
+        task.node,
+        acts.as_slice(),
+    )?;
+    Ok(())
+}

@@ -1,0 +1,112 @@
+//! Requests reach their nodes.
+
+ghost use Rattle.std.specs.Prelude.{◌≡◌, ◌∷◌, ◌++◌, [], ◌≤◌, true, length, remove, slice_get, option_and_then, Err, Some, None, IsSome, OnOk, OnErr};
+ghost use Rattle.task_events.specs.declared.history.TheConstants.{MAX_EVENTS};
+ghost use Rattle.world_moves.specs.Flights.{event_at, request_in, is_request_entry};
+ghost use Rattle.world_moves.specs.Moves.{Delivers, DeliveryLacksNumber};
+ghost use Rattle.world_moves.specs.Ties.{IsTied, Keeps};
+
+use crate::append::append;
+use crate::flight::{Flight, Sent};
+use crate::sending::send;
+use crate::starting::{keep, new_task, put_on, spend, with_work};
+use crate::state::State;
+use child_track::AskToken;
+use task_events::{Event, History, Request, Stop};
+use task_table::PutError;
+
+/// Takes a request out of the flight: the right to answer it, its node, and where it stands in the history.
+fn take_request(flight: &mut Flight, nth: usize) -> (AskToken, u32, usize)
+    requires { is_request_entry (slice_get flight.old nth) ≡ true }
+    ensures taken { slice_get flight.old nth ≡ Some (Sent.Request result.0 result.1 result.2) }
+    ensures rest { flight.new ≡ remove flight.old nth }
+{
+    match flight.take(nth) {
+        Some(sent) => sent.into_request(),
+        None => unreachable!(),
+    }
+}
+
+/// The request of the ask at a place of the history.
+fn request_at(history: &History, at: usize) -> &Request
+    requires { IsSome (option_and_then request_in (event_at at history.now)) }
+    ensures { option_and_then request_in (event_at at history.now) ≡ Some result.now }
+{
+    let Some(event) = history.get(at) else {
+        unreachable!()
+    };
+    match event {
+        Event::Ask { request, .. } => request,
+        _ => unreachable!(),
+    }
+}
+
+/// Rejects a request, since its node has no free slot. The task that asked is answered.
+fn reject(
+    history: &mut History,
+    flight: &mut Flight,
+    node: u32,
+    token: AskToken,
+) -> Result<(), Stop>
+    ensures happened { OnOk result (history.new ≡ Event.Reject node token.parent token.ask ∷ history.old) }
+    ensures answered { OnOk result (flight.new ≡ flight.old ++ Sent.Answer
+        (record { task = None; parent = Some token.parent; ask = token.ask }) (length history.old) ∷ []) }
+    ensures err { OnErr result (history.new ≡ history.old) }
+    ensures full { result ≡ Err Stop.HistoryFull → length history.old ≡ MAX_EVENTS }
+    ensures numbers { result ≡ Err Stop.NumbersSpent → ⊥ }
+    ensures room { OnOk result (length history.new ≤ MAX_EVENTS) }
+{
+    let event = Event::Reject {
+        node,
+        parent: token.parent(),
+        ask: token.ask(),
+    };
+    let at = history.len();
+    let receipt = token.reject();
+    send(flight, Sent::Answer { receipt, at })?;
+    append(history, event)
+}
+
+/// A request reaches its node. Where a slot is free there, its child takes it and is to pass; where none is, the
+/// request is rejected and its answer sent.
+///
+/// Where a slot is free, the number of the child is looked for before there is room for the event.
+pub fn deliver_request(state: &mut State<'_>, nth: usize) -> Result<(), Stop>
+    requires tied { IsTied state.old }
+    requires request { is_request_entry (slice_get state.old.flight nth) ≡ true }
+    ensures delivered { OnOk result (Delivers state.old.cluster state.old.history nth state.new.history) }
+    ensures tied { OnOk result (IsTied state.new) }
+    ensures keeps { Keeps state.old state.new }
+    ensures err { OnErr result (state.new.history ≡ state.old.history) }
+    ensures full { result ≡ Err Stop.HistoryFull → length state.old.history ≡ MAX_EVENTS }
+    ensures spent { result ≡ Err Stop.NumbersSpent
+        → DeliveryLacksNumber state.old.cluster state.old.history nth }
+    ensures room { OnOk result (length state.new.history ≤ MAX_EVENTS) }
+{
+    let (token, to, at) = take_request(&mut state.flight, nth);
+    let (parent, ask) = (token.parent(), token.ask());
+    let request = request_at(&state.history, at);
+    let child = new_task(state.alloc, request, Some(parent));
+    match put_on(&mut state.tables, to, child, Some(token)) {
+        Ok(ticket) => {
+            let task = ticket.id();
+            let running = with_work(state.alloc, ticket, request, &state.cluster, true)?;
+            let event = Event::Put { task, parent, ask };
+            keep(&mut state.history, &mut state.tasks, running, event)?;
+            Ok(())
+        }
+        Err(PutError::Full(token)) => {
+            let Some(token) = token else { unreachable!() };
+            reject(&mut state.history, &mut state.flight, to, token)?;
+            Ok(())
+        }
+        Err(PutError::NumbersSpent(token)) => {
+            spend(token);
+            Err(Stop::NumbersSpent)
+        }
+        Err(PutError::Memory(token)) => {
+            spend(token);
+            Err(Stop::Memory)
+        }
+    }
+}

@@ -1,0 +1,42 @@
+ghost use Rattle.std.specs.Prelude.{◌≡◌};
+
+use child_track::ChildTrack;
+use task_table::Ticket;
+use task_work::Work;
+
+/// A live task: its right to end, what it has asked for, and what it works on.
+pub struct Running {
+    pub ticket: Ticket,
+    pub track: ChildTrack,
+    pub work: Work,
+    /// It was put and has not passed.
+    pub is_new: bool,
+}
+
+impl Running {
+    /// What the end of the task takes: its right to end, and what it has asked for.
+    pub fn into_parts(self) -> (Ticket, ChildTrack)
+        ensures { (result.0 ≡ self.ticket) × (result.1 ≡ self.track) }
+    {
+        let Running {
+            ticket,
+            track,
+            work: _work,
+            is_new: _,
+        } = self;
+        (ticket, track)
+    }
+}
+
+/// A task that is kept no more is given up: it makes no receipt.
+impl Drop for Running {
+    fn drop(self) {
+        let Running {
+            ticket,
+            track: _track,
+            work: _work,
+            is_new: _,
+        } = self;
+        ticket.give_up();
+    }
+}

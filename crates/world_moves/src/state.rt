@@ -1,0 +1,37 @@
+use crate::flight::Flight;
+use crate::listing::Listing;
+use crate::running::Running;
+use crate::shards::Shards;
+use ban_table::BanTable;
+use cancel_core::CancelCore;
+use script_lang::Script;
+use std::alloc::Global;
+use std::collections::{BTreeMap, BTreeSet};
+use task_events::History;
+use task_ids::{Cluster, Corpus, TaskId};
+use task_table::TaskTable;
+
+/// What the world knows: what has happened, and the tables that say of it what the next step needs.
+#[derive(Drop)]
+pub struct State<'a> {
+    pub alloc: Global,
+    pub cluster: Cluster,
+    pub corpus: &'a Corpus,
+    /// The shards of the corpus.
+    pub shards: Shards<'a>,
+    pub script: &'a Script,
+    pub history: History,
+    /// The live tasks.
+    pub tasks: BTreeMap<TaskId, Running>,
+    /// The table of each node, from the first on.
+    pub tables: Vec<TaskTable>,
+    pub flight: Flight,
+    /// The task of each command that started one.
+    pub roots: BTreeMap<u32, TaskId>,
+    /// The bans that stand on each node, from the first on.
+    pub bans: Vec<BanTable>,
+    /// The cancellations of each node's tasks, from the first on.
+    pub cores: Vec<CancelCore>,
+    /// The open listings.
+    pub listings: BTreeSet<Listing>,
+}

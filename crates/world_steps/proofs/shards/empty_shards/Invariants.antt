@@ -1,6 +1,0 @@
-use Rattle.std.proofs.Common.{◌≡◌, [], map}
-use Rattle.std.specs.List.{range_with_len}
-use Rattle.world_steps.proofs.shards.empty_shards.Given as goal
-
-abbrev pub invariant-loop : goal.invariant-loop
-invariant-loop l = l.shards.items ≡ map (λ _. []) (range_with_len 0 l.counter)
