@@ -1,4 +1,4 @@
-//! Tests of the crates below the program, a file for each. They stand in a crate of their own, since a crate with tests is proved twice.
+//! Tests of the crates that tasks, documents and scripts stand on. They stand in a crate of their own, since a crate with tests is proved twice.
 #![tactic(auto)]
 
 #[cfg(test)]
@@ -10,21 +10,11 @@ mod cancels;
 #[cfg(test)]
 mod corpora;
 #[cfg(test)]
-mod faults;
-#[cfg(test)]
 mod histories;
 #[cfg(test)]
 mod ids;
 #[cfg(test)]
-mod queries;
-#[cfg(test)]
 mod scripts;
-#[cfg(test)]
-mod search_cases;
-#[cfg(test)]
-mod searches;
-#[cfg(test)]
-mod shard_phases;
 #[cfg(test)]
 mod shards;
 #[cfg(test)]
