@@ -17,7 +17,7 @@ use task_ids::TaskId;
 /// cancellations that banned them.
 ///
 /// A step finds its ban without a scan of the others.
-#[derive(Debug, Drop)]
+#[derive(Drop)]
 pub struct BanTable {
     alloc: Global,
     bans: BTreeMap<TaskId, u32>,
@@ -41,7 +41,7 @@ impl Model for BanTable {
 }
 
 /// The answer of [`BanTable::put`].
-#[derive(Clone, Copy, Debug, PartialEq, Eq)]
+#[derive(Clone, Copy, PartialEq, Eq)]
 pub enum BanPut {
     /// The ban was put.
     Put,
@@ -50,7 +50,7 @@ pub enum BanPut {
 }
 
 /// A ban as a list of bans shows it.
-#[derive(Clone, Copy, Debug, PartialEq, Eq)]
+#[derive(Clone, Copy, PartialEq, Eq)]
 pub struct Ban {
     /// The task whose children are to be refused or cancelled.
     pub parent: TaskId,

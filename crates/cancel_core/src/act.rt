@@ -2,7 +2,7 @@ use child_track::Receipt;
 use task_ids::TaskId;
 
 /// Who is to be answered for a task's cancellation.
-#[derive(Clone, Copy, Debug, PartialEq, Eq)]
+#[derive(Clone, Copy, PartialEq, Eq)]
 pub struct Waiter {
     /// The number of the cancel command, from 1 to 65,535.
     pub cancel: u32,
@@ -11,7 +11,7 @@ pub struct Waiter {
 }
 
 /// What a node is to do after a call of its core. A call's acts are done in their order.
-#[derive(Clone, Copy, Debug, PartialEq, Eq)]
+#[derive(Clone, Copy, PartialEq, Eq)]
 pub enum Act {
     /// A node is told to refuse new children of the task, and to cancel those that it has.
     SendBan {

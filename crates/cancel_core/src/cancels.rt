@@ -29,7 +29,7 @@ use task_ids::TaskId;
 /// `AnswerPlaced`. Once, besides, the task has ended, `SendUnban` goes to each banned node, each waiter with
 /// `wait` gets `AnswerDone`, and the task's entry goes. At one step the unbans come first. Several answers come
 /// by ascending number. A step finds its entry without a scan of the others.
-#[derive(Debug, Drop)]
+#[derive(Drop)]
 pub struct CancelCore {
     alloc: Global,
     node: u32,

@@ -12,7 +12,7 @@ use std::marker::Model;
 use task_ids::TaskId;
 
 /// The cancellation of one task. Its waiters stand by ascending number.
-#[derive(Debug, Drop)]
+#[derive(Drop)]
 pub(crate) struct Entry {
     stage: Stage,
     waiters: Vec<Waiter>,

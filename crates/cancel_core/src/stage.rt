@@ -6,7 +6,7 @@ ghost use Rattle.child_track.specs.NodeSet.{all_nodes};
 use child_track::{NodeSet, Receipt};
 
 /// How far a cancellation has come, but for who waits for it.
-#[derive(Clone, Copy, Debug)]
+#[derive(Clone, Copy)]
 pub(crate) struct Stage {
     pub(crate) cancel: u32,
     pub(crate) banned: NodeSet,

@@ -2,7 +2,7 @@ ghost use Rattle.std.specs.Prelude.{◌≡◌, ◌==◌, ◌||◌, ℕ};
 ghost use Rattle.task_ids.specs.Limits.{IsNode};
 
 /// A set of nodes: bit X stands for node X, from 1 to 15.
-#[derive(Clone, Copy, Debug, PartialEq, Eq)]
+#[derive(Clone, Copy, PartialEq, Eq)]
 pub struct NodeSet(pub u16);
 
 impl NodeSet {

@@ -4,7 +4,7 @@ use std::marker::Model;
 use task_ids::TaskId;
 
 /// What the parent of a task is told when the task has ended, or when its request was rejected.
-#[derive(Clone, Copy, Debug, PartialEq, Eq)]
+#[derive(Clone, Copy, PartialEq, Eq)]
 pub struct Receipt {
     task: Option<TaskId>,
     parent: Option<TaskId>,
@@ -51,5 +51,5 @@ impl Receipt {
 }
 
 /// A receipt that answers no unanswered ask of the track that it was given to, which hands it back.
-#[derive(Clone, Copy, Debug, PartialEq, Eq)]
+#[derive(Clone, Copy, PartialEq, Eq)]
 pub struct Stranger(pub Receipt);

@@ -6,7 +6,6 @@ use task_ids::TaskId;
 
 /// The right to be the child that one ask of a task asked for. It goes with the request, and is spent by the
 /// child's end or by the request's rejection: so an ask is answered once.
-#[derive(Debug)]
 pub struct AskToken {
     parent: TaskId,
     ask: u32,

@@ -12,7 +12,7 @@ use task_ids::TaskId;
 /// What a task remembers of its asks: which are unanswered, on which nodes, and whether it may still ask.
 ///
 /// An ask takes two bytes for as long as the track stands, and finds its place by its number.
-#[derive(Debug, Drop)]
+#[derive(Drop)]
 pub struct ChildTrack {
     task: TaskId,
     /// Of each ask in order, the node that is still to answer it.
@@ -25,7 +25,7 @@ pub struct ChildTrack {
 }
 
 /// Why a task may not ask.
-#[derive(Clone, Copy, Debug, PartialEq, Eq)]
+#[derive(Clone, Copy, PartialEq, Eq)]
 pub enum AskError {
     /// The track was closed, first by this cancellation.
     Closed { cancel: u32 },

@@ -8,7 +8,7 @@ use std::alloc::Global;
 use std::marker::Model;
 
 /// A source over memory: it gives its bytes in order, and fails at the calls that it was told. For tests.
-#[derive(Debug, Drop)]
+#[derive(Drop)]
 pub struct MemSource {
     bytes: Vec<u8>,
     // The place of the next byte.
@@ -87,7 +87,7 @@ impl Source for MemSource {
 }
 
 /// A sink over memory: it keeps the bytes that it takes, and fails at the calls that it was told. For tests.
-#[derive(Debug, Drop)]
+#[derive(Drop)]
 pub struct MemSink {
     bytes: Vec<u8>,
     piece: usize,

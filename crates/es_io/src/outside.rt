@@ -4,7 +4,7 @@ ghost use Rattle.es_io.specs.Bytes.{Appends, Loses};
 ghost use Rattle.es_io.specs.Count.{Rose};
 
 /// A read or a write failed: no byte was taken or given by that call.
-#[derive(Clone, Copy, Debug, PartialEq, Eq)]
+#[derive(Clone, Copy, PartialEq, Eq)]
 pub struct Failed;
 
 /// Gives bytes, in order and in pieces.

@@ -1,5 +1,5 @@
 /// Why a line of a schedule made nothing happen.
-#[derive(Clone, Copy, Debug, PartialEq, Eq)]
+#[derive(Clone, Copy, PartialEq, Eq)]
 pub enum Idle {
     /// A `deliver` of a place that no message in flight has, of so many that there are.
     NoSuchMessage { in_flight: u64 },

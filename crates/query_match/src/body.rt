@@ -5,7 +5,7 @@ use crate::query::Query;
 use crate::sort::SortBy;
 
 /// What a search asks for.
-#[derive(Debug, Drop)]
+#[derive(Drop)]
 pub struct SearchBody {
     /// The query, `match_all` where the body has none.
     pub query: Query,

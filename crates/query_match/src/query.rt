@@ -6,7 +6,7 @@ use crate::text::Text;
 use std::marker::Model;
 
 /// A query of a search.
-#[derive(Debug, Drop)]
+#[derive(Drop)]
 pub struct Query {
     pub(crate) node: Node,
 }
@@ -44,7 +44,7 @@ impl Query {
 }
 
 /// A query as a tree.
-#[derive(Debug, Drop)]
+#[derive(Drop)]
 pub enum Node {
     /// Every document.
     All,
@@ -65,7 +65,7 @@ pub enum Node {
 }
 
 /// What is asked of what lies at a field.
-#[derive(Debug, Drop)]
+#[derive(Drop)]
 pub enum Test {
     /// A value that is equal to this one.
     Equals(Scalar),
@@ -80,7 +80,7 @@ pub enum Test {
 }
 
 /// Bounds, each a whole number or a text.
-#[derive(Debug, Drop)]
+#[derive(Drop)]
 pub struct Range {
     /// `gt`.
     pub above: Option<Scalar>,
@@ -93,7 +93,7 @@ pub struct Range {
 }
 
 /// Which bound of a range.
-#[derive(Clone, Copy, Debug)]
+#[derive(Clone, Copy)]
 pub(crate) enum Side {
     Above,
     From,

@@ -7,7 +7,7 @@ use std::alloc::AllocError;
 use std::cmp::Ordering;
 
 /// What a document's field can hold and a query can ask for. The order of values is whole numbers, then texts by bytes, then false, true.
-#[derive(Debug, Drop)]
+#[derive(Drop)]
 pub enum Scalar {
     /// A whole number from -2^63 to 2^64-1.
     Whole(i128),

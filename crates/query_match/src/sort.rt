@@ -16,7 +16,7 @@ use std::cmp::Ordering;
 use std::marker::Model;
 
 /// One entry of a sort: by the values of a field, ascending or descending.
-#[derive(Debug, Drop, PartialEq, Eq)]
+#[derive(Drop, PartialEq, Eq)]
 pub struct SortBy {
     pub field: Text,
     pub descending: bool,
@@ -35,7 +35,7 @@ impl SortBy {
 }
 
 /// What one entry of a sort goes by in a document.
-#[derive(Debug, Drop)]
+#[derive(Drop)]
 pub enum KeyPart {
     /// The least value of the field.
     Ascending(Scalar),
@@ -123,7 +123,7 @@ impl Ord for KeyPart {
 }
 
 /// The key of a document for a sort: a part for each entry. Keys are ordered by their first part, a tie by the next.
-#[derive(Debug, Drop)]
+#[derive(Drop)]
 pub struct SortKey {
     parts: Items<KeyPart>,
 }

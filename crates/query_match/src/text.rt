@@ -8,7 +8,7 @@ use std::cmp::Ordering;
 use std::marker::Model;
 
 /// A text in UTF-8. Contracts see it as the list of its bytes, by which texts are compared too.
-#[derive(Debug, Drop)]
+#[derive(Drop)]
 pub struct Text {
     string: String,
 }

@@ -7,7 +7,7 @@ use query_match::Text;
 use std::alloc::{AllocError, AllocFailed};
 
 /// What is wrong with a query.
-#[derive(Clone, Copy, Debug, PartialEq, Eq)]
+#[derive(Clone, Copy, PartialEq, Eq)]
 pub enum QueryFault {
     /// The key of a query object names no query. The path ends with that key.
     UnknownQuery,
@@ -18,7 +18,7 @@ pub enum QueryFault {
 }
 
 /// Why a query could not be read.
-#[derive(Debug, Drop)]
+#[derive(Drop)]
 pub enum QueryError {
     /// The first fault, depth first and keys in the order of their bytes. The path has the keys and the places of lists from `query` on, joined by dots.
     Bad { path: Text, kind: QueryFault },
@@ -58,7 +58,7 @@ impl QueryError {
 }
 
 /// Why a body could not be read: the first fault, in the order of unknown fields, the query, the sort, `from`, `size` and the window.
-#[derive(Debug, Drop)]
+#[derive(Drop)]
 pub enum BodyError {
     /// The first key, in the order of their bytes, that no body of a search has.
     UnknownField(Text),

@@ -1,7 +1,7 @@
 use task_ids::{DocSource, Items, TaskId, Text};
 
 /// How a script runs: step by step in one order that it may choose, or on threads.
-#[derive(Clone, Copy, Debug, PartialEq, Eq)]
+#[derive(Clone, Copy, PartialEq, Eq)]
 pub enum Mode {
     /// The script may write a schedule, by `deliver`, `step`, `list_step`, `settle` and `history`.
     Sim,
@@ -10,7 +10,7 @@ pub enum Mode {
 }
 
 /// What a cancel names.
-#[derive(Clone, Copy, Debug, PartialEq, Eq)]
+#[derive(Clone, Copy, PartialEq, Eq)]
 pub enum CancelTarget {
     /// A task by its id, whose node need not be of the cluster.
     Task(TaskId),
@@ -19,7 +19,7 @@ pub enum CancelTarget {
 }
 
 /// A command of a script, its defaults filled in.
-#[derive(Debug, Drop)]
+#[derive(Drop)]
 pub enum Command {
     /// A search, after Elasticsearch's search API.
     Search {
@@ -63,7 +63,7 @@ pub enum Command {
 }
 
 /// What was read of a script.
-#[derive(Debug, Drop)]
+#[derive(Drop)]
 pub struct Script {
     /// The commands in order, of which the first has the number 1. There are at most 65,535.
     pub commands: Items<Command>,

@@ -52,7 +52,7 @@ impl<T: Drop> From<AllocFailed<T>> for ScriptError {
 }
 
 /// Why a command was not read, whichever line it stands on.
-#[derive(Clone, Copy, Debug, PartialEq, Eq)]
+#[derive(Clone, Copy, PartialEq, Eq)]
 pub(crate) enum CommandError {
     /// The first of the causes for which its line is refused.
     Refused(Cause),

@@ -4,7 +4,7 @@ ghost use Rattle.script_lang.specs.Kinds.{kind_named, is_schedule};
 use task_ids::Cause;
 
 /// The kind of a command, which the key of its line names.
-#[derive(Clone, Copy, Debug, PartialEq, Eq)]
+#[derive(Clone, Copy, PartialEq, Eq)]
 pub(crate) enum Kind {
     Search,
     Cancel,

@@ -14,7 +14,7 @@ use std::alloc::Global;
 use task_ids::{Cause, Text};
 
 /// How a document is written.
-#[derive(Clone, Copy, Debug, PartialEq, Eq)]
+#[derive(Clone, Copy, PartialEq, Eq)]
 pub(crate) enum BulkKind {
     /// In the place of a document of its id, if there is one.
     Index,
@@ -23,7 +23,7 @@ pub(crate) enum BulkKind {
 }
 
 /// What an action line asks for: how its document is written, where, and under which id.
-#[derive(Debug, Drop)]
+#[derive(Drop)]
 pub(crate) struct BulkAction {
     pub(crate) kind: BulkKind,
     pub(crate) index: Text,

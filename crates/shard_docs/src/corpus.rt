@@ -18,7 +18,7 @@ use task_ids::{Cause, Corpus, CorpusLine, Doc, Items};
 const DASHES: &str = "--";
 
 /// What was read of an input up to its script.
-#[derive(Debug, Drop)]
+#[derive(Drop)]
 pub struct CorpusRead {
     /// The documents, in the order of the input.
     pub corpus: Corpus,

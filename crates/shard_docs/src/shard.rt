@@ -12,7 +12,7 @@ use task_ids::Doc;
 const MAX_ROWS: usize = 4_294_967_295;
 
 /// What a write did.
-#[derive(Clone, Copy, Debug, PartialEq, Eq)]
+#[derive(Clone, Copy, PartialEq, Eq)]
 pub enum Written {
     /// No document of this id was alive.
     Created,
@@ -21,7 +21,7 @@ pub enum Written {
 }
 
 /// A document that was written, and the version at which another took its place.
-#[derive(Debug, Drop)]
+#[derive(Drop)]
 struct StoredRow {
     doc: Doc,
     died: Option<u32>,
@@ -41,7 +41,7 @@ impl StoredRow {
 /// A shard of an index: the documents that were written to it, in order, of which a newer one takes the place of an
 /// older one of its id. Contracts see the list of all writes. It can be read as of any version, which is a number of
 /// first writes.
-#[derive(Debug, Drop)]
+#[derive(Drop)]
 pub struct Shard {
     rows: Vec<StoredRow>,
     /// The place of the living row of each id.

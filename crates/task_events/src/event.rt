@@ -7,7 +7,7 @@ use task_ids::{TaskId, Text};
 /// Nodes are 1 to 15, shards go from 0. Commands, and cancellations by their commands, are numbered from 1 to 65,535;
 /// the closing drain has the number after the last command's.
 /// After Elasticsearch's TaskManager and TaskCancellationService; the list of kinds is this project's own.
-#[derive(Debug, Drop)]
+#[derive(Drop)]
 pub enum Event {
     /// A command begins, or, under the number after the last one, the closing drain.
     Begin {
@@ -123,7 +123,7 @@ pub enum Event {
 }
 
 /// Whether a write replaced a document.
-#[derive(Clone, Copy, Debug, PartialEq, Eq)]
+#[derive(Clone, Copy, PartialEq, Eq)]
 pub enum Outcome {
     /// No document of that id was there.
     Created,

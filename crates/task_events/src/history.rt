@@ -8,7 +8,7 @@ use std::marker::Model;
 pub const MAX_EVENTS: usize = 4_000_000;
 
 /// What happened, in order. Contracts see the list of the events with the newest first.
-#[derive(Debug, Drop)]
+#[derive(Drop)]
 pub struct History {
     events: Vec<Event>,
 }
@@ -30,7 +30,7 @@ impl Model for History {
 }
 
 /// Why an event was not added. The event comes back.
-#[derive(Debug, Drop)]
+#[derive(Drop)]
 pub enum PushError {
     /// The history has 4,000,000 events.
     Full(Event),

@@ -5,7 +5,7 @@ use crate::request::HitKey;
 use task_ids::{Boxed, Doc, Items, TaskId, Text};
 
 /// What a task answers when it ends.
-#[derive(Debug, Drop)]
+#[derive(Drop)]
 pub enum Reply {
     /// A search's answer.
     Search(Boxed<SearchReply>),
@@ -47,7 +47,7 @@ impl Reply {
 }
 
 /// What a writing task has done. All are zero for other tasks.
-#[derive(Clone, Copy, Debug, PartialEq, Eq)]
+#[derive(Clone, Copy, PartialEq, Eq)]
 pub struct Counts {
     /// How many documents there were to write.
     pub total: u64,
@@ -62,7 +62,7 @@ pub struct Counts {
 }
 
 /// A search's answer, after Elasticsearch's search API.
-#[derive(Debug, Drop)]
+#[derive(Drop)]
 pub struct SearchReply {
     /// The context that the search opened, where it opened one.
     pub context: Option<TaskId>,
@@ -79,7 +79,7 @@ pub struct SearchReply {
 }
 
 /// What a shard found in the query phase.
-#[derive(Debug, Drop)]
+#[derive(Drop)]
 pub struct ShardTop {
     /// The shard, from 0.
     pub shard: u32,
@@ -92,7 +92,7 @@ pub struct ShardTop {
 }
 
 /// How many rows matched in a shard at a version.
-#[derive(Clone, Copy, Debug, PartialEq, Eq)]
+#[derive(Clone, Copy, PartialEq, Eq)]
 pub struct ShardCount {
     /// The shard, from 0.
     pub shard: u32,
@@ -103,7 +103,7 @@ pub struct ShardCount {
 }
 
 /// A document that a search found.
-#[derive(Debug, Drop)]
+#[derive(Drop)]
 pub struct Hit {
     pub index: Text,
     pub doc: Doc,
@@ -112,7 +112,7 @@ pub struct Hit {
 }
 
 /// A shard that failed.
-#[derive(Clone, Copy, Debug, PartialEq, Eq)]
+#[derive(Clone, Copy, PartialEq, Eq)]
 pub struct FailedShard {
     /// The shard, from 0.
     pub shard: u32,
@@ -120,7 +120,7 @@ pub struct FailedShard {
 }
 
 /// Why a shard failed.
-#[derive(Clone, Copy, Debug, PartialEq, Eq)]
+#[derive(Clone, Copy, PartialEq, Eq)]
 pub enum ShardFailure {
     /// The shard's task was cancelled, or refused, by the cancellation of this number.
     Cancelled { task: TaskId, cancel: u32 },

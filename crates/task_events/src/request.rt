@@ -4,7 +4,7 @@ use query_match::{SearchBody, SortKey};
 use task_ids::{Boxed, Items, TaskId, Text};
 
 /// What a task is asked to do.
-#[derive(Debug, Drop)]
+#[derive(Drop)]
 pub enum Request {
     /// A search of all shards of an index.
     Search(Boxed<SearchAsk>),
@@ -15,7 +15,7 @@ pub enum Request {
 }
 
 /// A search of all shards of an index, after Elasticsearch's search API.
-#[derive(Debug, Drop)]
+#[derive(Drop)]
 pub struct SearchAsk {
     pub index: Text,
     pub body: SearchBody,
@@ -28,7 +28,7 @@ pub struct SearchAsk {
 }
 
 /// A slice of the documents of an index: those whose hash, divided by the number of shards, has this remainder.
-#[derive(Clone, Copy, Debug, PartialEq, Eq)]
+#[derive(Clone, Copy, PartialEq, Eq)]
 pub struct SlicePick {
     /// The slice, from 0 and below the number of slices.
     pub slice: u32,
@@ -41,7 +41,7 @@ pub struct SlicePick {
 }
 
 /// The query phase of a search in one shard: which rows match, and which of them stand first.
-#[derive(Debug, Drop)]
+#[derive(Drop)]
 pub struct ShardAsk {
     pub index: Text,
     /// The shard, from 0.
@@ -56,7 +56,7 @@ pub struct ShardAsk {
 }
 
 /// The fetch phase of a search in one shard: the documents of some rows.
-#[derive(Debug, Drop)]
+#[derive(Drop)]
 pub struct FetchAsk {
     pub index: Text,
     /// The shard, from 0.
@@ -68,7 +68,7 @@ pub struct FetchAsk {
 }
 
 /// Where a row stands among all rows that a search finds. Keys are ordered by the sort, then by shard, then by place.
-#[derive(Debug, Drop, PartialEq, Eq, PartialOrd, Ord)]
+#[derive(Drop, PartialEq, Eq, PartialOrd, Ord)]
 pub struct HitKey {
     /// The key of the row's document for the sort.
     pub sort: SortKey,

@@ -2,7 +2,7 @@ use crate::reply::Reply;
 use crate::request::Request;
 
 /// What a task does next.
-#[derive(Debug, Drop)]
+#[derive(Drop)]
 pub enum Do {
     /// It asks for a child.
     AskNext(Request),
@@ -15,7 +15,7 @@ pub enum Do {
 }
 
 /// An ask of a task, and its answer once it has come.
-#[derive(Debug, Drop)]
+#[derive(Drop)]
 pub struct Asked {
     /// The number of the ask, from 1.
     pub ask: u32,

@@ -4,7 +4,7 @@ use std::alloc::{AllocFailed, Global};
 use std::marker::Model;
 
 /// A value in an allocation of its own, which keeps what holds it small. Contracts see the value.
-#[derive(Debug, Drop)]
+#[derive(Drop)]
 pub struct Boxed<X> {
     held: Box<X>,
 }

@@ -1,7 +1,7 @@
 ghost use Rattle.task_ids.specs.Limits.{IsNode, IsShardCount, IsSlotCount};
 
 /// How large the cluster is that a script runs on.
-#[derive(Clone, Copy, Debug, PartialEq, Eq)]
+#[derive(Clone, Copy, PartialEq, Eq)]
 pub struct Cluster {
     /// The number of nodes, from 1 to 15. They are called `n1`, `n2` and so on.
     pub nodes: u32,

@@ -11,7 +11,7 @@ use std::alloc::{AllocError, Global};
 use std::marker::Model;
 
 /// A document: its id in its index, and its source.
-#[derive(Debug, Drop)]
+#[derive(Drop)]
 pub struct Doc {
     pub id: Text,
     pub source: DocSource,
@@ -30,7 +30,7 @@ impl Doc {
 }
 
 /// The source of a document: a JSON object whose numbers are all whole. Contracts see it as the JSON value.
-#[derive(Debug, Drop)]
+#[derive(Drop)]
 pub struct DocSource {
     value: Value,
 }

@@ -4,7 +4,7 @@ use std::alloc::{AllocFailed, Global};
 use std::marker::Model;
 
 /// A list. Contracts see its elements in order, and no capacity.
-#[derive(Debug, Drop)]
+#[derive(Drop)]
 pub struct Items<X> {
     items: Vec<X>,
 }

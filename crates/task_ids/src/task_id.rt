@@ -6,7 +6,7 @@ use std::alloc::AllocError;
 /// The id of a task: the node on which it runs, and its number there. Ids are ordered by node, then by number.
 ///
 /// After Elasticsearch's task management API, where an id is written `node:number`.
-#[derive(Clone, Copy, Debug, PartialEq, Eq, PartialOrd, Ord, Hash)]
+#[derive(Clone, Copy, PartialEq, Eq, PartialOrd, Ord, Hash)]
 pub struct TaskId {
     /// The node, from 1 to 15.
     pub node: u32,
@@ -17,7 +17,7 @@ pub struct TaskId {
 }
 
 /// The text is neither the one spelling of a task id nor `unset`.
-#[derive(Clone, Copy, Debug, PartialEq, Eq)]
+#[derive(Clone, Copy, PartialEq, Eq)]
 pub struct Malformed;
 
 const MAX_NODE: u32 = 15;

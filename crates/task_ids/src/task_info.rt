@@ -6,7 +6,7 @@ use crate::text::Text;
 use std::alloc::AllocError;
 
 /// What a request carries beside its content, as Elasticsearch's `X-Opaque-Id`. A child has its parent's.
-#[derive(Debug, Drop)]
+#[derive(Drop)]
 pub struct Headers {
     pub opaque_id: Option<Text>,
 }
@@ -25,7 +25,7 @@ impl Headers {
 }
 
 /// A task that is to be put into a node's table, which then gives it its id.
-#[derive(Debug, Drop)]
+#[derive(Drop)]
 pub struct NewTask {
     pub action: Action,
     /// What the task works on, as a detailed task list shows it.
@@ -38,7 +38,7 @@ pub struct NewTask {
 }
 
 /// A live task, as a task list shows it.
-#[derive(Debug, Drop)]
+#[derive(Drop)]
 pub struct TaskInfo {
     pub id: TaskId,
     pub action: Action,

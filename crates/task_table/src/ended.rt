@@ -1,7 +1,7 @@
 use child_track::{AskToken, Receipt};
 
 /// What a task leaves when it ends.
-#[derive(Clone, Copy, Debug, PartialEq, Eq)]
+#[derive(Clone, Copy, PartialEq, Eq)]
 pub struct Ended {
     /// What its parent is told.
     pub receipt: Receipt,
@@ -10,7 +10,6 @@ pub struct Ended {
 }
 
 /// Why no task was put into a table. Each hands the token back.
-#[derive(Debug)]
 pub enum PutError {
     /// Every slot holds a live task.
     Full(Option<AskToken>),
@@ -21,7 +20,7 @@ pub enum PutError {
 }
 
 /// What came of marking a task.
-#[derive(Clone, Copy, Debug, PartialEq, Eq)]
+#[derive(Clone, Copy, PartialEq, Eq)]
 pub enum MarkAnswer {
     /// It is marked now, and was not before.
     Marked,

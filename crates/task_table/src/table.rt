@@ -18,7 +18,7 @@ use task_ids::{NewTask, TaskId, TaskInfo};
 const LAST_NUMBER: u32 = 1_048_575;
 
 /// The live tasks of one node. Each gets the next number when it is put in, and a number is never given again.
-#[derive(Debug, Drop)]
+#[derive(Drop)]
 pub struct TaskTable {
     node: u32,
     slots: u32,

@@ -7,7 +7,6 @@ use std::marker::Model;
 use task_ids::TaskId;
 
 /// The right to end one live task. It is spent by the task's end, so a task ends once.
-#[derive(Debug)]
 pub struct Ticket {
     id: TaskId,
     token: Option<AskToken>,

@@ -4,7 +4,7 @@ use task_events::History;
 use task_ids::{Corpus, Items};
 
 /// What a call of `sim_top` read and what happened in it. All three are empty where reading was refused.
-#[derive(Debug, Drop)]
+#[derive(Drop)]
 pub struct Kept {
     pub corpus: Corpus,
     pub script: Script,

@@ -5,7 +5,7 @@ use std::fmt;
 use task_ids::Cause;
 
 /// How a call ended that the program makes.
-#[derive(Clone, Copy, Debug, PartialEq, Eq)]
+#[derive(Clone, Copy, PartialEq, Eq)]
 pub enum Status {
     /// Every command has its line, written in order.
     Done,

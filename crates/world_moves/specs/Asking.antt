@@ -1,12 +1,21 @@
--- A live task that asks for a child, and that takes an answer.
+-- What a task is of, and a live task that asks for a child or takes an answer.
 use Rattle.std.specs.Prelude.{◌≡◌, ℕ, ◌+◌, List, length, Option, Some, None}
+use Rattle.task_ids.specs.declared.action.Action.{Action}
+use Rattle.task_ids.specs.declared.action.Action.TheVariants as actions
 use Rattle.task_ids.specs.declared.doc.Doc.{Doc}
 use Rattle.child_track.specs.Track.{with_ask, with_answer}
 use Rattle.task_events.specs.declared.request.Request.{Request}
+use Rattle.task_events.specs.declared.request.Request.TheVariants.{Search, Query, Fetch}
 use Rattle.task_events.specs.declared.reply.Reply.{Reply}
 use Rattle.task_events.specs.declared.step.Do.TheVariants.{AskNext}
 use Rattle.task_work.specs.Works.{IsWorkOn, next_of, work_with_ask, work_with_answer}
 use Rattle.world_moves.specs.declared.running.Running.{Running}
+
+-- the action of the task that a request asks for
+abbrev pub action_of : Request → Action
+action_of (Search ask) = actions.Search
+action_of (Query ask) = actions.Query
+action_of (Fetch ask) = actions.Fetch
 
 -- the task is kept, and its plan says that it asks for this next
 abbrev pub PlansToAsk : Option Running → Request → Type 0

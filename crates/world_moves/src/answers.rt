@@ -86,6 +86,9 @@ impl Running {
 }
 
 /// The answer of this place among the messages in flight, counted from 0, comes to the task that asked.
+///
+/// It fails where the history is full (`HistoryFull`, at 4,000,000 events) or memory runs out (`Memory`); then nothing
+/// was appended.
 pub fn deliver_answer(state: &mut State<'_>, nth: usize) -> Result<(), Stop>
     requires tied { IsTied state.old }
     requires answer { is_answer_entry (slice_get state.old.flight nth) ≡ true }

@@ -55,6 +55,9 @@ impl Running {
 }
 
 /// A task asks for what its plan says: the request goes on its way to the node of its shard.
+///
+/// It fails where the history is full (`HistoryFull`, at 4,000,000 events) or memory runs out (`Memory`); then nothing
+/// was appended.
 pub fn ask(state: &mut State<'_>, task: TaskId, request: Request) -> Result<(), Stop>
     requires tied { IsTied state.old }
     requires live { is_live task state.old.history ≡ true }

@@ -103,6 +103,9 @@ fn deliver_unban(state: &mut State<'_>, nth: usize, parent: TaskId, node: u32) -
 }
 
 /// The message about bans of this place among those in flight, counted from 0, is delivered.
+///
+/// It fails where the history is full (`HistoryFull`, at 4,000,000 events) or memory runs out (`Memory`); the first of
+/// its events may stand then.
 pub fn deliver_notice(state: &mut State<'_>, nth: usize, notice: Notice) -> Result<(), Stop>
     requires tied { IsTied state.old }
     requires there { slice_get state.old.flight nth ≡ Some (sent.Notice notice) }

@@ -50,6 +50,9 @@ fn tell_parent(flight: &mut Flight, receipt: Receipt, at: usize) -> Result<(), S
 }
 
 /// A task that has passed and whose work ends next ends with its reply. The task that asked for it is told.
+///
+/// It fails where the history is full (`HistoryFull`, at 4,000,000 events) or memory runs out (`Memory`); then nothing
+/// was appended.
 pub fn finish(state: &mut State<'_>, task: TaskId, reply: Reply) -> Result<(), Stop>
     requires tied { IsTied state.old }
     requires shards { HasShards state.old }
@@ -114,6 +117,9 @@ fn leave(state: &mut State<'_>, task: TaskId, event: Event) -> Result<(), Stop>
 }
 
 /// A child that has not passed is refused with the number of the ban of its parent on its node.
+///
+/// It fails where the history is full (`HistoryFull`, at 4,000,000 events) or memory runs out (`Memory`); the first of
+/// its events may stand then.
 pub fn refuse(state: &mut State<'_>, task: TaskId, cancel: u32) -> Result<(), Stop>
     requires tied { IsTied state.old }
     requires refused { RefuseAllowed task cancel state.old.history }
@@ -132,6 +138,9 @@ pub fn refuse(state: &mut State<'_>, task: TaskId, cancel: u32) -> Result<(), St
 }
 
 /// A marked task whose asks are all answered ends as cancelled, with the number of its mark.
+///
+/// It fails where the history is full (`HistoryFull`, at 4,000,000 events) or memory runs out (`Memory`); the first of
+/// its events may stand then.
 pub fn finish_cancelled(state: &mut State<'_>, task: TaskId, cancel: u32) -> Result<(), Stop>
     requires tied { IsTied state.old }
     requires live { is_live task state.old.history ≡ true }

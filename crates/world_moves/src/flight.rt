@@ -10,20 +10,21 @@ use std::marker::Model;
 use task_ids::TaskId;
 
 /// A message about the bans of a marked task.
-#[derive(Clone, Copy, Debug, PartialEq, Eq)]
+#[derive(Clone, Copy, PartialEq, Eq)]
 pub enum Notice {
-    /// A node is to refuse the task's new children, and to mark those that it has.
+    /// A node (`to`, from 1 to 15) is to refuse the new children of the task (`parent`), and to mark those that it has, with the
+    /// number of its cancel (`cancel`, from 1 to 65,535).
     Ban {
         parent: TaskId,
         cancel: u32,
         to: u32,
     },
-    /// A node has done so.
+    /// A node (`from`) has done so.
     Ack {
         parent: TaskId,
         from: u32,
     },
-    /// A node is told that the task has ended.
+    /// A node (`to`) is told that the task has ended.
     Unban {
         parent: TaskId,
         to: u32,
@@ -32,11 +33,12 @@ pub enum Notice {
 
 /// A message that was sent. What a request or an answer says stands in the history, at the place of the event that sent
 /// it.
-#[derive(Debug)]
 pub enum Sent {
-    /// The request of an ask, with the right to answer it, to a node.
+    /// The request of an ask, with the right to answer it, to a node (`to`). The ask stands at this place of the history (`at`,
+    /// counted from 0).
     Request { token: AskToken, to: u32, at: usize },
-    /// The answer to an ask, with the receipt of the child that ended or of the rejection.
+    /// The answer to an ask, with the receipt of the child that ended or of the rejection, which stands at this place of the
+    /// history (`at`, counted from 0).
     Answer { receipt: Receipt, at: usize },
     /// A message about bans.
     Notice(Notice),
@@ -85,7 +87,7 @@ impl Drop for Sent {
 
 /// The messages in flight, in the order of their sending. Any of them can be taken out; near either end that costs
 /// no more than its distance from there.
-#[derive(Debug, Drop)]
+#[derive(Drop)]
 pub struct Flight {
     queue: VecDeque<Sent>,
 }
@@ -100,6 +102,7 @@ impl Model for Flight {
 }
 
 impl Flight {
+    /// No messages.
     pub fn new(alloc: Global) -> Flight
         ensures { result ≡ [] }
     {
@@ -108,6 +111,7 @@ impl Flight {
         }
     }
 
+    /// How many messages are in flight.
     pub fn len(&self) -> usize
         ensures { result ≡ length self.now }
     {
@@ -115,7 +119,7 @@ impl Flight {
     }
 
     /// Sends a message after all others. Where memory runs out it comes back.
-    pub fn send(&mut self, sent: Sent) -> Result<(), AllocFailed<Sent>>
+    pub(crate) fn send(&mut self, sent: Sent) -> Result<(), AllocFailed<Sent>>
         ensures ok { OnOk result (self.new ≡ self.old ++ sent ∷ []) }
         ensures err { OnErr result (self.new ≡ self.old) }
         ensures given_back { IfErr result (λ failed. failed.value ≡ sent) }
@@ -141,7 +145,7 @@ impl Flight {
     }
 
     /// Takes the message of this place out, counted from 0. There is none exactly past the end.
-    pub fn take(&mut self, nth: usize) -> Option<Sent>
+    pub(crate) fn take(&mut self, nth: usize) -> Option<Sent>
         ensures taken { result ≡ slice_get self.old nth }
         ensures rest { OnSome result (self.new ≡ remove self.old nth) }
         ensures none { IfNone result (self.new ≡ self.old) }

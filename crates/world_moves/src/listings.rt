@@ -20,7 +20,7 @@ use task_events::{Event, Stop};
 use task_ids::TaskId;
 
 /// What came of a step of a listing.
-#[derive(Clone, Copy, Debug, PartialEq, Eq)]
+#[derive(Clone, Copy, PartialEq, Eq)]
 pub enum ListStep {
     /// A child was marked, or the listing ended.
     Done,
@@ -107,6 +107,9 @@ fn list(state: &mut State<'_>, listing: Listing) -> Result<(), Stop>
 }
 
 /// A listing makes its next step, if it is open.
+///
+/// It fails where the history is full (`HistoryFull`, at 4,000,000 events) or memory runs out (`Memory`); the first of
+/// its events may stand then.
 pub fn list_step(state: &mut State<'_>, listing: Listing) -> Result<ListStep, Stop>
     requires tied { IsTied state.old }
     ensures stepped { IfOk result (λ stepped. AnswersListing listing state.old.history stepped state.new.history) }

@@ -19,7 +19,8 @@ use task_ids::TaskId;
 /// Marks a live task that has no mark, for the cancel that waits or for a listing: the task asks for nothing more, and bans
 /// of it go to the nodes of its unanswered asks. The answer follows where it is due.
 ///
-/// Where it fails, the mark may have come.
+/// It fails where the history is full (`HistoryFull`, at 4,000,000 events) or memory runs out (`Memory`); the mark may have
+/// come then.
 pub fn mark(
     state: &mut State<'_>,
     task: TaskId,

@@ -44,7 +44,8 @@ fn perform_one(flight: &mut Flight, history: &mut History, node: u32, act: &Act)
 
 /// Does the acts of a node in their order: messages are sent, and answers are noted.
 ///
-/// Where it fails, the first of the answers may have been noted.
+/// It fails where the history is full (`HistoryFull`, at 4,000,000 events) or memory runs out (`Memory`); the first of the
+/// answers may have been noted then.
 pub fn perform(
     flight: &mut Flight,
     history: &mut History,

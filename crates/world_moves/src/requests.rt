@@ -70,7 +70,9 @@ fn reject(
 /// A request reaches its node. Where a slot is free there, its child takes it and is to pass; where none is, the
 /// request is rejected and its answer sent.
 ///
-/// Where a slot is free, the number of the child is looked for before there is room for the event.
+/// It fails where the history is full (`HistoryFull`, at 4,000,000 events), where a slot is free and the node has given its last
+/// number (`NumbersSpent`, at 1,048,575), which is looked for before there is room for the event, or where memory runs out
+/// (`Memory`); then nothing was appended.
 pub fn deliver_request(state: &mut State<'_>, nth: usize) -> Result<(), Stop>
     requires tied { IsTied state.old }
     requires request { is_request_entry (slice_get state.old.flight nth) ≡ true }

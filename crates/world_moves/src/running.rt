@@ -6,8 +6,11 @@ use task_work::Work;
 
 /// A live task: its right to end, what it has asked for, and what it works on.
 pub struct Running {
+    /// Its right to end.
     pub ticket: Ticket,
+    /// What it has asked for.
     pub track: ChildTrack,
+    /// What it works on.
     pub work: Work,
     /// It was put and has not passed.
     pub is_new: bool,
@@ -15,7 +18,7 @@ pub struct Running {
 
 impl Running {
     /// What the end of the task takes: its right to end, and what it has asked for.
-    pub fn into_parts(self) -> (Ticket, ChildTrack)
+    pub(crate) fn into_parts(self) -> (Ticket, ChildTrack)
         ensures { (result.0 ≡ self.ticket) × (result.1 ≡ self.track) }
     {
         let Running {

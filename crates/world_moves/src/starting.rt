@@ -1,6 +1,6 @@
 //! How a task starts: it takes a slot of its node, and is kept with its work.
 
-ghost use Rattle.std.specs.Prelude.{◌≡◌, ◌≢◌, ◌∷◌, ◌+◌, ◌-◌, ◌≤◌, ◌<◌, List, length, slice_get, slice_set, Err, Some, None, cond, IfOk, IfErr, OnOk, OnErr, IsErrOf};
+ghost use Rattle.std.specs.Prelude.{◌≡◌, ◌≢◌, [], ◌∷◌, ◌+◌, ◌-◌, ◌≤◌, ◌<◌, List, length, slice_get, slice_set, Err, Some, None, cond, IfOk, IfErr, OnOk, OnErr, IsErrOf};
 ghost use Rattle.std.specs.BTreeMap.{is_at};
 ghost use Rattle.child_track.specs.Token.{token_parent};
 ghost use Rattle.child_track.specs.Track.{new_track};
@@ -11,6 +11,7 @@ ghost use Rattle.task_table.specs.Table.{Table, with_task};
 ghost use Rattle.task_table.specs.Answer.{refused_token};
 ghost use Rattle.task_events.specs.declared.history.TheConstants.{MAX_EVENTS};
 ghost use Rattle.task_work.specs.Works.{IsWorkOn, new_work};
+ghost use Rattle.world_moves.specs.Asking.{action_of};
 ghost use Rattle.world_moves.specs.Moves.{greatest_number};
 ghost use Rattle.world_moves.specs.Ties.{task_at};
 
@@ -24,9 +25,11 @@ use task_ids::{Action, Cluster, Headers, NewTask, TaskId, Text};
 use task_table::{PutError, TaskTable, Ticket};
 use task_work::Work;
 
-/// The task that a request asks for.
+/// The task that a request asks for: of its kind, and so far without a description, a time or a client's id.
 pub fn new_task(alloc: Global, request: &Request, parent: Option<TaskId>) -> NewTask
-    ensures { result.parent ≡ parent }
+    ensures action { result.action ≡ action_of request.now }
+    ensures parent { result.parent ≡ parent }
+    ensures bare { (result.description ≡ []) × (result.start_ms ≡ 0) × (result.headers.opaque_id ≡ None) }
 {
     let action = match request {
         Request::Search(_) => Action::Search,
@@ -42,8 +45,9 @@ pub fn new_task(alloc: Global, request: &Request, parent: Option<TaskId>) -> New
     }
 }
 
-/// Puts a task into the table of a node, under the node's next number. Where it is refused, nothing has changed and
-/// the token comes back.
+/// Puts a task into the table of a node, from 1 on, under the node's next number. It is refused where no slot is free (`Full`),
+/// where the node has given its last number (`NumbersSpent`, at 1,048,575), and for want of memory (`Memory`); then nothing has
+/// changed and the token comes back.
 pub fn put_on(
     tables: &mut Vec<TaskTable>,
     node: u32,
@@ -78,7 +82,7 @@ pub fn spend(token: Option<AskToken>) {
     }
 }
 
-/// The task of a ticket, with the work that is asked of it. Where memory runs out the ticket is given up.
+/// The task of a ticket, with the work that is asked of it. Where memory runs out (`Memory`) the ticket is given up.
 pub fn with_work(
     alloc: Global,
     ticket: Ticket,
@@ -111,6 +115,9 @@ pub fn with_work(
 }
 
 /// Keeps a new task, and then notes the event with which it starts.
+///
+/// It fails where the history is full (`HistoryFull`, at 4,000,000 events) or memory runs out (`Memory`); then nothing
+/// was appended, and the task may be kept.
 pub fn keep(
     history: &mut History,
     tasks: &mut BTreeMap<TaskId, Running>,

@@ -15,16 +15,21 @@ use task_table::TaskTable;
 #[derive(Drop)]
 pub struct State<'a> {
     pub alloc: Global,
+    /// How many nodes there are, shards an index has, and slots a node.
     pub cluster: Cluster,
+    /// The documents.
     pub corpus: &'a Corpus,
     /// The shards of the corpus.
     pub shards: Shards<'a>,
+    /// The commands.
     pub script: &'a Script,
+    /// What has happened.
     pub history: History,
     /// The live tasks.
     pub tasks: BTreeMap<TaskId, Running>,
     /// The table of each node, from the first on.
     pub tables: Vec<TaskTable>,
+    /// The messages that were sent and have not come.
     pub flight: Flight,
     /// The task of each command that started one.
     pub roots: BTreeMap<u32, TaskId>,

@@ -12,6 +12,9 @@ use task_events::{Event, Stop};
 use task_ids::TaskId;
 
 /// A child goes on that finds no ban of its parent on its node.
+///
+/// It fails where the history is full (`HistoryFull`, at 4,000,000 events) or memory runs out (`Memory`); then nothing
+/// was appended.
 pub fn pass(state: &mut State<'_>, task: TaskId) -> Result<(), Stop>
     requires tied { IsTied state.old }
     requires live { is_live task state.old.history ≡ true }

@@ -32,6 +32,9 @@ fn shard_of_work<'s>(shards: &'s Shards<'_>, work: &Work) -> &'s Shard
 }
 
 /// A task that has passed and whose work takes a turn next takes it, over its shard.
+///
+/// It fails where the history is full (`HistoryFull`, at 4,000,000 events) or memory runs out (`Memory`); then nothing
+/// was appended.
 pub fn turn(state: &mut State<'_>, task: TaskId) -> Result<(), Stop>
     requires tied { IsTied state.old }
     requires shards { HasShards state.old }

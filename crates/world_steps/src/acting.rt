@@ -18,7 +18,7 @@ use world_moves::steps::pass;
 use world_moves::turns::turn;
 
 /// What came of a step.
-#[derive(Clone, Copy, Debug, PartialEq, Eq)]
+#[derive(Clone, Copy, PartialEq, Eq)]
 pub enum Stepped {
     /// The task made its step.
     Done,

@@ -55,7 +55,7 @@ impl<'a> Model for World<'a> {
 }
 
 /// What came of a delivery.
-#[derive(Clone, Copy, Debug, PartialEq, Eq)]
+#[derive(Clone, Copy, PartialEq, Eq)]
 pub enum Delivered {
     /// The message was delivered.
     Done,

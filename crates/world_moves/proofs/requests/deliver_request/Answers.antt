@@ -70,7 +70,7 @@ returns-in_ok-keep-in-Ok-clause-tied c =
           (after_put s.cluster s.corpus.now s.script.now s.history (task_at s.tasks) s.tables.items s.flight c.requires.tied.ties c.requires.tied.awaits c.args.nth token c.take_request-token.result.1 _ a t _ _ put running (task_at c.keep.new.tasks) is
           c.in_ok-running-in-Ok.ensures.begun (at_changed t (Some running) (task_at s.tasks) _ changed) (off_changed t (Some running) (task_at s.tasks) _ changed));
       cancels = same_cancels s.cluster _ _ _ _ _ _ _ _ happened refl
-          (noted_put s.cluster s.history s.tables.items c.requires.tied.ties.listed c.take_request-token.result.1 a.low a.high t _ _ put c.requires.tied.ties.lawful (λ t. waiting_for t s.history) _ _ _ _ c.requires.tied.cancels token.parent token.ask (c.new_task-child.ensures ∙ ap Some c.parent-parent.ensures));
+          (noted_put s.cluster s.history s.tables.items c.requires.tied.ties.listed c.take_request-token.result.1 a.low a.high t _ _ put c.requires.tied.ties.lawful (λ t. waiting_for t s.history) _ _ _ _ c.requires.tied.cancels token.parent token.ask (c.new_task-child.ensures.parent ∙ ap Some c.parent-parent.ensures));
       awaits = subst AwaitsNoMark (sym happened) tt;
     }
 

@@ -53,7 +53,7 @@ returns-in-Ok-put_on-clause-tied c =
           (after_root s.cluster s.corpus.now s.script.now s.history (task_at s.tasks) s.tables.items s.flight c.requires.tied.ties c.requires.tied.awaits c.args.command c.args.node c.requires.begun c.requires.low c.requires.high t _ _ put
           (Search c.in-Ok.search) running (task_at c.keep.new.tasks) asked is c.in_ok-running-in-Ok-put_on.ensures.begun (at_changed t (Some running) (task_at s.tasks) _ changed) (off_changed t (Some running) (task_at s.tasks) _ changed));
       cancels = same_cancels s.cluster _ _ _ _ _ _ _ _ happened refl
-          (noted_root s.cluster s.history s.tables.items c.requires.tied.ties.listed c.args.node c.requires.low c.requires.high t _ _ put c.requires.tied.ties.lawful (λ t. waiting_for t s.history) _ _ _ _ c.requires.tied.cancels c.args.command _ c.new_task-root.ensures started);
+          (noted_root s.cluster s.history s.tables.items c.requires.tied.ties.listed c.args.node c.requires.low c.requires.high t _ _ put c.requires.tied.ties.lawful (λ t. waiting_for t s.history) _ _ _ _ c.requires.tied.cancels c.args.command _ c.new_task-root.ensures.parent started);
       awaits = subst AwaitsNoMark (sym happened) tt;
     }
 

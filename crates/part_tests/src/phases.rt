@@ -1,0 +1,148 @@
+//! What later kinds of searches ask of a shard: an older version, a slice, and what stands behind a cursor.
+
+use query_parse::read_body;
+use search_phase::{FetchAnswer, ShardFetch, ShardQuery, TurnAnswer};
+use serde_json::Value;
+use shard_docs::Shard;
+use std::alloc::{AllocError, Global};
+use task_events::{FetchAsk, Hit, HitKey, ShardAsk, ShardTop, SlicePick};
+use task_ids::{Doc, DocSource, Items, Text};
+
+/// Documents with an id and a source a line. The first `a` is written again.
+const DOCS: &str = r#"a {"n":3}
+b {"n":1}
+c {"m":1}
+a {"n":2}
+d {"n":1}
+e {"n":5}"#;
+
+fn text(alloc: Global, text: &str) -> Result<Text, AllocError> {
+    Ok(Text::new(String::from_str(alloc, text)?))
+}
+
+fn write(alloc: Global, shard: &mut Shard, line: &str) -> Option<()> {
+    let (id, source) = line.split_once(" ")?;
+    let id = text(alloc, id).ok()?;
+    let source = DocSource::new(Value::from_str(alloc, source).ok()?).ok()?;
+    shard.write(Doc { id, source }).ok()?;
+    Some(())
+}
+
+fn shard(alloc: Global) -> Shard {
+    let mut shard = Shard::new(alloc);
+    for line in DOCS.lines() {
+        let _written = write(alloc, &mut shard, line);
+    }
+    shard
+}
+
+/// What a search by `n` asks of a shard.
+fn ask(
+    alloc: Global,
+    version: Option<u32>,
+    slice: Option<SlicePick>,
+    after: Option<HitKey>,
+) -> Option<ShardAsk> {
+    let body = Value::from_str(alloc, r#"{"sort":["n"]}"#).ok()?;
+    let body = read_body(alloc, &body, false, 0).ok()?;
+    Some(ShardAsk {
+        index: text(alloc, "i").ok()?,
+        shard: 0,
+        body,
+        version,
+        after,
+        slice,
+    })
+}
+
+/// What a query finds in its first turn.
+fn top(alloc: Global, ask: ShardAsk) -> Option<ShardTop> {
+    let shard = shard(alloc);
+    let mut query = ShardQuery::new(alloc, ask);
+    match query.turn(&shard).ok()? {
+        TurnAnswer::Ready(top) => Some(top),
+        TurnAnswer::More => None,
+    }
+}
+
+/// Whether a query finds so many rows, and shows those of these places.
+fn shows(alloc: Global, ask: Option<ShardAsk>, count: u64, places: &[u32]) -> Option<bool> {
+    let top = top(alloc, ask?)?;
+    let keys = top.keys.as_slice();
+    let are_there = keys
+        .iter()
+        .zip(places)
+        .all(|(key, place)| key.place == *place);
+    Some(top.count == count && keys.len() == places.len() && are_there)
+}
+
+#[test]
+fn a_query_reads_its_version(rt: HostRuntime) {
+    let old = ask(rt.alloc(), Some(3), None, None);
+    assert!(rt; shows(rt.alloc(), old, 3, &[1, 0, 2]) == Some(true));
+    let new = ask(rt.alloc(), None, None, None);
+    assert!(rt; shows(rt.alloc(), new, 5, &[1, 4, 3, 5, 2]) == Some(true));
+}
+
+fn pick(slice: u32) -> Option<SlicePick> {
+    Some(SlicePick {
+        slice,
+        slices: 2,
+        shards: 1,
+    })
+}
+
+#[test]
+fn a_slice_has_the_rows_of_its_remainder(rt: HostRuntime) {
+    let even = ask(rt.alloc(), None, pick(0), None);
+    assert!(rt; shows(rt.alloc(), even, 2, &[1, 4]) == Some(true));
+    let odd = ask(rt.alloc(), None, pick(1), None);
+    assert!(rt; shows(rt.alloc(), odd, 3, &[3, 5, 2]) == Some(true));
+}
+
+/// The key of the second row.
+fn second(alloc: Global) -> Option<HitKey> {
+    let mut keys = top(alloc, ask(alloc, None, None, None)?)?.keys.into_vec();
+    keys.truncate(2);
+    keys.pop()
+}
+
+#[test]
+fn a_cursor_passes_over_itself_and_what_stands_before(rt: HostRuntime) {
+    let later = ask(rt.alloc(), None, None, second(rt.alloc()));
+    assert!(rt; shows(rt.alloc(), later, 5, &[3, 5, 2]) == Some(true));
+}
+
+/// The hits of a fetch at a version.
+fn hits(alloc: Global, version: u32, places: &[u32]) -> Option<Items<Hit>> {
+    let shard = shard(alloc);
+    let ask = FetchAsk {
+        index: text(alloc, "i").ok()?,
+        shard: 0,
+        version,
+        places: Items::from_vec(Vec::from_slice(alloc, places).ok()?),
+    };
+    let mut fetch = ShardFetch::new(alloc, ask);
+    match fetch.turn(&shard).ok()? {
+        FetchAnswer::Ready(hits) => Some(hits),
+        FetchAnswer::More => None,
+    }
+}
+
+/// Whether a fetch of these places shows those.
+fn fetches(alloc: Global, version: u32, places: &[u32], wanted: &[u32]) -> Option<bool> {
+    let found = hits(alloc, version, places)?;
+    let hits = found.as_slice();
+    let are_there = hits
+        .iter()
+        .zip(wanted)
+        .all(|(hit, place)| hit.place == *place);
+    Some(hits.len() == wanted.len() && are_there)
+}
+
+#[test]
+fn a_fetch_passes_over_places_without_a_row(rt: HostRuntime) {
+    assert!(rt; fetches(rt.alloc(), 6, &[4, 3, 1, 0, 9], &[4, 3, 1]) == Some(true));
+    assert!(rt; fetches(rt.alloc(), 3, &[4, 3, 1, 0, 9], &[1, 0]) == Some(true));
+    assert!(rt; fetches(rt.alloc(), 0, &[4, 3, 1, 0, 9], &[]) == Some(true));
+}
