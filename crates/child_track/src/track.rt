@@ -25,7 +25,7 @@ pub struct ChildTrack {
 }
 
 /// Why a task may not ask.
-#[derive(Clone, Copy, PartialEq, Eq)]
+#[derive(Clone, Copy, Debug, PartialEq, Eq)]
 pub enum AskError {
     /// The track was closed, first by this cancellation.
     Closed { cancel: u32 },

@@ -43,7 +43,7 @@ impl From<Failed> for ReadAll {
 }
 
 /// A sink failed after it had taken this many bytes of those that it was given.
-#[derive(Clone, Copy, PartialEq, Eq)]
+#[derive(Clone, Copy, Debug, PartialEq, Eq)]
 pub struct WroteFault {
     /// The number of bytes that the sink took: they are the first ones.
     pub sent: usize,

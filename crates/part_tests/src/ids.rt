@@ -1,7 +1,64 @@
-//! Names of actions, which no line tells yet, and copies of rows.
+//! Ids and their spellings, names of actions, and copies of rows.
 
 use std::alloc::{AllocError, Global};
-use task_ids::{Action, Headers, TaskId, TaskInfo, Text};
+use task_ids::{Action, Headers, Malformed, TaskId, TaskInfo, Text};
+
+/// Texts that spell no id, one a line.
+const MALFORMED: &str = "n3
+n3:
+n3:017
+n03:17
+n3:1:7
+n3:+17
+n3:-17
+n3: 17
+n0:17
+n16:17
+n3:0
+n3:1048576
+n3:4294967297
+N3:17
+3:17
+Unset";
+
+#[test]
+fn refuses_other_spellings(rt: HostRuntime) {
+    assert!(rt; TaskId::parse("") == Err(Malformed));
+    for text in MALFORMED.lines() {
+        assert!(rt; TaskId::parse(text) == Err(Malformed));
+    }
+}
+
+#[test]
+fn parses_the_one_spelling_and_unset(rt: HostRuntime) {
+    let id = TaskId {
+        node: 3,
+        number: 17,
+    };
+    let last = TaskId {
+        node: 15,
+        number: 1_048_575,
+    };
+    assert!(rt; TaskId::parse("n3:17") == Ok(Some(id)));
+    assert!(rt; TaskId::parse("n15:1048575") == Ok(Some(last)));
+    assert!(rt; TaskId::parse("unset") == Ok(None));
+    assert!(rt; id < last);
+}
+
+/// Whether an id is printed so.
+fn prints(alloc: Global, id: TaskId, wanted: &[u8]) -> bool {
+    let mut out = Vec::new(alloc);
+    id.print(&mut out).is_ok() && out.as_slice() == wanted
+}
+
+#[test]
+fn prints_the_one_spelling(rt: HostRuntime) {
+    let id = TaskId {
+        node: 3,
+        number: 17,
+    };
+    assert!(rt; prints(rt.alloc(), id, b"n3:17"));
+}
 
 #[test]
 fn names_actions(rt: HostRuntime) {

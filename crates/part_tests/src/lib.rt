@@ -1,4 +1,4 @@
-//! Tests of what no run of the program shows: functions that later commands will call, schedules that threads refuse, and streams that fail.
+//! Tests of single calls: of ids, tracks, tables, bans, cancellations and shards, and of what no run of the program shows.
 //! They stand in a crate of their own, since a crate with tests is proved twice.
 #![tactic(auto)]
 
@@ -6,6 +6,8 @@
 mod bans;
 #[cfg(test)]
 mod bytes;
+#[cfg(test)]
+mod cancels;
 #[cfg(test)]
 mod histories;
 #[cfg(test)]
@@ -18,3 +20,5 @@ mod scripts;
 mod shards;
 #[cfg(test)]
 mod tables;
+#[cfg(test)]
+mod tracks;

@@ -1,55 +1,144 @@
-//! The rows of a node's table.
+//! The table of a node's live tasks.
 
+ghost use Rattle.std.specs.Prelude.{◌≡◌, IfOk};
+ghost use Rattle.child_track.specs.Token.{token_parent};
+ghost use Rattle.task_ids.specs.Limits.{IsCancel};
+ghost use Rattle.task_ids.specs.declared.task_id.TaskId.{TaskId};
+ghost use Rattle.task_table.specs.Table.{IsLive};
+
+use child_track::{AskToken, ChildTrack};
 use std::alloc::Global;
+use std::test::Fail;
 use task_ids::{Action, Headers, NewTask, TaskId, Text};
-use task_table::{PutError, TaskTable, Ticket};
+use task_table::{MarkAnswer, PutError, TaskTable, Ticket};
 
-/// Puts a root in and gives its ticket up. Gives its number, if it is put.
-fn put_root(alloc: Global, table: &mut TaskTable) -> Option<u32> {
-    let root = NewTask {
-        action: Action::Search,
+fn new_task(alloc: Global, parent: Option<TaskId>) -> NewTask
+    ensures { result.parent ≡ parent }
+{
+    NewTask {
+        action: Action::Query,
         description: Text::new(String::new(alloc)),
-        start_ms: 7,
-        parent: None,
+        start_ms: 0,
+        parent,
         headers: Headers { opaque_id: None },
+    }
+}
+
+/// Spends the token that a refusal hands back, and names the refusal.
+fn refusal(refused: PutError) -> &'static str {
+    let (token, name) = match refused {
+        PutError::Full(token) => (token, "full"),
+        PutError::NumbersSpent(token) => (token, "numbers spent"),
+        PutError::Memory(token) => (token, "memory"),
     };
-    match table.put(root, None) {
-        Ok(ticket) => {
-            let number = ticket.id().number;
-            ticket.give_up();
-            Some(number)
-        }
-        Err(PutError::Full(token) | PutError::NumbersSpent(token) | PutError::Memory(token)) => {
-            if let Some(token) = token {
-                let _receipt = token.reject();
-            }
-            None
-        }
+    if let Some(token) = token {
+        let _receipt = token.reject();
+    }
+    name
+}
+
+/// Puts a task in. Gives its ticket, or which refusal came.
+fn put_in(
+    alloc: Global,
+    table: &mut TaskTable,
+    parent: Option<TaskId>,
+    token: Option<AskToken>,
+) -> Result<Ticket, &'static str>
+    requires { token_parent token ≡ parent }
+    ensures live { IfOk result (λ ticket. IsLive table.new ticket.id) }
+    ensures kept { (id : TaskId) → IsLive table.old id → IsLive table.new id }
+{
+    match table.put(new_task(alloc, parent), token) {
+        Ok(ticket) => Ok(ticket),
+        Err(refused) => Err(refusal(refused)),
     }
 }
 
-/// Whether the table has the one row of the root.
-fn has_root(table: &TaskTable) -> bool {
-    let Ok(rows) = table.rows() else { return false };
-    rows.len() == 1 && rows[0].id.number == 1 && rows[0].start_ms == 7
+/// Puts a root in and gives its ticket up. Gives its number, or which refusal came.
+fn put_root(alloc: Global, table: &mut TaskTable) -> Result<u32, &'static str>
+    ensures { (id : TaskId) → IsLive table.old id → IsLive table.new id }
+{
+    let ticket = put_in(alloc, table, None, None)?;
+    let number = ticket.id().number;
+    ticket.give_up();
+    Ok(number)
+}
+
+fn mark_kept(table: &mut TaskTable, number: u32, cancel: u32) -> MarkAnswer
+    requires { IsCancel cancel }
+    ensures { (id : TaskId) → IsLive table.old id → IsLive table.new id }
+{
+    table.mark(number, cancel)
 }
 
 #[test]
-fn rows_tell_the_live_tasks(rt: HostRuntime) {
-    if let Ok(mut table) = TaskTable::new(rt.alloc(), 1, 1) {
-        assert!(rt; put_root(rt.alloc(), &mut table) == Some(1));
-        assert!(rt; put_root(rt.alloc(), &mut table).is_none());
-        assert!(rt; has_root(&table));
+fn one_slot_holds_one_task_at_a_time(rt: HostRuntime) -> Result<(), Fail> {
+    let mut table = TaskTable::new(rt.alloc(), 1, 1)?;
+    let ticket = put_in(rt.alloc(), &mut table, None, None)?;
+    let id = ticket.id();
+    assert!(rt; id == TaskId { node: 1, number: 1 });
+    assert!(rt; put_root(rt.alloc(), &mut table) == Err("full"));
+    assert!(rt; mark_kept(&mut table, 1, 4) == MarkAnswer::Marked);
+    assert!(rt; mark_kept(&mut table, 1, 5) == MarkAnswer::Already(4));
+    assert!(rt; mark_kept(&mut table, 2, 5) == MarkAnswer::NotFound);
+    let ended = table.end(ticket, ChildTrack::new(rt.alloc(), id));
+    assert!(rt;
+        ended.receipt.task() == Some(id)
+            && ended.receipt.parent().is_none()
+            && ended.mark == Some(4)
+    );
+    assert!(rt; put_root(rt.alloc(), &mut table) == Ok(2));
+    let rows = table.rows()?;
+    assert!(rt; rows.len() == 1);
+    assert!(rt; rows[0].id.number == 2 && rows[0].cancelled.is_none());
+    Ok(())
+}
+
+#[test]
+fn children_are_found_by_ascending_number(rt: HostRuntime) -> Result<(), Fail> {
+    let parent = TaskId { node: 1, number: 1 };
+    let mut track = ChildTrack::new(rt.alloc(), parent);
+    let mut table = TaskTable::new(rt.alloc(), 2, 4)?;
+    for number in 1..4 {
+        let token = track.ask(2)?;
+        let ticket = put_in(rt.alloc(), &mut table, Some(parent), Some(token))?;
+        assert!(rt; ticket.id().number == number);
+        ticket.give_up();
     }
+    for (next, marked) in [(1, 2), (1, 1), (3, 3)] {
+        assert!(rt; table.next_child(parent) == Some(next));
+        assert!(rt; table.mark(marked, 7) == MarkAnswer::Marked);
+    }
+    assert!(rt; table.next_child(parent).is_none());
+    Ok(())
+}
+
+/// Puts a root in and ends it. Gives its number, or which refusal came.
+fn pass_root(alloc: Global, table: &mut TaskTable) -> Result<u32, &'static str> {
+    let ticket = put_in(alloc, table, None, None)?;
+    let id = ticket.id();
+    let _ended = table.end(ticket, ChildTrack::new(alloc, id));
+    Ok(id.number)
 }
 
 #[test]
-fn a_ticket_tells_its_task(rt: HostRuntime) {
+fn the_last_number_is_given_once(rt: HostRuntime) -> Result<(), Fail> {
+    let mut table = TaskTable::new(rt.alloc(), 15, 1)?;
+    for number in 1..1_048_576 {
+        assert!(rt; pass_root(rt.alloc(), &mut table) == Ok(number));
+    }
+    assert!(rt; pass_root(rt.alloc(), &mut table) == Err("numbers spent"));
+    Ok(())
+}
+
+#[test]
+fn a_ticket_of_its_own_is_sealed(rt: HostRuntime) {
     let id = TaskId {
         node: 15,
         number: 9,
     };
     let ticket = Ticket::new(id, None);
-    assert!(rt; ticket.id() == id);
-    ticket.give_up();
+    let own = ticket.id();
+    let receipt = ticket.seal(ChildTrack::new(rt.alloc(), own));
+    assert!(rt; receipt.task() == Some(id) && receipt.parent().is_none() && receipt.ask() == 0);
 }

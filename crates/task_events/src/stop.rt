@@ -1,5 +1,5 @@
 /// Why a run of a script came to an early end. What had happened by then stays.
-#[derive(Clone, Copy, PartialEq, Eq)]
+#[derive(Clone, Copy, Debug, PartialEq, Eq)]
 pub enum Stop {
     /// The history has 4,000,000 events, and one more was needed.
     HistoryFull,

@@ -17,7 +17,7 @@ pub struct TaskId {
 }
 
 /// The text is neither the one spelling of a task id nor `unset`.
-#[derive(Clone, Copy, PartialEq, Eq)]
+#[derive(Clone, Copy, Debug, PartialEq, Eq)]
 pub struct Malformed;
 
 const MAX_NODE: u32 = 15;
