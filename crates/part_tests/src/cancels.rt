@@ -8,12 +8,14 @@ use std::alloc::Global;
 use task_ids::TaskId;
 
 /// The task that is cancelled. Its cancellation has the number 4.
-const TASK: TaskId = TaskId { node: 1, number: 1 };
+fn task() -> TaskId {
+    TaskId { node: 1, number: 1 }
+}
 
-fn receipt(alloc: Global) -> Receipt
-    ensures { result.task ≡ Some (record { node = 1; number = 1 }) }
+fn receipt_of(alloc: Global, task: TaskId) -> Receipt
+    ensures { result.task ≡ Some task }
 {
-    ChildTrack::new(alloc, TASK).seal(None)
+    ChildTrack::new(alloc, task).seal(None)
 }
 
 /// A waiter that waits for the task's end, and one that does not.
@@ -29,63 +31,72 @@ fn hurries(cancel: u32) -> Waiter {
 }
 
 /// Whether the cancellation begins with these acts.
-fn begins(core: &mut CancelCore, nodes: NodeSet, waiter: Option<Waiter>, wanted: &[Act]) -> bool {
+fn begins(
+    core: &mut CancelCore,
+    task: TaskId,
+    nodes: NodeSet,
+    waiter: Option<Waiter>,
+    wanted: &[Act],
+) -> bool {
     let may_be = waiter.is_none_or(|waiter| 0 < waiter.cancel && waiter.cancel < 65_536);
-    if !may_be || core.has(TASK) {
+    if !may_be || core.has(task) {
         return false;
     }
-    core.begin(TASK, 4, nodes, waiter)
+    core.begin(task, 4, nodes, waiter)
         .is_ok_and(|acts| acts.as_slice() == wanted)
 }
 
 /// Whether these acts are done when a waiter joins.
-fn joins(core: &mut CancelCore, waiter: Waiter, wanted: &[Act]) -> bool {
+fn joins(core: &mut CancelCore, task: TaskId, waiter: Waiter, wanted: &[Act]) -> bool {
     let may_be = 0 < waiter.cancel && waiter.cancel < 65_536;
-    if !may_be || !core.has(TASK) || core.has_ended(TASK) {
+    if !may_be || !core.has(task) || core.has_ended(task) {
         return false;
     }
-    core.joined(TASK, waiter)
+    core.joined(task, waiter)
         .is_ok_and(|acts| acts.as_slice() == wanted)
 }
 
 /// Whether these acts are done at the acknowledgement of a node.
-fn takes(core: &mut CancelCore, from: u32, wanted: &[Act]) -> bool {
-    core.awaits(TASK, from)
+fn takes(core: &mut CancelCore, task: TaskId, from: u32, wanted: &[Act]) -> bool {
+    core.awaits(task, from)
         && core
-            .acked(TASK, from)
+            .acked(task, from)
             .is_ok_and(|acts| acts.as_slice() == wanted)
 }
 
 /// Whether these acts are done when the task ends.
-fn ends(alloc: Global, core: &mut CancelCore, wanted: &[Act]) -> bool {
-    if !core.has(TASK) || core.has_ended(TASK) {
+fn ends(alloc: Global, core: &mut CancelCore, task: TaskId, wanted: &[Act]) -> bool {
+    if !core.has(task) || core.has_ended(task) {
         return false;
     }
-    core.ended(TASK, receipt(alloc))
+    core.ended(task, receipt_of(alloc, task))
         .is_ok_and(|acts| acts.as_slice() == wanted)
 }
 
 fn ban(to: u32) -> Act {
     Act::SendBan {
         to,
-        parent: TASK,
+        parent: task(),
         cancel: 4,
     }
 }
 
 fn unban(to: u32) -> Act {
-    Act::SendUnban { to, parent: TASK }
+    Act::SendUnban { to, parent: task() }
 }
 
 fn placed(cancel: u32) -> Act {
-    Act::AnswerPlaced { cancel, task: TASK }
+    Act::AnswerPlaced {
+        cancel,
+        task: task(),
+    }
 }
 
 fn done(alloc: Global, cancel: u32) -> Act {
     Act::AnswerDone {
         cancel,
-        task: TASK,
-        receipt: receipt(alloc),
+        task: task(),
+        receipt: receipt_of(alloc, task()),
     }
 }
 
@@ -94,12 +105,20 @@ fn waiting_cancels_are_answered_after_the_bans_and_the_end(rt: HostRuntime) {
     let alloc = rt.alloc();
     let mut core = CancelCore::new(alloc, 1);
     let last = [unban(1), unban(2), done(alloc, 4), done(alloc, 6)];
-    assert!(rt; begins(&mut core, NodeSet(0b110), Some(waits(4)), &[ban(1), ban(2)]));
-    assert!(rt; joins(&mut core, waits(6), &[]));
-    assert!(rt; takes(&mut core, 1, &[]));
-    assert!(rt; takes(&mut core, 2, &[]));
-    assert!(rt; ends(alloc, &mut core, &last));
-    assert!(rt; !core.has(TASK));
+    assert!(rt;
+        begins(
+            &mut core,
+            task(),
+            NodeSet(0b110),
+            Some(waits(4)),
+            &[ban(1), ban(2)]
+        )
+    );
+    assert!(rt; joins(&mut core, task(), waits(6), &[]));
+    assert!(rt; takes(&mut core, task(), 1, &[]));
+    assert!(rt; takes(&mut core, task(), 2, &[]));
+    assert!(rt; ends(alloc, &mut core, task(), &last));
+    assert!(rt; !core.has(task()));
 }
 
 #[test]
@@ -107,12 +126,12 @@ fn those_who_join_are_answered_by_ascending_number(rt: HostRuntime) {
     let alloc = rt.alloc();
     let mut core = CancelCore::new(alloc, 1);
     let last = [unban(2), placed(5), done(alloc, 7), done(alloc, 9)];
-    assert!(rt; begins(&mut core, NodeSet(0b100), None, &[ban(2)]));
-    assert!(rt; joins(&mut core, waits(9), &[]));
-    assert!(rt; joins(&mut core, hurries(5), &[]));
-    assert!(rt; joins(&mut core, waits(7), &[]));
-    assert!(rt; ends(alloc, &mut core, &[]));
-    assert!(rt; takes(&mut core, 2, &last));
+    assert!(rt; begins(&mut core, task(), NodeSet(0b100), None, &[ban(2)]));
+    assert!(rt; joins(&mut core, task(), waits(9), &[]));
+    assert!(rt; joins(&mut core, task(), hurries(5), &[]));
+    assert!(rt; joins(&mut core, task(), waits(7), &[]));
+    assert!(rt; ends(alloc, &mut core, task(), &[]));
+    assert!(rt; takes(&mut core, task(), 2, &last));
 }
 
 #[test]
@@ -120,10 +139,18 @@ fn with_no_node_to_ban_the_bans_are_placed_at_once(rt: HostRuntime) {
     let mut core = CancelCore::new(rt.alloc(), 1);
     let ack = Act::SendAck {
         to: 1,
-        parent: TASK,
+        parent: task(),
     };
-    assert!(rt; begins(&mut core, NodeSet(0), Some(hurries(4)), &[placed(4)]));
-    assert!(rt; joins(&mut core, hurries(5), &[placed(5)]));
-    assert!(rt; core.ban_listed(TASK) == ack);
+    assert!(rt;
+        begins(
+            &mut core,
+            task(),
+            NodeSet(0),
+            Some(hurries(4)),
+            &[placed(4)]
+        )
+    );
+    assert!(rt; joins(&mut core, task(), hurries(5), &[placed(5)]));
+    assert!(rt; core.ban_listed(task()) == ack);
     assert!(rt; core.node() == 1);
 }

@@ -60,15 +60,19 @@ fn prints_the_one_spelling(rt: HostRuntime) {
     assert!(rt; prints(rt.alloc(), id, b"n3:17"));
 }
 
+fn is_named(action: Action, text: &str) -> bool {
+    action.text() == text
+}
+
 #[test]
 fn names_actions(rt: HostRuntime) {
-    assert!(rt; Action::Search.text() == "indices:data/read/search");
-    assert!(rt; Action::Query.text() == "indices:data/read/search[phase/query]");
-    assert!(rt; Action::Fetch.text() == "indices:data/read/search[phase/fetch/id]");
-    assert!(rt; Action::Scroll.text() == "indices:data/read/scroll");
-    assert!(rt; Action::Reindex.text() == "indices:data/write/reindex");
-    assert!(rt; Action::Bulk.text() == "indices:data/write/bulk");
-    assert!(rt; Action::BulkShard.text() == "indices:data/write/bulk[s]");
+    assert!(rt; is_named(Action::Search, "indices:data/read/search"));
+    assert!(rt; is_named(Action::Query, "indices:data/read/search[phase/query]"));
+    assert!(rt; is_named(Action::Fetch, "indices:data/read/search[phase/fetch/id]"));
+    assert!(rt; is_named(Action::Scroll, "indices:data/read/scroll"));
+    assert!(rt; is_named(Action::Reindex, "indices:data/write/reindex"));
+    assert!(rt; is_named(Action::Bulk, "indices:data/write/bulk"));
+    assert!(rt; is_named(Action::BulkShard, "indices:data/write/bulk[s]"));
 }
 
 fn text(alloc: Global, text: &str) -> Result<Text, AllocError> {

@@ -1,5 +1,8 @@
 //! What later kinds of searches ask of a shard: an older version, a slice, and what stands behind a cursor.
 
+ghost use Rattle.std.specs.Prelude.{◌<◌};
+
+use query_match::SearchBody;
 use query_parse::read_body;
 use search_phase::{FetchAnswer, ShardFetch, ShardQuery, TurnAnswer};
 use serde_json::Value;
@@ -36,6 +39,12 @@ fn shard(alloc: Global) -> Shard {
     shard
 }
 
+/// A search by `n`.
+fn by_n(alloc: Global) -> Option<SearchBody> {
+    let body = Value::from_str(alloc, r#"{"sort":["n"]}"#).ok()?;
+    read_body(alloc, &body, false, 0).ok()
+}
+
 /// What a search by `n` asks of a shard.
 fn ask(
     alloc: Global,
@@ -43,10 +52,10 @@ fn ask(
     slice: Option<SlicePick>,
     after: Option<HitKey>,
 ) -> Option<ShardAsk> {
-    let body = Value::from_str(alloc, r#"{"sort":["n"]}"#).ok()?;
-    let body = read_body(alloc, &body, false, 0).ok()?;
+    let index = Text::new(String::new(alloc));
+    let body = by_n(alloc)?;
     Some(ShardAsk {
-        index: text(alloc, "i").ok()?,
+        index,
         shard: 0,
         body,
         version,
@@ -56,35 +65,45 @@ fn ask(
 }
 
 /// What a query finds in its first turn.
-fn top(alloc: Global, ask: ShardAsk) -> Option<ShardTop> {
-    let shard = shard(alloc);
+fn top_in(alloc: Global, shard: &Shard, ask: ShardAsk) -> Option<ShardTop> {
     let mut query = ShardQuery::new(alloc, ask);
-    match query.turn(&shard).ok()? {
-        TurnAnswer::Ready(top) => Some(top),
-        TurnAnswer::More => None,
+    match query.turn(shard) {
+        Ok(TurnAnswer::Ready(top)) => Some(top),
+        _ => None,
     }
 }
 
-/// Whether a query finds so many rows, and shows those of these places.
-fn shows(alloc: Global, ask: Option<ShardAsk>, count: u64, places: &[u32]) -> Option<bool> {
-    let top = top(alloc, ask?)?;
+/// What a query of the documents finds.
+fn top(alloc: Global, ask: Option<ShardAsk>) -> Option<ShardTop> {
+    top_in(alloc, &shard(alloc), ask?)
+}
+
+fn has(top: &ShardTop, count: u64, places: &[u32]) -> bool {
     let keys = top.keys.as_slice();
     let are_there = keys
         .iter()
         .zip(places)
         .all(|(key, place)| key.place == *place);
-    Some(top.count == count && keys.len() == places.len() && are_there)
+    top.count == count && keys.len() == places.len() && are_there
+}
+
+/// Whether a query finds so many rows, and shows those of these places.
+fn shows(alloc: Global, ask: Option<ShardAsk>, count: u64, places: &[u32]) -> bool {
+    top(alloc, ask).is_some_and(|top| has(&top, count, places))
 }
 
 #[test]
 fn a_query_reads_its_version(rt: HostRuntime) {
     let old = ask(rt.alloc(), Some(3), None, None);
-    assert!(rt; shows(rt.alloc(), old, 3, &[1, 0, 2]) == Some(true));
+    assert!(rt; shows(rt.alloc(), old, 3, &[1, 0, 2]));
     let new = ask(rt.alloc(), None, None, None);
-    assert!(rt; shows(rt.alloc(), new, 5, &[1, 4, 3, 5, 2]) == Some(true));
+    assert!(rt; shows(rt.alloc(), new, 5, &[1, 4, 3, 5, 2]));
 }
 
-fn pick(slice: u32) -> Option<SlicePick> {
+/// One of two slices of a shard.
+fn pick(slice: u32) -> Option<SlicePick>
+    requires { slice < 2 }
+{
     Some(SlicePick {
         slice,
         slices: 2,
@@ -95,14 +114,14 @@ fn pick(slice: u32) -> Option<SlicePick> {
 #[test]
 fn a_slice_has_the_rows_of_its_remainder(rt: HostRuntime) {
     let even = ask(rt.alloc(), None, pick(0), None);
-    assert!(rt; shows(rt.alloc(), even, 2, &[1, 4]) == Some(true));
+    assert!(rt; shows(rt.alloc(), even, 2, &[1, 4]));
     let odd = ask(rt.alloc(), None, pick(1), None);
-    assert!(rt; shows(rt.alloc(), odd, 3, &[3, 5, 2]) == Some(true));
+    assert!(rt; shows(rt.alloc(), odd, 3, &[3, 5, 2]));
 }
 
 /// The key of the second row.
 fn second(alloc: Global) -> Option<HitKey> {
-    let mut keys = top(alloc, ask(alloc, None, None, None)?)?.keys.into_vec();
+    let mut keys = top(alloc, ask(alloc, None, None, None))?.keys.into_vec();
     keys.truncate(2);
     keys.pop()
 }
@@ -110,39 +129,46 @@ fn second(alloc: Global) -> Option<HitKey> {
 #[test]
 fn a_cursor_passes_over_itself_and_what_stands_before(rt: HostRuntime) {
     let later = ask(rt.alloc(), None, None, second(rt.alloc()));
-    assert!(rt; shows(rt.alloc(), later, 5, &[3, 5, 2]) == Some(true));
+    assert!(rt; shows(rt.alloc(), later, 5, &[3, 5, 2]));
+}
+
+/// The hits of a fetch.
+fn hits_in(alloc: Global, shard: &Shard, ask: FetchAsk) -> Option<Items<Hit>> {
+    let mut fetch = ShardFetch::new(alloc, ask);
+    match fetch.turn(shard) {
+        Ok(FetchAnswer::Ready(hits)) => Some(hits),
+        _ => None,
+    }
 }
 
 /// The hits of a fetch at a version.
 fn hits(alloc: Global, version: u32, places: &[u32]) -> Option<Items<Hit>> {
-    let shard = shard(alloc);
+    let places = Vec::from_slice(alloc, places).ok()?;
     let ask = FetchAsk {
-        index: text(alloc, "i").ok()?,
+        index: Text::new(String::new(alloc)),
         shard: 0,
         version,
-        places: Items::from_vec(Vec::from_slice(alloc, places).ok()?),
+        places: Items::from_vec(places),
     };
-    let mut fetch = ShardFetch::new(alloc, ask);
-    match fetch.turn(&shard).ok()? {
-        FetchAnswer::Ready(hits) => Some(hits),
-        FetchAnswer::More => None,
-    }
+    hits_in(alloc, &shard(alloc), ask)
 }
 
-/// Whether a fetch of these places shows those.
-fn fetches(alloc: Global, version: u32, places: &[u32], wanted: &[u32]) -> Option<bool> {
-    let found = hits(alloc, version, places)?;
-    let hits = found.as_slice();
+fn are_at(hits: &[Hit], wanted: &[u32]) -> bool {
     let are_there = hits
         .iter()
         .zip(wanted)
         .all(|(hit, place)| hit.place == *place);
-    Some(hits.len() == wanted.len() && are_there)
+    hits.len() == wanted.len() && are_there
+}
+
+/// Whether a fetch of these places shows those.
+fn fetches(alloc: Global, version: u32, places: &[u32], wanted: &[u32]) -> bool {
+    hits(alloc, version, places).is_some_and(|hits| are_at(hits.as_slice(), wanted))
 }
 
 #[test]
 fn a_fetch_passes_over_places_without_a_row(rt: HostRuntime) {
-    assert!(rt; fetches(rt.alloc(), 6, &[4, 3, 1, 0, 9], &[4, 3, 1]) == Some(true));
-    assert!(rt; fetches(rt.alloc(), 3, &[4, 3, 1, 0, 9], &[1, 0]) == Some(true));
-    assert!(rt; fetches(rt.alloc(), 0, &[4, 3, 1, 0, 9], &[]) == Some(true));
+    assert!(rt; fetches(rt.alloc(), 6, &[4, 3, 1, 0, 9], &[4, 3, 1]));
+    assert!(rt; fetches(rt.alloc(), 3, &[4, 3, 1, 0, 9], &[1, 0]));
+    assert!(rt; fetches(rt.alloc(), 0, &[4, 3, 1, 0, 9], &[]));
 }
