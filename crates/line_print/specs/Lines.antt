@@ -93,6 +93,17 @@ refusal index (Ok body) false full_node = Some (index_not_found index)
 refusal index (Ok body) true (Some node) = Some (rejected node)
 refusal index (Ok body) true None = None
 
+-- the fault of a body that was read, if it has one
+abbrev pub fault_in : Result SearchBody BodyError → Option BodyError
+fault_in (Err fault) = Some fault
+fault_in (Ok body) = None
+
+-- why a search whose body has no fault has no task
+abbrev pub start_refusal : List ℕ → Bool → Option ℕ → Option Data
+start_refusal index false full_node = Some (index_not_found index)
+start_refusal index true (Some node) = Some (rejected node)
+start_refusal index true None = None
+
 -- how a search ended: with its hits, or with all its shards failed, or cancelled
 abbrev pub ended_line : ℕ → List Command → ℕ → Option Reply → List ℕ
 ended_line shards script k (Some (Search reply)) = reply_line k (search_json shards reply)

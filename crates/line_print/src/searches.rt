@@ -7,7 +7,8 @@ ghost use Rattle.serde_json.specs.View.{view};
 ghost use Rattle.query_parse.specs.Bodies.{body_at};
 ghost use Rattle.task_events.specs.Tasks.{reply_of};
 ghost use Rattle.task_events.specs.Turns.{events_of};
-ghost use Rattle.line_print.specs.Lines.{is_known, first_in, root_in, full_node_in, started, ending, refusal, ended_line, search_line};
+ghost use Rattle.line_print.specs.Errors.{body_error};
+ghost use Rattle.line_print.specs.Lines.{is_known, first_in, root_in, full_node_in, started, ending, fault_in, start_refusal, refusal, ended_line, search_line};
 ghost use Rattle.line_print.specs.Looked.{IsReady};
 
 use crate::errors;
@@ -78,6 +79,45 @@ pub(crate) fn indices_of<'a>(
     Ok(known)
 }
 
+/// The fault of a search's body, if it has one.
+fn fault_in(alloc: Global, body: &DocSource) -> Result<Option<BodyError>, AllocError>
+    ensures { IfOk result (λ fault. fault ≡ fault_in (body_at false 0 body.now)) }
+{
+    match read_body(alloc, body.as_value(), false, 0) {
+        Ok(_) => Ok(None),
+        Err(BodyError::Memory) => Err(AllocError),
+        Err(fault) => Ok(Some(fault)),
+    }
+}
+
+/// The fault of a search's body as JSON, if it has one.
+fn body_refusal(alloc: Global, body: &DocSource) -> Result<Option<Value>, AllocError>
+    ensures { IfOk result (λ error. option_map view error ≡ option_map body_error (fault_in (body_at false 0 body.now))) }
+{
+    match fault_in(alloc, body)? {
+        Some(fault) => Ok(Some(errors::body_error(alloc, &fault)?)),
+        None => Ok(None),
+    }
+}
+
+/// Why a search whose body has no fault has no task, if it has none.
+fn start_refusal(
+    alloc: Global,
+    index: &str,
+    known: bool,
+    full_node: Option<u32>,
+) -> Result<Option<Value>, AllocError>
+    ensures { IfOk result (λ error. option_map view error ≡ start_refusal index.now known full_node) }
+{
+    if !known {
+        return Ok(Some(errors::index_not_found(alloc, index)?));
+    }
+    match full_node {
+        Some(node) => Ok(Some(errors::rejected(alloc, node)?)),
+        None => Ok(None),
+    }
+}
+
 /// Why a search has no task, by the events of its turn, if it has none.
 pub(crate) fn refusal(
     alloc: Global,
@@ -89,14 +129,9 @@ pub(crate) fn refusal(
     ensures { IfOk result (λ error. option_map view error
         ≡ refusal index.now (body_at false 0 body.now) known (first_in full_node_in turn.now)) }
 {
-    match read_body(alloc, body.as_value(), false, 0) {
-        Ok(_) if !known => Ok(Some(errors::index_not_found(alloc, index)?)),
-        Ok(_) => match full_node(turn) {
-            Some(node) => Ok(Some(errors::rejected(alloc, node)?)),
-            None => Ok(None),
-        },
-        Err(BodyError::Memory) => Err(AllocError),
-        Err(fault) => Ok(Some(errors::body_error(alloc, &fault)?)),
+    match body_refusal(alloc, body)? {
+        Some(error) => Ok(Some(error)),
+        None => start_refusal(alloc, index, known, full_node(turn)),
     }
 }
 
