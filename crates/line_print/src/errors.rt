@@ -1,15 +1,17 @@
 //! What is told in place of a reply, as JSON.
 
-ghost use Rattle.std.specs.Prelude.{◌≡◌, IfOk, Some, map};
-ghost use Rattle.serde_json.specs.Data.{string, array};
+ghost use Rattle.std.specs.Prelude.{◌≡◌, IfOk, Some, map, codes};
+ghost use Rattle.serde_json.specs.Data.{string, array, put, no_members};
 ghost use Rattle.query_parse.specs.declared.fault.BodyError.TheVariants.{BadQuery, WindowTooLarge};
-ghost use Rattle.serde_json.specs.View.{view, items_of};
+ghost use Rattle.serde_json.specs.View.{view, items_of, members_view};
 ghost use Rattle.task_ids.specs.TaskId.{task_id_text};
 ghost use Rattle.task_events.specs.Texts.{node_name};
-ghost use Rattle.line_print.specs.Errors.{body_error, index_not_found, rejected, task_cancelled, failed_shard, all_shards_failed, not_found, plain_error, no_such_message, field_error, fault_name};
+ghost use Rattle.task_events.specs.declared.reply.ShardFailure.TheVariants.{Cancelled, Rejected};
+ghost use Rattle.line_print.specs.Errors.{body_error, index_not_found, rejected, task_cancelled, shard_failure, failed_shard, all_shards_failed, id_or_null, not_found, plain_error, no_such_message, field_error, fault_name};
 
+use crate::members::{of_type, with_member, with_number, with_text};
 use query_parse::{BodyError, QueryFault};
-use serde_json::{Value, json};
+use serde_json::{Map, Value};
 use std::alloc::{AllocError, Global};
 use task_events::{FailedShard, ShardFailure};
 use task_ids::TaskId;
@@ -30,27 +32,49 @@ fn node_value(alloc: Global, node: u32) -> Result<Value, AllocError>
     Ok(Value::String(text))
 }
 
+/// An object's members with a task's id.
+fn with_id(
+    alloc: Global,
+    members: Map<String, Value>,
+    task: TaskId,
+) -> Result<Map<String, Value>, AllocError>
+    ensures { IfOk result (λ more. members_view more.entries ≡ put (codes "task") (string (task_id_text task)) (members_view members.entries)) }
+{
+    let id = id_value(alloc, task)?;
+    with_member(alloc, members, "task", id)
+}
+
+/// The members of an object that names a node.
+fn with_node(alloc: Global, node: u32) -> Result<Map<String, Value>, AllocError>
+    ensures { IfOk result (λ named. members_view named.entries ≡ put (codes "node") (string (node_name node)) no_members) }
+{
+    let name = node_value(alloc, node)?;
+    with_member(alloc, Map::new(alloc), "node", name)
+}
+
 /// A task was cancelled, for this reason.
 pub(crate) fn task_cancelled(alloc: Global, reason: &str, task: TaskId) -> Result<Value, AllocError>
     ensures { IfOk result (λ value. view value ≡ task_cancelled reason.now task) }
 {
-    let id = id_value(alloc, task)?;
-    json!(in alloc; {"reason": reason, "task": id, "type": "task_cancelled"})
+    let told = with_text(alloc, Map::new(alloc), "reason", reason)?;
+    let named = with_id(alloc, told, task)?;
+    of_type(alloc, named, "task_cancelled")
 }
 
 /// No document of the input is in the index.
 pub(crate) fn index_not_found(alloc: Global, index: &str) -> Result<Value, AllocError>
     ensures { IfOk result (λ value. view value ≡ index_not_found index.now) }
 {
-    json!(in alloc; {"index": index, "type": "index_not_found"})
+    let named = with_text(alloc, Map::new(alloc), "index", index)?;
+    of_type(alloc, named, "index_not_found")
 }
 
 /// A node has no free slot.
 pub(crate) fn rejected(alloc: Global, node: u32) -> Result<Value, AllocError>
     ensures { IfOk result (λ value. view value ≡ rejected node) }
 {
-    let name = node_value(alloc, node)?;
-    json!(in alloc; {"node": name, "type": "rejected"})
+    let named = with_node(alloc, node)?;
+    of_type(alloc, named, "rejected")
 }
 
 fn fault_name(fault: QueryFault) -> &'static str
@@ -67,20 +91,24 @@ fn fault_name(fault: QueryFault) -> &'static str
 fn field_error(alloc: Global, kind: &str, field: &str) -> Result<Value, AllocError>
     ensures { IfOk result (λ value. view value ≡ field_error kind.now field.now) }
 {
-    json!(in alloc; {"field": field, "type": kind})
+    let named = with_text(alloc, Map::new(alloc), "field", field)?;
+    of_type(alloc, named, kind)
 }
 
 fn bad_query(alloc: Global, path: &str, fault: QueryFault) -> Result<Value, AllocError>
     ensures { IfOk result (λ value. view value ≡ body_error (BadQuery path.now fault)) }
 {
-    let kind = fault_name(fault);
-    json!(in alloc; {"kind": kind, "path": path, "type": "bad_query"})
+    let told = with_text(alloc, Map::new(alloc), "kind", fault_name(fault))?;
+    let placed = with_text(alloc, told, "path", path)?;
+    of_type(alloc, placed, "bad_query")
 }
 
 fn window_too_large(alloc: Global, window: u64) -> Result<Value, AllocError>
     ensures { IfOk result (λ value. view value ≡ body_error (WindowTooLarge window)) }
 {
-    json!(in alloc; {"limit": 10_000, "type": "window_too_large", "window": window})
+    let limited = with_number(alloc, Map::new(alloc), "limit", 10_000)?;
+    let asked = with_number(alloc, limited, "window", window)?;
+    of_type(alloc, asked, "window_too_large")
 }
 
 /// The first fault of a search's body. Want of memory is no fault of it.
@@ -97,20 +125,31 @@ pub(crate) fn body_error(alloc: Global, error: &BodyError) -> Result<Value, Allo
     }
 }
 
+/// A shard's task was cancelled.
+fn cancelled_shard(alloc: Global, shard: u32, task: TaskId) -> Result<Value, AllocError>
+    ensures { IfOk result (λ value. view value ≡ shard_failure shard (Cancelled task 0)) }
+{
+    let told = with_number(alloc, Map::new(alloc), "shard", u64::from(shard))?;
+    let named = with_id(alloc, told, task)?;
+    of_type(alloc, named, "task_cancelled")
+}
+
+/// A node had no free slot for a shard's task.
+fn rejected_shard(alloc: Global, shard: u32, node: u32) -> Result<Value, AllocError>
+    ensures { IfOk result (λ value. view value ≡ shard_failure shard (Rejected node)) }
+{
+    let named = with_node(alloc, node)?;
+    let told = with_number(alloc, named, "shard", u64::from(shard))?;
+    of_type(alloc, told, "rejected")
+}
+
 /// Why a shard failed.
 fn failed_shard(alloc: Global, failed: FailedShard) -> Result<Value, AllocError>
     ensures { IfOk result (λ value. view value ≡ failed_shard failed) }
 {
-    let shard = failed.shard;
     match failed.failure {
-        ShardFailure::Cancelled { task, .. } => {
-            let id = id_value(alloc, task)?;
-            json!(in alloc; {"shard": shard, "task": id, "type": "task_cancelled"})
-        }
-        ShardFailure::Rejected { node } => {
-            let name = node_value(alloc, node)?;
-            json!(in alloc; {"node": name, "shard": shard, "type": "rejected"})
-        }
+        ShardFailure::Cancelled { task, .. } => cancelled_shard(alloc, failed.shard, task),
+        ShardFailure::Rejected { node } => rejected_shard(alloc, failed.shard, node),
     }
 }
 
@@ -130,30 +169,40 @@ pub(crate) fn all_shards_failed(alloc: Global, failed: &[FailedShard]) -> Result
     ensures { IfOk result (λ value. view value ≡ all_shards_failed failed.now) }
 {
     let shards = failed_shards(alloc, failed)?;
-    json!(in alloc; {"shards": shards, "type": "all_shards_failed"})
+    let told = with_member(alloc, Map::new(alloc), "shards", shards)?;
+    of_type(alloc, told, "all_shards_failed")
+}
+
+/// A task's id as a JSON string, or null where there is no task.
+fn id_or_null(alloc: Global, task: Option<TaskId>) -> Result<Value, AllocError>
+    ensures { IfOk result (λ value. view value ≡ id_or_null task) }
+{
+    match task {
+        Some(task) => id_value(alloc, task),
+        None => Ok(Value::Null),
+    }
 }
 
 /// A cancel finds no task, either none of an id or none that a command started.
 pub(crate) fn not_found(alloc: Global, task: Option<TaskId>) -> Result<Value, AllocError>
     ensures { IfOk result (λ value. view value ≡ not_found task) }
 {
-    let id = match task {
-        Some(task) => id_value(alloc, task)?,
-        None => Value::Null,
-    };
-    json!(in alloc; {"task": id, "type": "not_found"})
+    let id = id_or_null(alloc, task)?;
+    let named = with_member(alloc, Map::new(alloc), "task", id)?;
+    of_type(alloc, named, "not_found")
 }
 
 /// An error of which there is nothing more to tell.
 pub(crate) fn plain_error(alloc: Global, kind: &str) -> Result<Value, AllocError>
     ensures { IfOk result (λ value. view value ≡ plain_error kind.now) }
 {
-    json!(in alloc; {"type": kind})
+    of_type(alloc, Map::new(alloc), kind)
 }
 
 /// No message in flight has the place, of so many that there are.
 pub(crate) fn no_such_message(alloc: Global, in_flight: u64) -> Result<Value, AllocError>
     ensures { IfOk result (λ value. view value ≡ no_such_message in_flight) }
 {
-    json!(in alloc; {"in_flight": in_flight, "type": "no_such_message"})
+    let told = with_number(alloc, Map::new(alloc), "in_flight", in_flight)?;
+    of_type(alloc, told, "no_such_message")
 }

@@ -6,6 +6,7 @@ mod ends;
 mod errors;
 mod idle;
 mod lines;
+mod members;
 mod moves;
 mod print;
 mod run;
