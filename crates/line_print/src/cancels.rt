@@ -8,8 +8,9 @@ ghost use Rattle.task_ids.specs.TaskId.{task_id_text};
 ghost use Rattle.line_print.specs.Lines.{named_in, finds_none, cancelled, cancel_line};
 
 use crate::errors::{id_value, not_found};
+use crate::members::with_member;
 use crate::write::{error_line, reply_line};
-use serde_json::{Value, json};
+use serde_json::{Map, Value};
 use std::alloc::{AllocError, Global};
 use task_events::Event;
 use task_ids::TaskId;
@@ -58,7 +59,9 @@ fn cancelled(alloc: Global, turn: &[Event], wait: bool) -> Result<Value, AllocEr
     ensures { IfOk result (λ value. view value ≡ cancelled (filter_map named_in turn.now) wait) }
 {
     let tasks = named(alloc, turn)?;
-    json!(in alloc; {"cancelled": tasks, "waited": wait})
+    let told = with_member(alloc, Map::new(alloc), "cancelled", tasks)?;
+    let members = with_member(alloc, told, "waited", Value::Bool(wait))?;
+    Ok(Value::Object(members))
 }
 
 /// Appends the line of a cancel, by the events of its turn.

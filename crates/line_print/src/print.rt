@@ -1,7 +1,7 @@
 ghost use Rattle.std.specs.Prelude.{◌≡◌, ◌++◌, false, OnOk, map, decimal};
 ghost use Rattle.json.specs.Print.{quoted};
-ghost use Rattle.serde_json.specs.View.{items_of};
-ghost use Rattle.serde_json.specs.Written.{compact_text, items_text};
+ghost use Rattle.serde_json.specs.View.{view, items_of};
+ghost use Rattle.serde_json.specs.Written.{has_float, compact_text, items_text};
 ghost use Rattle.task_events.specs.Printed.{hit_json, hits_json, shards_json, search_json, total_json};
 
 use serde_json::Value;
@@ -23,13 +23,34 @@ pub(crate) fn push_number(alloc: Global, out: &mut Vec<u8>, number: u64) -> Resu
     out.extend_from_slice(digits.as_bytes())
 }
 
+/// Appends a value as compact JSON.
+pub(crate) fn push_json(alloc: Global, out: &mut Vec<u8>, value: &Value) -> Result<(), AllocError>
+    requires { has_float (view value.now) ≡ false }
+    ensures { OnOk result (out.new.items ≡ out.old.items ++ compact_text (view value.now)) }
+{
+    let json = value.to_string(alloc)?;
+    out.extend_from_slice(json.as_bytes())
+}
+
 /// Appends a text as a JSON string.
 pub(crate) fn push_quoted(alloc: Global, out: &mut Vec<u8>, text: &str) -> Result<(), AllocError>
     ensures { OnOk result (out.new.items ≡ out.old.items ++ quoted text.now) }
 {
     let value = Value::try_from_str(alloc, text)?;
-    let json = value.to_string(alloc)?;
-    out.extend_from_slice(json.as_bytes())
+    push_json(alloc, out, &value)
+}
+
+/// Appends a name as it stands, and a number.
+fn push_count(
+    alloc: Global,
+    out: &mut Vec<u8>,
+    name: &str,
+    number: u64,
+) -> Result<(), AllocError>
+    ensures { OnOk result (out.new.items ≡ (out.old.items ++ name.now) ++ decimal number) }
+{
+    push(out, name)?;
+    push_number(alloc, out, number)
 }
 
 fn push_hit(alloc: Global, out: &mut Vec<u8>, hit: &Hit) -> Result<(), AllocError>
@@ -65,12 +86,9 @@ fn push_hits(alloc: Global, out: &mut Vec<u8>, hits: &[Hit]) -> Result<(), Alloc
 fn push_shards(alloc: Global, out: &mut Vec<u8>, shards: u64, failed: u64) -> Result<(), AllocError>
     ensures { OnOk result (out.new.items ≡ out.old.items ++ compact_text (shards_json shards failed)) }
 {
-    push(out, "{\"failed\":")?;
-    push_number(alloc, out, failed)?;
-    push(out, ",\"successful\":")?;
-    push_number(alloc, out, shards.saturating_sub(failed))?;
-    push(out, ",\"total\":")?;
-    push_number(alloc, out, shards)?;
+    push_count(alloc, out, "{\"failed\":", failed)?;
+    push_count(alloc, out, ",\"successful\":", shards.saturating_sub(failed))?;
+    push_count(alloc, out, ",\"total\":", shards)?;
     push(out, "}")?;
     Ok(())
 }
@@ -79,8 +97,7 @@ fn push_shards(alloc: Global, out: &mut Vec<u8>, shards: u64, failed: u64) -> Re
 fn push_total(alloc: Global, out: &mut Vec<u8>, total: u64) -> Result<(), AllocError>
     ensures { OnOk result (out.new.items ≡ out.old.items ++ compact_text (total_json total)) }
 {
-    push(out, "{\"relation\":\"eq\",\"value\":")?;
-    push_number(alloc, out, total)?;
+    push_count(alloc, out, "{\"relation\":\"eq\",\"value\":", total)?;
     push(out, "}")?;
     Ok(())
 }

@@ -9,7 +9,8 @@ ghost use Rattle.task_events.specs.declared.event.Event.{Event};
 ghost use Rattle.task_events.specs.Printed.{reply_line};
 ghost use Rattle.line_print.specs.Lines.{reason_of, reason_for, told, told_all};
 
-use crate::print::{push, push_number, push_quoted};
+use crate::print::{push, push_quoted};
+use crate::write::push_start;
 use script_lang::Command;
 use std::alloc::{AllocError, Global};
 use task_events::{Event, write_event};
@@ -84,9 +85,7 @@ pub(crate) fn events_line(
     ensures { OnOk result (out.new.items
         ≡ out.old.items ++ reply_line command (told_all script.now (flat_map (λ turn. turn.now) turns.now))) }
 {
-    push(out, "{\"command\":")?;
-    push_number(alloc, out, u64::from(command))?;
-    push(out, ",\"reply\":[")?;
+    push_start(alloc, out, command, ",\"reply\":[")?;
     let mut later = false;
     for turn in turns {
         later = push_events(alloc, out, script, later, *turn)?;

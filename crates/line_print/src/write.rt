@@ -1,15 +1,29 @@
 //! The parts of lines.
 
-ghost use Rattle.std.specs.Prelude.{◌≡◌, ◌++◌, false, OnOk};
+ghost use Rattle.std.specs.Prelude.{◌≡◌, ◌++◌, false, OnOk, codes, decimal};
 ghost use Rattle.serde_json.specs.View.{view};
 ghost use Rattle.serde_json.specs.Written.{has_float};
 ghost use Rattle.task_events.specs.Printed.{search_json, reply_line};
 ghost use Rattle.line_print.specs.Lines.{error_line};
 
-use crate::print::{push, push_number, push_reply};
-use serde_json::{Value, json};
+use crate::print::{push, push_json, push_number, push_reply};
+use serde_json::Value;
 use std::alloc::{AllocError, Global};
 use task_events::SearchReply;
+
+/// Appends the number of a line's command, and a key as it stands.
+pub(crate) fn push_start(
+    alloc: Global,
+    out: &mut Vec<u8>,
+    command: u32,
+    key: &str,
+) -> Result<(), AllocError>
+    ensures { OnOk result (out.new.items ≡ ((out.old.items ++ codes "{\"command\":") ++ decimal command) ++ key.now) }
+{
+    push(out, "{\"command\":")?;
+    push_number(alloc, out, u64::from(command))?;
+    push(out, key)
+}
 
 /// Appends the line of a command that has no reply.
 pub(crate) fn error_line(
@@ -21,11 +35,8 @@ pub(crate) fn error_line(
     requires { has_float (view error.now) ≡ false }
     ensures { OnOk result (out.new.items ≡ out.old.items ++ error_line command (view error.now)) }
 {
-    let json = error.to_string(alloc)?;
-    push(out, "{\"command\":")?;
-    push_number(alloc, out, u64::from(command))?;
-    push(out, ",\"error\":")?;
-    push(out, json.as_str())?;
+    push_start(alloc, out, command, ",\"error\":")?;
+    push_json(alloc, out, error)?;
     push(out, "}\n")?;
     Ok(())
 }
@@ -40,11 +51,8 @@ pub(crate) fn reply_line(
     requires { has_float (view reply.now) ≡ false }
     ensures { OnOk result (out.new.items ≡ out.old.items ++ reply_line command (view reply.now)) }
 {
-    let json = reply.to_string(alloc)?;
-    push(out, "{\"command\":")?;
-    push_number(alloc, out, u64::from(command))?;
-    push(out, ",\"reply\":")?;
-    push(out, json.as_str())?;
+    push_start(alloc, out, command, ",\"reply\":")?;
+    push_json(alloc, out, reply)?;
     push(out, "}\n")?;
     Ok(())
 }
@@ -59,9 +67,7 @@ pub(crate) fn hits_line(
 ) -> Result<(), AllocError>
     ensures { OnOk result (out.new.items ≡ out.old.items ++ reply_line command (search_json shards reply.now)) }
 {
-    push(out, "{\"command\":")?;
-    push_number(alloc, out, u64::from(command))?;
-    push(out, ",\"reply\":")?;
+    push_start(alloc, out, command, ",\"reply\":")?;
     push_reply(alloc, out, shards, reply)?;
     push(out, "}\n")?;
     Ok(())

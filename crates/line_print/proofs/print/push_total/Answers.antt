@@ -3,4 +3,4 @@ use Rattle.line_print.proofs.print.push_total.Goals as goal
 
 pub returns : goal.returns
 returns c =
-    rw (c.in_ok-push-2.ensures, c.in_ok-push_number.ensures, c.in_ok-push.ensures) (total_text c.args.total c.args.out.now.items)
+    rw (c.in_ok-push.ensures, c.in_ok-push_count.ensures) (total_text c.args.total c.args.out.now.items)

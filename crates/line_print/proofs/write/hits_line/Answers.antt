@@ -4,5 +4,5 @@ use Rattle.line_print.proofs.write.hits_line.Goals as goal
 
 pub returns : goal.returns
 returns c =
-    rw (c.in_ok-push-3.ensures, c.in_ok-push_reply.ensures, c.in_ok-push-2.ensures, c.in_ok-push_number.ensures, c.from.ensures, c.in_ok-push.ensures)
+    rw (c.in_ok-push.ensures, c.in_ok-push_reply.ensures, c.in_ok-push_start.ensures)
     (line_text c.args.command (search_json c.args.shards c.args.reply.now) c.args.out.now.items)

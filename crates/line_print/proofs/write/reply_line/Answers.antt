@@ -4,5 +4,5 @@ use Rattle.line_print.proofs.write.reply_line.Goals as goal
 
 pub returns : goal.returns
 returns c =
-    rw (c.in_ok-push-4.ensures, c.in_ok-push-3.ensures, c.as_str.ensures.value, c.in_ok-json.ensures.text c.requires, c.in_ok-push-2.ensures, c.in_ok-push_number.ensures, c.from.ensures, c.in_ok-push.ensures)
+    rw (c.in_ok-push.ensures, c.in_ok-push_json.ensures, c.in_ok-push_start.ensures)
     (line_text c.args.command (view c.args.reply.now) c.args.out.now.items)
