@@ -1,11 +1,13 @@
 //! The lines of cancels.
 
-ghost use Rattle.std.specs.Prelude.{◌≡◌, ◌++◌, OnOk, IfOk, map, filter_map};
+ghost use Rattle.std.specs.Prelude.{◌≡◌, [], ◌∷◌, ◌++◌, OnOk, IfOk, map, filter_map};
 ghost use Rattle.std.specs.List.{list_any};
 ghost use Rattle.serde_json.specs.Data.{array, string};
 ghost use Rattle.serde_json.specs.View.{view, items_of};
 ghost use Rattle.task_ids.specs.TaskId.{task_id_text};
-ghost use Rattle.line_print.specs.Lines.{named_in, finds_none, cancelled, cancel_line};
+ghost use Rattle.task_events.specs.Printed.{reply_line};
+ghost use Rattle.line_print.specs.Errors.{not_found};
+ghost use Rattle.line_print.specs.Lines.{error_line, named_in, finds_none, cancelled, cancel_line};
 
 use crate::errors::{id_value, not_found};
 use crate::members::with_member;
@@ -41,6 +43,14 @@ fn finds_none(turn: &[Event]) -> bool
     false
 }
 
+/// Appends a task's id.
+fn push_id(alloc: Global, values: &mut Vec<Value>, task: TaskId) -> Result<(), AllocError>
+    ensures { OnOk result (map view values.new.items ≡ map view values.old.items ++ string (task_id_text task) ∷ []) }
+{
+    let id = id_value(alloc, task)?;
+    Ok(values.push(id)?)
+}
+
 /// The ids of the tasks that a cancel named, by the events of its turn.
 fn named(alloc: Global, turn: &[Event]) -> Result<Value, AllocError>
     ensures { IfOk result (λ value. view value
@@ -49,7 +59,7 @@ fn named(alloc: Global, turn: &[Event]) -> Result<Value, AllocError>
     let mut values = Vec::new(alloc);
     for event in turn {
         if let Some(task) = named_in(event) {
-            values.push(id_value(alloc, task)?)?;
+            push_id(alloc, &mut values, task)?;
         }
     }
     Ok(Value::Array(values))
@@ -64,6 +74,33 @@ fn cancelled(alloc: Global, turn: &[Event], wait: bool) -> Result<Value, AllocEr
     Ok(Value::Object(members))
 }
 
+/// Appends the line of a cancel that found no task.
+fn none_line(
+    alloc: Global,
+    out: &mut Vec<u8>,
+    command: u32,
+    target: Option<TaskId>,
+) -> Result<(), AllocError>
+    ensures { OnOk result (out.new.items ≡ out.old.items ++ error_line command (not_found target)) }
+{
+    let error = not_found(alloc, target)?;
+    error_line(alloc, out, command, &error)
+}
+
+/// Appends the line of a cancel that named tasks, by the events of its turn.
+fn named_line(
+    alloc: Global,
+    out: &mut Vec<u8>,
+    command: u32,
+    wait: bool,
+    turn: &[Event],
+) -> Result<(), AllocError>
+    ensures { OnOk result (out.new.items ≡ out.old.items ++ reply_line command (cancelled (filter_map named_in turn.now) wait)) }
+{
+    let reply = cancelled(alloc, turn, wait)?;
+    reply_line(alloc, out, command, &reply)
+}
+
 /// Appends the line of a cancel, by the events of its turn.
 pub(crate) fn cancel_line(
     alloc: Global,
@@ -76,10 +113,8 @@ pub(crate) fn cancel_line(
     ensures { OnOk result (out.new.items ≡ out.old.items ++ cancel_line command target wait turn.now) }
 {
     if finds_none(turn) {
-        let error = not_found(alloc, target)?;
-        error_line(alloc, out, command, &error)
+        none_line(alloc, out, command, target)
     } else {
-        let reply = cancelled(alloc, turn, wait)?;
-        reply_line(alloc, out, command, &reply)
+        named_line(alloc, out, command, wait, turn)
     }
 }

@@ -1,6 +1,6 @@
 //! What is told in place of a reply, as JSON.
 
-ghost use Rattle.std.specs.Prelude.{◌≡◌, IfOk, Some, map, codes};
+ghost use Rattle.std.specs.Prelude.{◌≡◌, [], ◌∷◌, ◌++◌, OnOk, IfOk, Some, map, codes};
 ghost use Rattle.serde_json.specs.Data.{string, array, put, no_members};
 ghost use Rattle.query_parse.specs.declared.fault.BodyError.TheVariants.{BadQuery, WindowTooLarge};
 ghost use Rattle.serde_json.specs.View.{view, items_of, members_view};
@@ -153,13 +153,25 @@ fn failed_shard(alloc: Global, failed: FailedShard) -> Result<Value, AllocError>
     }
 }
 
+/// Appends why a shard failed.
+fn push_failed(
+    alloc: Global,
+    values: &mut Vec<Value>,
+    failed: FailedShard,
+) -> Result<(), AllocError>
+    ensures { OnOk result (map view values.new.items ≡ map view values.old.items ++ failed_shard failed ∷ []) }
+{
+    let failure = failed_shard(alloc, failed)?;
+    Ok(values.push(failure)?)
+}
+
 /// The failures of shards, in order.
 fn failed_shards(alloc: Global, failed: &[FailedShard]) -> Result<Value, AllocError>
     ensures { IfOk result (λ value. view value ≡ array (items_of (map failed_shard failed.now))) }
 {
     let mut values = Vec::new(alloc);
     for shard in failed {
-        values.push(failed_shard(alloc, *shard)?)?;
+        push_failed(alloc, &mut values, *shard)?;
     }
     Ok(Value::Array(values))
 }
