@@ -1,6 +1,6 @@
 -- Why a line of a schedule made nothing happen, as the caller of the printing found.
-use Rattle.std.proofs.Common.{◌≡◌, ℕ, ◌+◌, ◌-◌, List, [], ◌∷◌, ◌++◌, reverse, slice_get, Option, Some, None, unwrap_or, refl, sym, ap, ◌∙◌, add-zero, add-one, arith}
-use Rattle.std.proofs.lemmas.List.{reverse-reverse}
+use Rattle.std.proofs.Common.{◌≡◌, ℕ, ◌+◌, ◌-◌, ◌<◌, List, [], ◌∷◌, ◌++◌, length, get_or, drop, reverse, slice_get, Option, Some, None, unwrap_or, refl, sym, ap, ◌∙◌, add-zero, add-one, append_assoc, arith}
+use Rattle.std.proofs.lemmas.List.{reverse-reverse, drop_more}
 use Rattle.task_ids.specs.declared.cluster.Cluster.{Cluster}
 use Rattle.task_ids.specs.declared.corpus.Corpus.{Corpus}
 use Rattle.script_lang.specs.declared.command.Command.{Command}
@@ -55,3 +55,13 @@ pub output_of : (found : List (Option Idle)) (cluster cluster' : Cluster) (corpu
 output_of found cluster cluster' corpus corpus' script script' events history a b c d =
     ap (λ x. printed_by found x corpus script (reverse events)) a ∙ ap (λ x. printed_by found cluster' x script (reverse events)) b
     ∙ ap (λ x. printed_by found cluster' corpus' x (reverse events)) c ∙ ap (printed_by found cluster' corpus' script') (turned events history d)
+
+-- one more line is appended
+pub lines_more : (line : ℕ → Command → List ℕ) (place : ℕ) (script : List Command) (command : Command) (before after all : List ℕ) → place < length script → command ≡ get_or script place command → after ≡ before ++ line (place + 1) command
+    → before ++ lines_from line (place + 1) (drop place script) ≡ all → after ++ lines_from line (place + 1 + 1) (drop (place + 1) script) ≡ all
+lines_more line place script command before after all h is new so_far =
+    ap (λ text. text ++ lines_from line (place + 1 + 1) (drop (place + 1) script)) new
+    ∙ append_assoc before (line (place + 1) command) (lines_from line (place + 1 + 1) (drop (place + 1) script))
+    ∙ ap (λ next. before ++ lines_from line (place + 1) (next ∷ drop (place + 1) script)) is
+    ∙ sym (ap (λ commands. before ++ lines_from line (place + 1) commands) (drop_more script place command h))
+    ∙ so_far

@@ -1,9 +1,10 @@
 -- The texts of a reply's parts, as they are appended one after another.
-use Rattle.std.proofs.Common.{◌≡◌, ℕ, ◌-◌, false, List, [], ◌∷◌, ◌++◌, length, map, codes, refl, sym, ap, ◌∙◌, append_assoc, decimal}
+use Rattle.std.proofs.Common.{◌≡◌, ℕ, ◌+◌, ◌-◌, ◌<◌, Bool, true, false, List, [], ◌∷◌, ◌++◌, length, get_or, drop, map, codes, refl, sym, ap, ◌∙◌, append_assoc, decimal}
+use Rattle.std.proofs.lemmas.List.{drop_more}
 use Rattle.json.specs.Print.{quoted, escape_byte}
 use Rattle.serde_json.specs.Data.{Data, Items, array}
 use Rattle.serde_json.specs.View.{items_of}
-use Rattle.serde_json.specs.Written.{compact_text, items_text}
+use Rattle.serde_json.specs.Written.{comma_if, compact_text, items_text}
 use Rattle.task_events.specs.declared.reply.Hit.{Hit}
 use Rattle.task_events.specs.declared.reply.SearchReply.{SearchReply}
 use Rattle.line_print.specs.Lines.{error_line}
@@ -90,3 +91,14 @@ list_text command items o out h =
     sym (append_assoc out (codes "]") (codes "}\n"))
     ∙ ap (λ text. text ++ codes "}\n") (h ∙ opened ((o ++ codes "{\"command\":") ++ decimal command) (codes ",\"reply\":") (items_text false items))
     ∙ line_text command (array items) o
+
+-- one more item is appended, after a comma if one came before it
+pub items_more : {X : Type 0} (json : X → Data) (xs : List X) (i : ℕ) (x : X) (later : Bool) (before between after all : List ℕ) → i < length xs → x ≡ get_or xs i x → between ≡ before ++ comma_if later → after ≡ between ++ compact_text (json x)
+    → before ++ items_text later (items_of (map json (drop i xs))) ≡ all → after ++ items_text true (items_of (map json (drop (i + 1) xs))) ≡ all
+items_more json xs i x later before between after all h is comma new so_far =
+    ap (λ text. text ++ items_text true (items_of (map json (drop (i + 1) xs)))) (new ∙ ap (λ text. text ++ compact_text (json x)) comma)
+    ∙ append_assoc (before ++ comma_if later) (compact_text (json x)) (items_text true (items_of (map json (drop (i + 1) xs))))
+    ∙ append_assoc before (comma_if later) (compact_text (json x) ++ items_text true (items_of (map json (drop (i + 1) xs))))
+    ∙ ap (λ next. before ++ items_text later (items_of (map json (next ∷ drop (i + 1) xs)))) is
+    ∙ sym (ap (λ rest. before ++ items_text later (items_of (map json rest))) (drop_more xs i x h))
+    ∙ so_far

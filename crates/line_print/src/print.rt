@@ -41,12 +41,7 @@ pub(crate) fn push_quoted(alloc: Global, out: &mut Vec<u8>, text: &str) -> Resul
 }
 
 /// Appends a name as it stands, and a number.
-fn push_count(
-    alloc: Global,
-    out: &mut Vec<u8>,
-    name: &str,
-    number: u64,
-) -> Result<(), AllocError>
+fn push_count(alloc: Global, out: &mut Vec<u8>, name: &str, number: u64) -> Result<(), AllocError>
     ensures { OnOk result (out.new.items ≡ (out.old.items ++ name.now) ++ decimal number) }
 {
     push(out, name)?;
@@ -87,7 +82,12 @@ fn push_shards(alloc: Global, out: &mut Vec<u8>, shards: u64, failed: u64) -> Re
     ensures { OnOk result (out.new.items ≡ out.old.items ++ compact_text (shards_json shards failed)) }
 {
     push_count(alloc, out, "{\"failed\":", failed)?;
-    push_count(alloc, out, ",\"successful\":", shards.saturating_sub(failed))?;
+    push_count(
+        alloc,
+        out,
+        ",\"successful\":",
+        shards.saturating_sub(failed),
+    )?;
     push_count(alloc, out, ",\"total\":", shards)?;
     push(out, "}")?;
     Ok(())

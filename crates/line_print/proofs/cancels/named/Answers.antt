@@ -1,10 +1,7 @@
-use Rattle.std.proofs.Common.{◌≡◌, ◌<◌, ℕ, ◌+◌, List, [], ◌∷◌, ◌++◌, Option, Some, length, get_or, drop, map, filter_map, ap, sym, ◌∙◌, append_assoc}
+use Rattle.std.proofs.Common.{◌≡◌, ◌<◌, ℕ, ◌+◌, List, Option, length, get_or, drop, filter_map, ap, sym, ◌∙◌, append_assoc}
 use Rattle.std.proofs.lemmas.List.{drop_more}
 use Rattle.std.specs.List.{cons_option}
-use Rattle.serde_json.specs.Data.{Data, string}
-use Rattle.serde_json.specs.View.{view}
 use Rattle.task_ids.specs.declared.task_id.TaskId.{TaskId}
-use Rattle.task_ids.specs.TaskId.{task_id_text}
 use Rattle.task_events.specs.declared.event.Event.{Event}
 use Rattle.line_print.specs.Lines.{named_in}
 use Rattle.line_print.proofs.cancels.named.Goals as goal
