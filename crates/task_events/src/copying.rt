@@ -81,12 +81,15 @@ impl ShardAsk {
     pub fn copy(&self) -> Result<ShardAsk, AllocError>
         ensures { IfOk result (λ ask. ask ≡ self.now) }
     {
+        let after = copy_key(&self.after)?;
+        let index = self.index.copy()?;
+        let body = self.body.copy()?;
         Ok(ShardAsk {
-            index: self.index.copy()?,
+            index,
             shard: self.shard,
-            body: self.body.copy()?,
+            body,
             version: self.version,
-            after: copy_key(&self.after)?,
+            after,
             slice: self.slice,
         })
     }
@@ -180,17 +183,28 @@ impl SearchReply {
     }
 }
 
+fn copy_search_reply(reply: &Boxed<SearchReply>) -> Result<Boxed<SearchReply>, AllocError>
+    ensures { IfOk result (λ copy. copy ≡ reply.now) }
+{
+    let copy = reply.get().copy()?;
+    Ok(Boxed::new(reply.allocator(), copy)?)
+}
+
+fn copy_top(top: &Boxed<ShardTop>) -> Result<Boxed<ShardTop>, AllocError>
+    ensures { IfOk result (λ copy. copy ≡ top.now) }
+{
+    let copy = top.get().copy()?;
+    Ok(Boxed::new(top.allocator(), copy)?)
+}
+
 impl Reply {
     /// An equal reply.
     pub fn copy(&self) -> Result<Reply, AllocError>
         ensures { IfOk result (λ reply. reply ≡ self.now) }
     {
         match self {
-            Reply::Search(reply) => Ok(Reply::Search(Boxed::new(
-                reply.allocator(),
-                reply.get().copy()?,
-            )?)),
-            Reply::Top(top) => Ok(Reply::Top(Boxed::new(top.allocator(), top.get().copy()?)?)),
+            Reply::Search(reply) => Ok(Reply::Search(copy_search_reply(reply)?)),
+            Reply::Top(top) => Ok(Reply::Top(copy_top(top)?)),
             Reply::Hits(hits) => Ok(Reply::Hits(copy_hits(hits)?)),
             Reply::AllFailed(failed) => Ok(Reply::AllFailed(copy_failed(failed)?)),
             Reply::Cancelled {
