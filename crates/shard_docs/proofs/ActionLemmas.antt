@@ -9,9 +9,8 @@ use Rattle.task_ids.specs.declared.cause.Cause.TheVariants.{BadAction}
 use Rattle.shard_docs.specs.declared.action.BulkKind.{BulkKind}
 use Rattle.shard_docs.specs.declared.fault.CorpusError.{CorpusError}
 use Rattle.shard_docs.specs.declared.fault.CorpusError.TheVariants.{Bad, Memory}
-use Rattle.shard_docs.specs.BulkAction.{has_one_key, chosen, kind_of, index_of, id_or_auto, target_of, action_of}
+use Rattle.shard_docs.specs.BulkAction.{has_one_key, chosen, kind_of, index_of, id_or_auto, target_of, action_of_value}
 use Rattle.shard_docs.specs.Fault.{Fault, and_then, on_line, Tells}
-use Rattle.shard_docs.specs.Json.{whole_json_of}
 use Rattle.shard_docs.proofs.FloatLemmas.{found_whole}
 
 -- what is found at a line was found
@@ -40,13 +39,12 @@ target_whole at value choice whole e =
     (found_on_line at (kind_of value) choice e)
 
 -- a fault of the id is one of the action
-pub id_tells : (at : ℕ) (line : List ℕ) (value : Data) (choice : BulkKind × Data) (index : List ℕ) (error : CorpusError) → on_line at (whole_json_of line) ≡ Ok value → on_line at (kind_of value) ≡ Ok choice
-    → Some index ≡ index_of choice.1 → Tells error (on_line at (ok_or (id_or_auto at (get (codes "_id") choice.1)) BadAction)) → Tells error (on_line at (action_of at line))
-unfolding action_of
-id_tells at line value choice index error json kind named told =
+pub id_tells : (at : ℕ) (value : Data) (choice : BulkKind × Data) (index : List ℕ) (error : CorpusError) → on_line at (kind_of value) ≡ Ok choice
+    → Some index ≡ index_of choice.1 → Tells error (on_line at (ok_or (id_or_auto at (get (codes "_id") choice.1)) BadAction)) → Tells error (on_line at (action_of_value at value))
+unfolding action_of_value
+id_tells at value choice index error kind named told =
     subst (λ found. Tells error (on_line at found))
     (sym
-    (ap (λ found. and_then found (λ v. and_then (kind_of v) (λ x. target_of at x.0 x.1))) (found_on_line at (whole_json_of line) value json)
-    ∙ ap (λ found. and_then found (λ x. target_of at x.0 x.1)) (found_on_line at (kind_of value) choice kind)
+    (ap (λ found. and_then found (λ x. target_of at x.0 x.1)) (found_on_line at (kind_of value) choice kind)
     ∙ ap (λ found. and_then (ok_or found BadAction) (λ i. and_then (ok_or (id_or_auto at (get (codes "_id") choice.1)) BadAction) (λ id. Ok (record { kind = choice.0; index = i; id = id })))) (sym named)))
     (first_tells at (ok_or (id_or_auto at (get (codes "_id") choice.1)) BadAction) (λ id. Ok (record { kind = choice.0; index = index; id = id })) error told)

@@ -1,18 +1,18 @@
 -- Reading a corpus line by line: what is found in the whole is what is found from here on, after the documents so far.
-use Rattle.std.proofs.Common.{◌≡◌, ℕ, ◌+◌, ◌-◌, List, [], ◌∷◌, ◌++◌, length, Bool, true, false, cond, eqb, Result, Ok, Err, refl, sym, ap, ◌∙◌, subst}
+use Rattle.std.proofs.Common.{◌≡◌, ℕ, ◌+◌, ◌-◌, List, [], ◌∷◌, ◌++◌, length, drop, Bool, true, false, cond, eqb, Result, Ok, Err, refl, sym, ap, ◌∙◌, subst}
 use Rattle.std.specs.Str.{bytes_eq}
 use Rattle.std.specs.Str.Lines.{lines}
 use Rattle.task_ids.specs.declared.cause.Cause.TheVariants.{NoSource}
 use Rattle.task_ids.specs.declared.corpus.CorpusLine.{CorpusLine}
 use Rattle.shard_docs.specs.declared.action.BulkAction.{BulkAction}
-use Rattle.shard_docs.specs.declared.corpus.CorpusRead.{CorpusRead}
 use Rattle.shard_docs.specs.declared.fault.CorpusError.{CorpusError}
 use Rattle.shard_docs.specs.declared.fault.CorpusError.TheVariants.{Bad, Memory}
 use Rattle.shard_docs.specs.BulkAction.{action_of}
-use Rattle.shard_docs.specs.Corpus.{Read, dashes, is_there, source_line, document, documents}
-use Rattle.shard_docs.specs.CorpusRead.{read_of}
+use Rattle.shard_docs.specs.Corpus.{Read, dashes, is_there, source_line, document, next_document, documents}
 use Rattle.shard_docs.specs.Ends.{IsEndOf}
 use Rattle.shard_docs.specs.Fault.{Fault, and_then, on_line, Tells}
+use Rattle.shard_docs.specs.Seen.{Name, has_name}
+use Rattle.shard_docs.proofs.NamesLemmas.{SameNames}
 
 -- a fault of a first step is one of all of them
 first_tells : {A B : Type 0} (found : Result A Fault) (f : A → Result B Fault) (error : CorpusError) → Tells error found → Tells error (and_then found f)
@@ -39,6 +39,33 @@ after_action number before rest action =
 same_then : {A B : Type 0} (found : Result A Fault) (f g : A → Result B Fault) → ((x : A) → f x ≡ g x) → and_then found f ≡ and_then found g
 same_then (Ok x) f g same = same x
 same_then (Err e) f g same = refl
+
+then_then : {A B C : Type 0} (found : Result A Fault) (f : A → Result B Fault) (g : B → Result C Fault) → and_then (and_then found f) g ≡ and_then found (λ x. and_then (f x) g)
+then_then (Ok x) f g = refl
+then_then (Err e) f g = refl
+
+-- the documents after the next one
+abbrev pub after_document : ℕ → List CorpusLine → CorpusLine × List (List ℕ) → Result Read Fault
+after_document number before next = documents (number + 2) (before ++ next.0 ∷ []) next.1
+
+-- the next document, and those after it
+next_is : (number : ℕ) (before : List CorpusLine) (line : List ℕ) (rest : List (List ℕ))
+    → and_then (next_document number (λ index id. is_there index id before) line rest) (after_document number before) ≡ and_then (on_line number (action_of number line)) (after_action number before rest)
+unfolding next_document
+next_is number before line rest =
+    then_then (on_line number (action_of number line)) _ (after_document number before)
+    ∙ same_then (on_line number (action_of number line)) _ _ (λ action.
+    then_then (source_line number rest) _ (after_document number before)
+    ∙ same_then (source_line number rest) _ _ (λ source. then_then (document number (is_there action.index action.id before) action source.0) _ (after_document number before)))
+
+-- the next document, where the names that were met are those of the documents before
+same_next : (number : ℕ) (names : List Name) (before : List CorpusLine) (line : List ℕ) (rest : List (List ℕ)) → SameNames names before
+    → next_document number (λ index id. has_name index id names) line rest ≡ next_document number (λ index id. is_there index id before) line rest
+unfolding next_document
+same_next number names before line rest same =
+    same_then (on_line number (action_of number line)) _ _ (λ action.
+    same_then (source_line number rest) _ _ (λ source.
+    ap (λ (there : Bool). and_then (document number there action source.0) (λ found. Ok (found, source.1))) (same action.index action.id)))
 
 -- what follows the source is what follows its line
 rest_is : (missing : Bool) (fault : Fault) (next : List ℕ) (rest : List (List ℕ)) (f : List ℕ → List (List ℕ) → Result Read Fault)
@@ -76,35 +103,19 @@ module _ (number : ℕ) (before : List CorpusLine) (here : List (List ℕ)) (who
         from_action : and_then (on_line number (action_of number line)) (after_action number before rest) ≡ whole
         from_action = sym (at_action number before line rest some not_dashes) ∙ from_line
 
-        pub action_fails : (error : CorpusError) → Tells error (on_line number (action_of number line)) → Tells error whole
-        action_fails error told = subst (Tells error) from_action (first_tells (on_line number (action_of number line)) (after_action number before rest) error told)
+        module _ (names : List Name) (same : SameNames names before) where
+          from_next : and_then (next_document number (λ index id. has_name index id names) line rest) (after_document number before) ≡ whole
+          from_next = ap (λ next. and_then next (after_document number before)) (same_next number names before line rest same) ∙ next_is number before line rest ∙ from_action
 
-        module _ (action : BulkAction) (acts : on_line number (action_of number line) ≡ Ok action) where
-          from_source : after_action number before rest action ≡ whole
-          from_source = sym (ap (λ found. and_then found (after_action number before rest)) acts) ∙ from_action
+          pub document_fails : (error : CorpusError) → Tells error (next_document number (λ index id. has_name index id names) line rest) → Tells error whole
+          document_fails error told =
+              subst (Tells error) from_next (first_tells (next_document number (λ index id. has_name index id names) line rest) (after_document number before) error told)
 
-          pub source_fails : (error : CorpusError) → Tells error (source_line number rest) → Tells error whole
-          source_fails error told =
-              subst (Tells error) from_source
-              (first_tells (source_line number rest)
-              (λ source. and_then (document number (is_there action.index action.id before) action source.0) (λ found. documents (number + 2) (before ++ found ∷ []) source.1)) error told)
-
-          module _ (source : List ℕ) (more : List (List ℕ)) (sourced : source_line number rest ≡ Ok (source, more)) where
-            from_document : and_then (document number (is_there action.index action.id before) action source) (λ found. documents (number + 2) (before ++ found ∷ []) more) ≡ whole
-            from_document =
-                sym
-                (ap (λ s. and_then s (λ x. and_then (document number (is_there action.index action.id before) action x.0) (λ found. documents (number + 2) (before ++ found ∷ []) x.1))) sourced)
-                ∙ from_source
-
-            pub document_fails : (error : CorpusError) → Tells error (document number (is_there action.index action.id before) action source) → Tells error whole
-            document_fails error told =
-                subst (Tells error) from_document
-                (first_tells (document number (is_there action.index action.id before) action source) (λ found. documents (number + 2) (before ++ found ∷ []) more) error told)
-
-            pub goes_on : (found : CorpusLine) → document number (is_there action.index action.id before) action source ≡ Ok found → documents (number + 2) (before ++ found ∷ []) more ≡ whole
-            goes_on found is = sym (ap (λ d. and_then d (λ x. documents (number + 2) (before ++ x ∷ []) more)) is) ∙ from_document
+          pub goes_on : (found : CorpusLine) (more : List (List ℕ)) → next_document number (λ index id. has_name index id names) line rest ≡ Ok (found, more)
+              → documents (number + 2) (before ++ found ∷ []) more ≡ whole
+          goes_on found more is = sym (ap (λ next. and_then next (after_document number before)) is) ∙ from_next
 
 -- what was read, as a place in the bytes
-pub read_is : (bytes after : List ℕ) (found : List CorpusLine) (number : ℕ) (read : CorpusRead) → read.corpus.lines ≡ found → read.script_at ≡ length bytes - length after → read.script_line ≡ number
-    → IsEndOf after bytes → let end : Read = (found, number, lines after) in end ≡ read_of bytes read
-read_is bytes after found number read docs place at ends = rw (docs, place, at) (ap (λ bs. (found, number, lines bs)) ends)
+pub place_is : (bytes after : List ℕ) (found : List CorpusLine) (number : ℕ) → IsEndOf after bytes
+    → let at : Read = (found, number, lines (drop (length bytes - length after) bytes)) in let end : Read = (found, number, lines after) in end ≡ at
+place_is bytes after found number ends = ap (λ bs. (found, number, lines bs)) ends

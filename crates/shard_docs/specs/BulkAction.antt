@@ -53,9 +53,14 @@ target_of line kind target = do
   id ← ok_or (id_or_auto line (get (codes "_id") target)) BadAction
   Ok (record { kind = kind; index = index; id = id })
 
+-- the action of a value on a line that has this number
+unfoldable pub action_of_value : ℕ → Data → Result BulkAction Cause
+action_of_value at value = do
+  choice ← kind_of value
+  target_of at choice.0 choice.1
+
 -- the action of a line, which has this number
 unfoldable pub action_of : ℕ → List ℕ → Result BulkAction Cause
 action_of at line = do
   value ← whole_json_of line
-  choice ← kind_of value
-  target_of at choice.0 choice.1
+  action_of_value at value

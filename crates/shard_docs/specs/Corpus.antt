@@ -36,6 +36,15 @@ document number there action source =
       found ← on_line (number + 1) (source_of source)
       Ok (record { index = action.index; doc = record { id = action.id; source = found } }))
 
+-- The document of an action line and of its source on the next line, and the lines after them. A document of this index and id is there already where it
+-- is said so.
+unfoldable pub next_document : ℕ → (List ℕ → List ℕ → Bool) → List ℕ → List (List ℕ) → Result (CorpusLine × List (List ℕ)) Fault
+next_document number there line rest = do
+  action ← on_line number (action_of number line)
+  source ← source_line number rest
+  found ← document number (there action.index action.id) action source.0
+  Ok (found, source.1)
+
 -- what is read of an input up to its script: the documents, the number of the script's first line, and the script's lines
 abbrev pub Read : Type 0
 Read = List CorpusLine × ℕ × List (List ℕ)

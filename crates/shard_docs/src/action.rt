@@ -86,6 +86,21 @@ fn id_of(alloc: Global, number: u32, target: &Value) -> Result<String, CorpusErr
     }
 }
 
+/// The action of a value that has no float, on a line of this number.
+#[tactic(auto, unfolding(crate::specs::BulkAction::action_of_value))]
+fn action_of_value(alloc: Global, number: u32, value: &Value) -> Result<BulkAction, CorpusError>
+    requires { has_float (view value.now) ≡ false }
+    ensures { Gives (λ action. action) result (on_line number (spec.action_of_value number (view value.now))) }
+{
+    let (kind, target) = kind_of(number, value)?;
+    let Some(index) = index_of(target) else {
+        return Err(CorpusError::at(number, Cause::BadAction));
+    };
+    let index = Text::new(String::from_str(alloc, index)?);
+    let id = Text::new(id_of(alloc, number, target)?);
+    Ok(BulkAction { kind, index, id })
+}
+
 /// The action of a line, which has this number.
 #[tactic(auto, unfolding(crate::specs::BulkAction::action_of))]
 pub(crate) fn action_of_line(
@@ -96,11 +111,5 @@ pub(crate) fn action_of_line(
     ensures { Gives (λ action. action) result (on_line number (spec.action_of number line.now)) }
 {
     let value = whole_value_of_line(alloc, number, line)?;
-    let (kind, target) = kind_of(number, &value)?;
-    let Some(index) = index_of(target) else {
-        return Err(CorpusError::at(number, Cause::BadAction));
-    };
-    let index = Text::new(String::from_str(alloc, index)?);
-    let id = Text::new(id_of(alloc, number, target)?);
-    Ok(BulkAction { kind, index, id })
+    action_of_value(alloc, number, &value)
 }

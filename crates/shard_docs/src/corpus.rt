@@ -1,6 +1,6 @@
-ghost use Rattle.std.specs.Prelude.{◌≡◌, ◌+◌, ◌-◌, ◌<◌, ◌≤◌, ◌^◌, length, IfOk};
+ghost use Rattle.std.specs.Prelude.{◌≡◌, ◌+◌, ◌<◌, ◌≤◌, ◌^◌, [], drop, length, IfOk};
 ghost use Rattle.std.specs.Str.Lines.{lines};
-ghost use Rattle.shard_docs.specs.Corpus.{source_line, document, corpus_of};
+ghost use Rattle.shard_docs.specs.Corpus.{source_line, document, next_document, corpus_of};
 ghost use Rattle.shard_docs.specs.CorpusRead.{read_of};
 ghost use Rattle.shard_docs.specs.Ends.{IsEndOf};
 ghost use Rattle.shard_docs.specs.Fault.{Gives};
@@ -65,6 +65,75 @@ fn document_of(
     Ok(CorpusLine { index, doc })
 }
 
+/// The document of an action on a line and of its source on the next line, and what follows them. It is noted.
+#[tactic(auto, unfolding(crate::specs::Corpus::next_document))]
+fn document_at<'a>(
+    alloc: Global,
+    seen: &mut Seen,
+    number: u32,
+    line: &[u8],
+    after: &'a [u8],
+) -> Result<(CorpusLine, &'a [u8]), CorpusError>
+    requires { number + 1 < 2 ^ 32 }
+    ensures gives { Gives (λ next. (next.0, lines next.1.now)) result (next_document number (λ index id. has_name index id seen.old) line.now (lines after.now)) }
+    ensures noted { IfOk result (λ next. seen.new ≡ with_name next.0.index next.0.doc.id seen.old) }
+    ensures shorter { IfOk result (λ next. length next.1.now < length after.now) }
+    ensures ends { IfOk result (λ next. IsEndOf next.1.now after.now) }
+{
+    let action = action_of_line(alloc, number, line)?;
+    let (source, left) = source_after(number, after)?;
+    let document = document_of(alloc, seen, number, action, source)?;
+    Ok((document, left))
+}
+
+/// Reads the documents of an input, up to the line `--` or the end, and tells where the script begins and the number of
+/// its first line.
+fn read_documents(
+    alloc: Global,
+    found: &mut Items<CorpusLine>,
+    seen: &mut Seen,
+    bytes: &[u8],
+) -> Result<(usize, u32), CorpusError>
+    requires short { length bytes.now ≤ 67108864 }
+    requires none_found { found.old ≡ [] }
+    requires none_seen { seen.old ≡ [] }
+    ensures gives { Gives (λ place. (found.new, place.1, lines (drop place.0 bytes.now))) result (corpus_of (lines bytes.now)) }
+    ensures within { IfOk result (λ place. place.0 ≤ length bytes.now) }
+{
+    let mut number = 1;
+    let mut rest = bytes;
+    while let Some((line, after)) = split_line(rest) {
+        if line.is_empty() {
+            number += 1;
+            rest = after;
+            continue;
+        }
+        if line == DASHES.as_bytes() {
+            return Ok((bytes.len() - after.len(), number + 1));
+        }
+        let (document, left) = document_at(alloc, seen, number, line, after)?;
+        found.push(document)?;
+        number += 2;
+        rest = left;
+    }
+    Ok((bytes.len() - rest.len(), number))
+}
+
+/// Reads the documents of an input, where none was met before.
+fn read_all_documents(
+    alloc: Global,
+    found: &mut Items<CorpusLine>,
+    bytes: &[u8],
+) -> Result<(usize, u32), CorpusError>
+    requires short { length bytes.now ≤ 67108864 }
+    requires none_found { found.old ≡ [] }
+    ensures gives { Gives (λ place. (found.new, place.1, lines (drop place.0 bytes.now))) result (corpus_of (lines bytes.now)) }
+    ensures within { IfOk result (λ place. place.0 ≤ length bytes.now) }
+{
+    let mut seen = Seen::new(alloc);
+    read_documents(alloc, found, &mut seen, bytes)
+}
+
 /// Reads the documents of an input, up to the line `--` or the end. The input has at most 67,108,864 bytes.
 ///
 /// A document is an action line and a line with its source, after Elasticsearch's bulk API: `{"index":{"_index":I}}` or
@@ -77,35 +146,11 @@ pub fn read_corpus(alloc: Global, bytes: &[u8]) -> Result<CorpusRead, CorpusErro
     ensures within { IfOk result (λ read. read.script_at ≤ length bytes.now) }
 {
     let mut found = Items::new(alloc);
-    let mut seen = Seen::new(alloc);
-    let mut number = 1;
-    let mut rest = bytes;
-    while let Some((line, after)) = split_line(rest) {
-        if line.is_empty() {
-            number += 1;
-            rest = after;
-            continue;
-        }
-        if line == DASHES.as_bytes() {
-            return Ok(read_up_to(found, bytes.len() - after.len(), number + 1));
-        }
-        let action = action_of_line(alloc, number, line)?;
-        let (source, after) = source_after(number, after)?;
-        found.push(document_of(alloc, &mut seen, number, action, source)?)?;
-        number += 2;
-        rest = after;
-    }
-    Ok(read_up_to(found, bytes.len() - rest.len(), number))
-}
-
-fn read_up_to(lines: Items<CorpusLine>, script_at: usize, script_line: u32) -> CorpusRead
-    ensures lines { result.corpus.lines ≡ lines }
-    ensures place { result.script_at ≡ script_at }
-    ensures number { result.script_line ≡ script_line }
-{
-    CorpusRead {
-        corpus: Corpus { lines },
+    let (script_at, script_line) = read_all_documents(alloc, &mut found, bytes)?;
+    let corpus = Corpus { lines: found };
+    Ok(CorpusRead {
+        corpus,
         script_at,
         script_line,
-    }
+    })
 }

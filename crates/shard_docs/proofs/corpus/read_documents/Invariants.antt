@@ -3,7 +3,7 @@ use Rattle.std.specs.Str.Lines.{lines}
 use Rattle.shard_docs.specs.Corpus.{documents}
 use Rattle.shard_docs.specs.Ends.{IsEndOf}
 use Rattle.shard_docs.proofs.NamesLemmas.{SameNames}
-use Rattle.shard_docs.proofs.corpus.read_corpus.Given as goal
+use Rattle.shard_docs.proofs.corpus.read_documents.Given as goal
 
 -- the rest is read as the whole is, after the documents so far
 abbrev pub invariant-loop-line : goal.invariant-loop-line

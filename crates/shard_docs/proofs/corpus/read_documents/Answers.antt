@@ -1,0 +1,59 @@
+use Rattle.std.proofs.Common.{◌≡◌, ◌+◌, [], length, ℕ, List, true, false, eqb, Ok, ap, ◌∙◌, sym, arith}
+use Rattle.std.proofs.lemmas.Result.{err_from_is_err_and}
+use Rattle.std.specs.Str.{bytes_eq}
+use Rattle.std.specs.Str.Lines.{lines}
+use Rattle.shard_docs.specs.Corpus.{dashes, documents}
+use Rattle.shard_docs.proofs.CorpusLemmas.{found_at_end, after_empty, found_at_dashes, document_fails, goes_on, place_is}
+use Rattle.shard_docs.proofs.LinesLemmas.{end_of_end}
+use Rattle.shard_docs.proofs.NamesLemmas.{names_more}
+use Rattle.shard_docs.proofs.corpus.read_documents.Goals as goal
+
+pub loop-line-preserved-then-is_empty : goal.loop-line-preserved-then-is_empty
+loop-line-preserved-then-is_empty c =
+    let empty : eqb (length c.in-Some.line.now) 0 ≡ true = sym c.is_empty.ensures ∙ c.if-is_empty.true in
+    record {
+      reads = after_empty c.loop-line.number c.loop-line.found (lines c.loop-line.rest.now) (documents 1 [] (lines c.args.bytes.now)) c.loop-line.invariant.reads c.in-Some.line.now (lines c.in-Some.after.now) c.in-Some.ensures.found empty;
+      names = c.loop-line.invariant.names;
+      ends = end_of_end c.in-Some.after.now c.loop-line.rest.now c.args.bytes.now c.in-Some.ensures.ends c.loop-line.invariant.ends;
+      fits = omega (arith, c.in-Some.ensures.shorter);
+    }
+
+pub returns-then-eq-clause-gives : goal.returns-then-eq-clause-gives
+returns-then-eq-clause-gives c =
+    let some : eqb (length c.in-Some.line.now) 0 ≡ false = sym c.is_empty.ensures ∙ c.if-is_empty.false in
+    let is_dashes : bytes_eq c.in-Some.line.now dashes ≡ true = sym (c.if-eq.ensures ∙ ap (bytes_eq c.in-Some.line.now) c.as_bytes.ensures.value) in
+    found_at_dashes c.loop-line.number c.loop-line.found (lines c.loop-line.rest.now) (documents 1 [] (lines c.args.bytes.now)) c.loop-line.invariant.reads c.in-Some.line.now (lines c.in-Some.after.now) c.in-Some.ensures.found some is_dashes
+    ∙ ap Ok (place_is c.args.bytes.now c.in-Some.after.now c.loop-line.found (c.loop-line.number + 1) (end_of_end c.in-Some.after.now c.loop-line.rest.now c.args.bytes.now c.in-Some.ensures.ends c.loop-line.invariant.ends))
+
+pub returns-in_err-document-clause-gives : goal.returns-in_err-document-clause-gives
+returns-in_err-document-clause-gives c =
+    let some : eqb (length c.in-Some.line.now) 0 ≡ false = sym c.is_empty.ensures ∙ c.if-is_empty.false in
+    let no_dashes : bytes_eq c.in-Some.line.now dashes ≡ false = sym (c.if-eq.ensures ∙ ap (bytes_eq c.in-Some.line.now) c.as_bytes.ensures.value) in
+    let p = err_from_is_err_and c.from_residual.result c.from_residual.ensures.1 in
+    rw (p.1, p.2)
+    (document_fails c.loop-line.number c.loop-line.found (lines c.loop-line.rest.now) (documents 1 [] (lines c.args.bytes.now)) c.loop-line.invariant.reads c.in-Some.line.now (lines c.in-Some.after.now) c.in-Some.ensures.found some no_dashes
+    c.loop-line.seen c.loop-line.invariant.names c.in_err-document.field-0.0 c.in_err-document.ensures.gives)
+
+pub loop-line-preserved : goal.loop-line-preserved
+loop-line-preserved c =
+    let some : eqb (length c.in-Some.line.now) 0 ≡ false = sym c.is_empty.ensures ∙ c.if-is_empty.false in
+    let no_dashes : bytes_eq c.in-Some.line.now dashes ≡ false = sym (c.if-eq.ensures ∙ ap (bytes_eq c.in-Some.line.now) c.as_bytes.ensures.value) in
+    let document = c.in_ok-document.document in
+    rw (c.in_ok-push.ensures.ok, c.in_ok-document.ensures.noted)
+    (record {
+      reads =
+          goes_on c.loop-line.number c.loop-line.found (lines c.loop-line.rest.now) (documents 1 [] (lines c.args.bytes.now)) c.loop-line.invariant.reads c.in-Some.line.now (lines c.in-Some.after.now) c.in-Some.ensures.found some no_dashes
+          c.loop-line.seen c.loop-line.invariant.names document (lines c.in_ok-document.left.now) c.in_ok-document.ensures.gives;
+      names = names_more c.loop-line.seen c.loop-line.found document c.loop-line.invariant.names;
+      ends =
+          end_of_end c.in_ok-document.left.now c.in-Some.after.now c.args.bytes.now c.in_ok-document.ensures.ends
+          (end_of_end c.in-Some.after.now c.loop-line.rest.now c.args.bytes.now c.in-Some.ensures.ends c.loop-line.invariant.ends);
+      fits = omega (arith, c.in-Some.ensures.shorter, c.in_ok-document.ensures.shorter);
+    })
+
+pub returns-clause-gives : goal.returns-clause-gives
+returns-clause-gives c =
+    let nothing : lines c.loop-line.rest.now ≡ [] = ap lines c.in_default.ensures.found in
+    found_at_end c.loop-line.number c.loop-line.found (lines c.loop-line.rest.now) (documents 1 [] (lines c.args.bytes.now)) c.loop-line.invariant.reads nothing
+    ∙ ap (λ (left : List (List ℕ)). Ok (c.loop-line.found, c.loop-line.number, left)) (sym nothing)
+    ∙ ap Ok (place_is c.args.bytes.now c.loop-line.rest.now c.loop-line.found c.loop-line.number c.loop-line.invariant.ends)
