@@ -203,6 +203,12 @@ pub(crate) fn truth_in(value: &Value) -> Result<(), Cause>
     }
 }
 
+fn starts_task(command: &Command) -> bool
+    ensures { result ≡ spec.starts_task command.now }
+{
+    matches!(command, Command::Search { .. })
+}
+
 /// Whether one of the commands has this number, from 1, and starts a task.
 fn starts_at(commands: &[Command], number: u64) -> bool
     ensures { result ≡ spec.starts_at commands.now number }
@@ -210,7 +216,10 @@ fn starts_at(commands: &[Command], number: u64) -> bool
     let Some(place) = number.checked_sub(1) else {
         return false;
     };
-    matches!(commands.get(place as usize), Some(Command::Search { .. }))
+    match commands.get(place as usize) {
+        Some(command) => starts_task(command),
+        None => false,
+    }
 }
 
 /// The number of an earlier command that starts a task.

@@ -1,7 +1,20 @@
 ghost use Rattle.std.specs.Prelude.{◌≡◌};
 ghost use Rattle.script_lang.specs.Kinds.{kind_named, is_schedule};
 
+use crate::names::is_one_of;
 use task_ids::Cause;
+
+/// The commands that are still to come.
+const LATER_COMMANDS: [&str; 8] = [
+    "scroll",
+    "clear_scroll",
+    "reindex",
+    "list",
+    "tick",
+    "wait_for",
+    "summary",
+    "shuffle",
+];
 
 /// The kind of a command, which the key of its line names.
 #[derive(Clone, Copy, PartialEq, Eq)]
@@ -28,14 +41,7 @@ impl Kind {
             "list_step" => Ok(Kind::ListStep),
             "settle" => Ok(Kind::Settle),
             "history" => Ok(Kind::History),
-            "scroll"
-            | "clear_scroll"
-            | "reindex"
-            | "list"
-            | "tick"
-            | "wait_for"
-            | "summary"
-            | "shuffle" => Err(Cause::NotBuilt),
+            _ if is_one_of(name, &LATER_COMMANDS) => Err(Cause::NotBuilt),
             _ => Err(Cause::UnknownCommand),
         }
     }
