@@ -203,6 +203,7 @@ pub(crate) fn truth_in(value: &Value) -> Result<(), Cause>
     }
 }
 
+/// Whether a command starts a task.
 fn starts_task(command: &Command) -> bool
     ensures { result ≡ spec.starts_task command.now }
 {

@@ -183,6 +183,7 @@ impl SearchReply {
     }
 }
 
+/// An equal answer, in a box of its own.
 fn copy_search_reply(reply: &Boxed<SearchReply>) -> Result<Boxed<SearchReply>, AllocError>
     ensures { IfOk result (λ copy. copy ≡ reply.now) }
 {
@@ -190,6 +191,7 @@ fn copy_search_reply(reply: &Boxed<SearchReply>) -> Result<Boxed<SearchReply>, A
     Ok(Boxed::new(reply.allocator(), copy)?)
 }
 
+/// An equal top, in a box of its own.
 fn copy_top(top: &Boxed<ShardTop>) -> Result<Boxed<ShardTop>, AllocError>
     ensures { IfOk result (λ copy. copy ≡ top.now) }
 {
