@@ -99,8 +99,8 @@ first_append most kept all more before =
 
 -- ---- one more key of a filtered list
 
-pub filter_in : (p : HitKey → Bool) (keys : List HitKey) (key : HitKey) → p key ≡ true → filter p (keys ++ key ∷ []) ≡ filter p keys ++ key ∷ []
+pub filter_in : {X : Type 0} (p : X → Bool) (keys : List X) (key : X) → p key ≡ true → filter p (keys ++ key ∷ []) ≡ filter p keys ++ key ∷ []
 filter_in p keys key h = filter-append p keys (key ∷ []) ∙ ap (λ b. filter p keys ++ cond b (key ∷ []) []) h
 
-pub filter_out : (p : HitKey → Bool) (keys : List HitKey) (key : HitKey) → p key ≡ false → filter p (keys ++ key ∷ []) ≡ filter p keys
+pub filter_out : {X : Type 0} (p : X → Bool) (keys : List X) (key : X) → p key ≡ false → filter p (keys ++ key ∷ []) ≡ filter p keys
 filter_out p keys key h = filter-append p keys (key ∷ []) ∙ ap (λ b. filter p keys ++ cond b (key ∷ []) []) h ∙ append-nil (filter p keys)

@@ -4,7 +4,7 @@ ghost use Rattle.std.specs.Prelude.{◌≡◌, ◌==◌, ◌+◌, ◌∷◌, [],
 ghost use Rattle.std.specs.List.{sum_by, range_with_len, last_or};
 ghost use Rattle.task_events.specs.Answers.{context_of};
 ghost use Rattle.task_events.specs.Searches.{failure_of, counted, tops_in, search_reply};
-ghost use Rattle.search_phase.specs.FetchPhase.{fetching_of, answer_to, hits_in, failure_by, failed_by, hit_by};
+ghost use Rattle.search_phase.specs.FetchPhase.{tops_of, fetching_of, answer_to, hits_in, failure_by, failed_by, hit_by};
 
 use crate::fetching::{Fetching, tops_of};
 use std::alloc::{AllocError, Global};
@@ -229,6 +229,66 @@ fn context_of(task: TaskId, ask: &SearchAsk) -> Option<TaskId>
     }
 }
 
+/// What the queries counted: the counts of the shards, and their total.
+fn counted_in(alloc: Global, queries: &[Asked]) -> Result<(Items<ShardCount>, u64), AllocError>
+    requires { sum_by (λ top. top.count) (tops_of queries.now) < 2 ^ 64 }
+    ensures { IfOk result (λ counted_in. counted_in
+        ≡ (map counted (tops_of queries.now), sum_by (λ top. top.count) (tops_of queries.now))) }
+{
+    let tops = tops_of(alloc, queries)?;
+    let found = tops.as_slice();
+    let counts = counts_of(alloc, found)?;
+    let total = total_of(found);
+    Ok((counts, total))
+}
+
+/// What the fetches found: the documents of the winners, and the key of the last of these.
+fn shown(
+    alloc: Global,
+    fetching: &Fetching,
+    answers: &[Asked],
+) -> Result<(Items<Hit>, Option<HitKey>), AllocError>
+    ensures { IfOk result (λ shown. shown
+        ≡ (filter_map (hit_by fetching.now.fetches answers.now) fetching.now.won, last_or None fetching.now.won)) }
+{
+    let won = fetching.won.as_slice();
+    let hits = hits_of_winners(alloc, fetching.fetches.as_slice(), answers, won)?;
+    let last = last_of(won)?;
+    Ok((hits, last))
+}
+
+/// The reply of a search in which not all shards failed, given those that did.
+fn reply_with(
+    alloc: Global,
+    context: Option<TaskId>,
+    shards: u32,
+    asked: &[Asked],
+    fetching: &Fetching,
+    failed: Items<FailedShard>,
+) -> Result<SearchReply, AllocError>
+    requires all_asked { shards ≤ length asked.now }
+    requires total { sum_by (λ top. top.count) (tops_in shards asked.now) < 2 ^ 64 }
+    ensures { IfOk result (λ reply. reply ≡ record {
+      context = context;
+      shards = map counted (tops_in shards asked.now);
+      failed = failed;
+      total = sum_by (λ top. top.count) (tops_in shards asked.now);
+      hits = filter_map (hit_by fetching.now.fetches (drop shards asked.now)) fetching.now.won;
+      last = last_or None fetching.now.won;
+    }) }
+{
+    let (counts, total) = counted_in(alloc, queries(asked, shards))?;
+    let (hits, last) = shown(alloc, fetching, fetched(asked, shards))?;
+    Ok(SearchReply {
+        context,
+        shards: counts,
+        failed,
+        total,
+        hits,
+        last,
+    })
+}
+
 /// The reply of a search whose asks are all answered.
 pub(crate) fn answer(
     alloc: Global,
@@ -243,27 +303,12 @@ pub(crate) fn answer(
     requires total { sum_by (λ top. top.count) (tops_in shards asked.now) < 2 ^ 64 }
     ensures { IfOk result (λ reply. reply ≡ search_reply task ask.now shards asked.now) }
 {
-    let fetches = fetching.fetches.as_slice();
-    let failed = failed_shards(alloc, fetches, shards, asked)?;
+    let failed = failed_shards(alloc, fetching.fetches.as_slice(), shards, asked)?;
     let failures = failed.as_slice().len();
     if failures == shards as usize {
         return Ok(Reply::AllFailed(failed));
     }
-    let tops = tops_of(alloc, queries(asked, shards))?;
-    let found = tops.as_slice();
-    let won = fetching.won.as_slice();
-    let answers = fetched(asked, shards);
-    let counts = counts_of(alloc, found)?;
-    let total = total_of(found);
-    let hits = hits_of_winners(alloc, fetches, answers, won)?;
-    let last = last_of(won)?;
-    let reply = SearchReply {
-        context: context_of(task, ask),
-        shards: counts,
-        failed,
-        total,
-        hits,
-        last,
-    };
+    let context = context_of(task, ask);
+    let reply = reply_with(alloc, context, shards, asked, fetching, failed)?;
     Ok(Reply::Search(Boxed::new(alloc, reply)?))
 }

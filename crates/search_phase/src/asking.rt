@@ -1,6 +1,6 @@
 //! The requests of a search, by place.
 
-ghost use Rattle.std.specs.Prelude.{◌≡◌, IfOk, false, is_some, option_map, option_copied};
+ghost use Rattle.std.specs.Prelude.{◌≡◌, IfOk, Some, false, is_some, option_map, option_copied};
 ghost use Rattle.std.specs.Option.{option_map_or};
 ghost use Rattle.task_events.specs.declared.request.SearchAsk.{SearchAsk};
 ghost use Rattle.task_events.specs.Possible.{can_have};
@@ -25,6 +25,28 @@ fn query_of(ask: &SearchAsk, shard: u32) -> Result<ShardAsk, AllocError>
         after: None,
         slice: ask.slice,
     })
+}
+
+/// The request of the query of a shard.
+fn query_request(
+    alloc: Global,
+    ask: &SearchAsk,
+    shard: u32,
+) -> Result<Option<Request>, AllocError>
+    ensures { IfOk result (λ request. request ≡ Some (Request.Query (query_of ask.now shard))) }
+{
+    let query = query_of(ask, shard)?;
+    let query = Boxed::new(alloc, query)?;
+    Ok(Some(Request::Query(query)))
+}
+
+/// The request of a fetch, which is copied.
+fn fetch_request(alloc: Global, fetch: &FetchAsk) -> Result<Option<Request>, AllocError>
+    ensures { IfOk result (λ request. request ≡ Some (Request.Fetch fetch.now)) }
+{
+    let fetch = fetch.copy()?;
+    let fetch = Boxed::new(alloc, fetch)?;
+    Ok(Some(Request::Fetch(fetch)))
 }
 
 /// What the fetch phase asks for at a place.
@@ -55,14 +77,10 @@ pub(crate) fn request_at(
     ensures { IfOk result (λ request. request ≡ request_by ask.now shards fetching.now place) }
 {
     if place < shards as usize {
-        let query = query_of(ask, place as u32)?;
-        return Ok(Some(Request::Query(Boxed::new(alloc, query)?)));
+        return query_request(alloc, ask, place as u32);
     }
     match fetch_at(fetching, place - shards as usize) {
-        Some(fetch) => {
-            let fetch = fetch.copy()?;
-            Ok(Some(Request::Fetch(Boxed::new(alloc, fetch)?)))
-        }
+        Some(fetch) => fetch_request(alloc, fetch),
         None => Ok(None),
     }
 }
