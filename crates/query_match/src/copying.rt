@@ -9,19 +9,61 @@ use crate::query::{Node, Query, Range, Test};
 use crate::scalar::Scalar;
 use crate::sort::{KeyPart, SortBy};
 use crate::text::Text;
-use std::alloc::AllocError;
+use std::alloc::{AllocError, Global};
+
+/// A value that a copy is equal to.
+trait Copied: Drop {
+    fn copied(&self) -> Result<Self, AllocError>
+        ensures { IfOk result (λ copy. copy ≡ self.now) };
+}
+
+impl Copied for Text {
+    fn copied(&self) -> Result<Text, AllocError> {
+        self.copy()
+    }
+}
+
+impl Copied for Scalar {
+    fn copied(&self) -> Result<Scalar, AllocError> {
+        self.copy()
+    }
+}
+
+impl Copied for SortBy {
+    fn copied(&self) -> Result<SortBy, AllocError> {
+        self.copy()
+    }
+}
+
+impl Copied for KeyPart {
+    fn copied(&self) -> Result<KeyPart, AllocError> {
+        self.copy()
+    }
+}
+
+fn copies_of<X: Copied>(alloc: Global, items: &[X]) -> Result<Vec<X>, AllocError>
+    ensures { IfOk result (λ copies. copies.items ≡ items.now) }
+{
+    let mut copies = Vec::with_capacity(alloc, items.len())?;
+    for item in items {
+        copies.push(item.copied()?)?;
+    }
+    Ok(copies)
+}
+
+fn copy_items<X: Copied>(items: &Items<X>) -> Result<Items<X>, AllocError>
+    ensures { IfOk result (λ copies. copies ≡ items.now) }
+{
+    let copies = copies_of(items.allocator(), items.as_slice())?;
+    Ok(Items::from_vec(copies))
+}
 
 impl Items<Text> {
     /// Equal texts. It fails only for want of memory.
     pub fn copy(&self) -> Result<Items<Text>, AllocError>
         ensures { IfOk result (λ copies. copies ≡ self.now) }
     {
-        let items = self.as_slice();
-        let mut copies = Vec::with_capacity(self.allocator(), items.len())?;
-        for item in items {
-            copies.push(item.copy()?)?;
-        }
-        Ok(Items::from_vec(copies))
+        copy_items(self)
     }
 }
 
@@ -30,12 +72,7 @@ impl Items<Scalar> {
     pub fn copy(&self) -> Result<Items<Scalar>, AllocError>
         ensures { IfOk result (λ copies. copies ≡ self.now) }
     {
-        let items = self.as_slice();
-        let mut copies = Vec::with_capacity(self.allocator(), items.len())?;
-        for item in items {
-            copies.push(item.copy()?)?;
-        }
-        Ok(Items::from_vec(copies))
+        copy_items(self)
     }
 }
 
@@ -44,12 +81,7 @@ impl Items<SortBy> {
     pub fn copy(&self) -> Result<Items<SortBy>, AllocError>
         ensures { IfOk result (λ copies. copies ≡ self.now) }
     {
-        let items = self.as_slice();
-        let mut copies = Vec::with_capacity(self.allocator(), items.len())?;
-        for item in items {
-            copies.push(item.copy()?)?;
-        }
-        Ok(Items::from_vec(copies))
+        copy_items(self)
     }
 }
 
@@ -58,12 +90,7 @@ impl Items<KeyPart> {
     pub fn copy(&self) -> Result<Items<KeyPart>, AllocError>
         ensures { IfOk result (λ copies. copies ≡ self.now) }
     {
-        let items = self.as_slice();
-        let mut copies = Vec::with_capacity(self.allocator(), items.len())?;
-        for item in items {
-            copies.push(item.copy()?)?;
-        }
-        Ok(Items::from_vec(copies))
+        copy_items(self)
     }
 }
 
@@ -155,9 +182,11 @@ impl SearchBody {
     pub fn copy(&self) -> Result<SearchBody, AllocError>
         ensures { IfOk result (λ body. body ≡ self.now) }
     {
+        let sort = self.sort.copy()?;
+        let query = self.query.copy()?;
         Ok(SearchBody {
-            query: self.query.copy()?,
-            sort: self.sort.copy()?,
+            query,
+            sort,
             from: self.from,
             size: self.size,
         })
