@@ -28,11 +28,7 @@ fn query_of(ask: &SearchAsk, shard: u32) -> Result<ShardAsk, AllocError>
 }
 
 /// The request of the query of a shard.
-fn query_request(
-    alloc: Global,
-    ask: &SearchAsk,
-    shard: u32,
-) -> Result<Option<Request>, AllocError>
+fn query_request(alloc: Global, ask: &SearchAsk, shard: u32) -> Result<Option<Request>, AllocError>
     ensures { IfOk result (λ request. request ≡ Some (Request.Query (query_of ask.now shard))) }
 {
     let query = query_of(ask, shard)?;

@@ -1,18 +1,18 @@
 -- Each node is copied.
-use Rattle.std.proofs.Common.{◌≡◌, ◌+◌, ◌++◌, ◌∷◌, [], sym, ap, ◌∙◌, take, map}
+use Rattle.std.proofs.Common.{◌≡◌, ℕ, ◌+◌, ◌<◌, List, ◌++◌, ◌∷◌, [], sym, ap, ◌∙◌, take, map, length, get_or}
 use Rattle.std.proofs.lemmas.List.{take_more, take_all, map_push}
 use Rattle.query_match.specs.View.{query_view, queries_of}
 use Rattle.query_match.proofs.copying.+copying.Goals as goal
 
+one_more : {X Y : Type 0} (view : X → Y) (nodes copies more : List X) (i : ℕ) (node copy : X) → i < length nodes → node ≡ get_or nodes i node → map view copies ≡ map view (take i nodes) → view copy ≡ view node → more ≡ copies ++ copy ∷ []
+    → map view more ≡ map view (take (i + 1) nodes)
+one_more view nodes copies more i node copy l e so_far same pushed =
+    ap (map view) pushed ∙ map_push view copies copy ∙ (λ j. so_far j ++ same j ∷ [])
+    ∙ sym (ap (map view) (take_more nodes i node l ∙ ap (λ x. take i nodes ++ x ∷ []) (sym e)) ∙ map_push view (take i nodes) node)
+
 pub copy_nodes-loop-node-preserved : goal.copy_nodes-loop-node-preserved
 copy_nodes-loop-node-preserved t c =
-    let nodes = c.deref-node-items.result.now in
-    let i = c.loop-node.node-index in
-    let x = c.node-item.result in
-    let more : take (i + 1) nodes ≡ take i nodes ++ x ∷ [] = take_more nodes i x c.loop-node-test.true ∙ ap (λ y. take i nodes ++ y ∷ []) (sym c.node-item.is) in
-    ap (map query_view) c.in_ok-push.ensures.items ∙ map_push query_view c.loop-node.copies.items c.in_ok-copy_node.field-0
-    ∙ (λ j. c.loop-node.invariant j ++ c.in_ok-copy_node.ensures j ∷ [])
-    ∙ sym (ap (map query_view) more ∙ map_push query_view (take i nodes) x)
+    one_more query_view _ _ _ _ _ _ c.loop-node-test.true c.node-item.is c.loop-node.invariant c.in_ok-copy_node.ensures c.in_ok-push.ensures.items
 
 pub copy_nodes-returns : goal.copy_nodes-returns
 copy_nodes-returns t c =
