@@ -13,6 +13,7 @@ ghost use Rattle.world_moves.specs.Ties.{IsTied, Keeps, task_at};
 
 use crate::append::append;
 use crate::flight::Sent;
+use crate::giving_up::give_up;
 use crate::running::Running;
 use crate::sending::send;
 use crate::state::State;
@@ -78,9 +79,21 @@ pub fn ask(state: &mut State<'_>, task: TaskId, request: Request) -> Result<(), 
     let Some(running) = state.tasks.get_mut(&task) else {
         unreachable!()
     };
-    let token = running.ask(to)?;
+    let token = match running.ask(to) {
+        Ok(token) => token,
+        Err(stop) => {
+            give_up(request);
+            return Err(stop);
+        }
+    };
     let number = token.ask();
-    send(&mut state.flight, Sent::Request { token, to, at })?;
+    match send(&mut state.flight, Sent::Request { token, to, at }) {
+        Ok(()) => {}
+        Err(stop) => {
+            give_up(request);
+            return Err(stop);
+        }
+    }
     append(
         &mut state.history,
         Event::Ask {

@@ -9,6 +9,7 @@ ghost use Rattle.world_moves.specs.Ties.{IsTied, Keeps, KeepsLaws};
 
 use crate::append::append;
 use crate::flight::Notice;
+use crate::giving_up::give_up;
 use crate::listing::Listing;
 use crate::performing::perform;
 use crate::state::State;
@@ -34,7 +35,8 @@ fn deliver_ban(
     ensures full { result ≡ Err Stop.HistoryFull → length state.old.history ≡ MAX_EVENTS }
     ensures numbers { result ≡ Err Stop.NumbersSpent → ⊥ }
 {
-    let _ban = state.flight.take(nth);
+    let ban = state.flight.take(nth);
+    give_up(ban);
     match state.bans[node as usize - 1].put(parent, cancel) {
         Ok(BanPut::Put) => {}
         Ok(BanPut::There(_)) => unreachable!(),
@@ -70,7 +72,8 @@ fn deliver_ack(state: &mut State<'_>, nth: usize, parent: TaskId, node: u32) -> 
     ensures full { result ≡ Err Stop.HistoryFull → length state.new.history ≡ MAX_EVENTS }
     ensures numbers { result ≡ Err Stop.NumbersSpent → ⊥ }
 {
-    let _ack = state.flight.take(nth);
+    let ack = state.flight.take(nth);
+    give_up(ack);
     let Ok(acts) = state.cores[parent.node as usize - 1].acked(parent, node) else {
         return Err(Stop::Memory);
     };
@@ -96,7 +99,8 @@ fn deliver_unban(state: &mut State<'_>, nth: usize, parent: TaskId, node: u32) -
     ensures full { result ≡ Err Stop.HistoryFull → length state.old.history ≡ MAX_EVENTS }
     ensures numbers { result ≡ Err Stop.NumbersSpent → ⊥ }
 {
-    let _unban = state.flight.take(nth);
+    let unban = state.flight.take(nth);
+    give_up(unban);
     let _stood = state.bans[node as usize - 1].remove(parent);
     append(&mut state.history, Event::BanGone { node, parent })?;
     Ok(())

@@ -16,6 +16,7 @@ ghost use Rattle.world_moves.specs.Ties.{IsTied, Keeps, HasShards, DoesNext, tas
 
 use crate::append::append;
 use crate::flight::{Flight, Sent};
+use crate::giving_up::give_up;
 use crate::performing::perform;
 use crate::running::Running;
 use crate::sending::send;
@@ -72,7 +73,13 @@ pub fn finish(state: &mut State<'_>, task: TaskId, reply: Reply) -> Result<(), S
         unreachable!()
     };
     let receipt = end_in(&mut state.tables[task.node as usize - 1], running);
-    tell_parent(&mut state.flight, receipt, state.history.len())?;
+    match tell_parent(&mut state.flight, receipt, state.history.len()) {
+        Ok(()) => {}
+        Err(stop) => {
+            give_up(reply);
+            return Err(stop);
+        }
+    }
     append(&mut state.history, Event::End { task, reply })?;
     Ok(())
 }
@@ -98,7 +105,13 @@ fn leave(state: &mut State<'_>, task: TaskId, event: Event) -> Result<(), Stop>
         unreachable!()
     };
     let receipt = end_in(&mut state.tables[place], running);
-    tell_parent(&mut state.flight, receipt, state.history.len())?;
+    match tell_parent(&mut state.flight, receipt, state.history.len()) {
+        Ok(()) => {}
+        Err(stop) => {
+            give_up(event);
+            return Err(stop);
+        }
+    }
     append(&mut state.history, event)?;
     let core = &mut state.cores[place];
     if !core.has(task) {

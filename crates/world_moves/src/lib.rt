@@ -9,6 +9,7 @@ pub mod asks;
 pub mod bans;
 pub mod ends;
 pub mod flight;
+mod giving_up;
 pub mod listing;
 pub mod listings;
 pub mod marks;

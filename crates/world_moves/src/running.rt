@@ -1,5 +1,6 @@
 ghost use Rattle.std.specs.Prelude.{◌≡◌};
 
+use crate::giving_up::give_up;
 use child_track::ChildTrack;
 use task_table::Ticket;
 use task_work::Work;
@@ -24,9 +25,10 @@ impl Running {
         let Running {
             ticket,
             track,
-            work: _work,
+            work,
             is_new: _,
         } = self;
+        give_up(work);
         (ticket, track)
     }
 }
@@ -36,10 +38,12 @@ impl Drop for Running {
     fn drop(self) {
         let Running {
             ticket,
-            track: _track,
-            work: _work,
+            track,
+            work,
             is_new: _,
         } = self;
         ticket.give_up();
+        give_up(work);
+        give_up(track);
     }
 }

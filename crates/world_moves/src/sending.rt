@@ -3,6 +3,7 @@
 ghost use Rattle.std.specs.Prelude.{◌≡◌, ◌++◌, ◌∷◌, [], IfErr, OnOk, OnErr};
 
 use crate::flight::{Flight, Sent};
+use crate::giving_up::give_up;
 use task_events::Stop;
 
 /// Sends a message after all others. Where memory runs out it is given up, and nothing has changed.
@@ -13,6 +14,9 @@ pub(crate) fn send(flight: &mut Flight, sent: Sent) -> Result<(), Stop>
 {
     match flight.send(sent) {
         Ok(()) => Ok(()),
-        Err(_) => Err(Stop::Memory),
+        Err(failed) => {
+            give_up(failed);
+            Err(Stop::Memory)
+        }
     }
 }

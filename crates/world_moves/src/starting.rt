@@ -16,6 +16,7 @@ ghost use Rattle.world_moves.specs.Moves.{greatest_number};
 ghost use Rattle.world_moves.specs.Ties.{task_at};
 
 use crate::append::append;
+use crate::giving_up::give_up;
 use crate::running::Running;
 use child_track::{AskToken, ChildTrack};
 use std::alloc::Global;
@@ -134,8 +135,12 @@ pub fn keep(
 {
     let task = running.ticket.id();
     match tasks.insert(task, running) {
-        Ok(_) => (),
-        Err(_) => return Err(Stop::Memory),
+        Ok(before) => give_up(before),
+        Err(refused) => {
+            give_up(refused);
+            give_up(event);
+            return Err(Stop::Memory);
+        }
     }
     append(history, event)
 }

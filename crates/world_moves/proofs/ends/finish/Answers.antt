@@ -58,7 +58,7 @@ returns-clause-tied c =
     record {
       ties =
           same_ties s.cluster s.corpus.now s.script.now _ _ _ _ _ _ _ c.in_ok-append.ensures.ok (ap (slice_set s.tables.items (c.args.task.node - 1)) row)
-          (c.in_ok-tell_parent.ensures.ok ∙ ap (λ at. s.flight ++ told_parent c.end_in-receipt.result at) c.len.ensures)
+          (c.in-Ok.ensures.ok ∙ ap (λ at. s.flight ++ told_parent c.end_in-receipt.result at) c.len.ensures)
           (after_finish s.cluster s.corpus.now s.script.now s.history _ _ _ c.requires.tied.ties c.requires.shards.few c.args.task r c.args.reply c.requires.live c.requires.passed c.requires.unmarked was next c.requires.tied.awaits
           c.index_mut.result.now c.end_in-receipt.result _ its c.end_in-receipt.ensures.receipt (at_changed c.args.task None (task_at s.tasks) _ changed) (off_changed c.args.task None (task_at s.tasks) _ changed));
       cancels =

@@ -50,15 +50,15 @@ end_in-receipt-requires-clause-answered c =
     let was = sym c.remove.ensures.value ∙ c.in-Some.is in
     leaver_open s.cluster s.corpus.now s.script.now s.history _ _ _ c.requires.tied.ties c.args.task c.args.event c.requires.leaves c.in-Some.running was
 
-pub returns-in_err-tell_parent-clause-part : goal.returns-in_err-tell_parent-clause-part
-returns-in_err-tell_parent-clause-part c =
+pub returns-in-Err-clause-part : goal.returns-in-Err-clause-part
+returns-in-Err-clause-part c =
     let h = c.args.state.now.history in
-    on_err c.from_residual.result _ (none_part h (reverse (due_answers c.args.task (c.args.event ∷ h))) c.args.event)
+    none_part h (reverse (due_answers c.args.task (c.args.event ∷ h))) c.args.event
 
 pub returns-in_err-append-clause-part : goal.returns-in_err-append-clause-part
 returns-in_err-append-clause-part c =
     let h = c.args.state.now.history in
-    on_err c.from_residual-in_err-append.result _
+    on_err c.from_residual.result _
     (rw c.in_err-append.ensures.err (none_part h (reverse (due_answers c.args.task (c.args.event ∷ h))) c.args.event))
 
 pub index_mut-core-requires : goal.index_mut-core-requires
@@ -97,7 +97,7 @@ returns-then-not-has-clause-tied c =
     record {
       ties =
           same_ties s.cluster s.corpus.now s.script.now _ _ _ _ _ _ _ c.in_ok-append.ensures.ok (ap (slice_set s.tables.items (c.args.task.node - 1)) row)
-          (c.in_ok-tell_parent.ensures.ok ∙ ap (λ at. s.flight ++ told_parent c.end_in-receipt.result at) c.len.ensures)
+          (c.in-Ok.ensures.ok ∙ ap (λ at. s.flight ++ told_parent c.end_in-receipt.result at) c.len.ensures)
           (after_unmarked s.cluster s.corpus.now s.script.now s.history _ _ _ c.requires.tied.ties c.args.task e c.requires.leaves r was c.requires.tied.awaits unmarked
           c.index_mut.result.now c.end_in-receipt.result _ its c.end_in-receipt.ensures.receipt (at_changed c.args.task None (task_at s.tasks) _ changed) (off_changed c.args.task None (task_at s.tasks) _ changed));
       cancels =
@@ -134,7 +134,7 @@ returns-in_err-perform-clause-part c =
     let known = known_there s.cluster s.history s.tables.items _ s.bans.items s.cores.items s.listings c.requires.tied.cancels c.requires.tied.ties.lawful c.args.task live core c.index_mut-core.ensures.value
     (sym c.has.ensures ∙ c.if-not-has.false) in
     let part = part_then c.args.task c.args.event s.history (leaves_so c.args.task s.history c.args.event c.requires.leaves) (entry_of core c.args.task) c.end_in-receipt.result known c.as_slice.result.now
-    (c.as_slice.ensures.value ∙ c.in-Ok.ensures.acts) c.append.new.history c.perform.new.history c.in_ok-append.ensures.ok c.in_err-perform.ensures.part in
+    (c.as_slice.ensures.value ∙ c.in-Ok-ended.ensures.acts) c.append.new.history c.perform.new.history c.in_ok-append.ensures.ok c.in_err-perform.ensures.part in
     on_err c.from_residual-in_err-perform.result _ (later_part c.args.event s.history c.perform.new.history _ part)
 
 pub returns-in_err-perform-clause-laws : goal.returns-in_err-perform-clause-laws
@@ -148,7 +148,7 @@ returns-in_err-perform-clause-laws c =
     let known = known_there s.cluster s.history s.tables.items _ s.bans.items s.cores.items s.listings c.requires.tied.cancels c.requires.tied.ties.lawful c.args.task live core c.index_mut-core.ensures.value
     (sym c.has.ensures ∙ c.if-not-has.false) in
     let part = part_then c.args.task e s.history leaves (entry_of core c.args.task) c.end_in-receipt.result known c.as_slice.result.now
-    (c.as_slice.ensures.value ∙ c.in-Ok.ensures.acts) c.append.new.history c.perform.new.history c.in_ok-append.ensures.ok c.in_err-perform.ensures.part in
+    (c.as_slice.ensures.value ∙ c.in-Ok-ended.ensures.acts) c.append.new.history c.perform.new.history c.in_ok-append.ensures.ok c.in_err-perform.ensures.part in
     on_err c.from_residual-in_err-perform.result _ (record {
       lawful = part_lawful s.cluster s.corpus.now s.script.now (e ∷ s.history) c.perform.new.history _ part
           (answers_lawful s.cluster c.args.task (e ∷ s.history) (left_lawful c.args.task s.history s.cluster c.requires.tied.ties.lawful c.requires.tied.awaits e m) (awaits_none c.args.task s.history e m)
@@ -166,7 +166,7 @@ returns-clause-happened c =
     (sym c.has.ensures ∙ c.if-not-has.false) in
     c.in_ok-perform.ensures.answered ∙ ap (λ past. answers_in c.as_slice.result.now ++ past) c.in_ok-append.ensures.ok
     ∙ answered_then c.args.task c.args.event s.history (leaves_so c.args.task s.history c.args.event c.requires.leaves) (entry_of core c.args.task) c.end_in-receipt.result known c.as_slice.result.now
-    (c.as_slice.ensures.value ∙ c.in-Ok.ensures.acts)
+    (c.as_slice.ensures.value ∙ c.in-Ok-ended.ensures.acts)
 
 pub returns-clause-tied : goal.returns-clause-tied
 returns-clause-tied c =
@@ -187,18 +187,18 @@ returns-clause-tied c =
     (sym c.has.ensures ∙ c.if-not-has.false) in
     let at_core = core_is s.cluster s.history s.tables.items _ s.bans.items s.cores.items s.listings c.requires.tied.cancels c.requires.tied.ties.lawful c.args.task live core c.index_mut-core.ensures.value in
     let row = c.end_in-receipt.ensures.row ∙ ap (λ id. without_task c.index_mut.result.now id.number) (runs s.cluster s.corpus.now s.script.now s.history _ _ _ c.requires.tied.ties c.args.task live r was).id in
-    let sent = sent_then c.args.task e s.history leaves (entry_of core c.args.task) receipt known acts (c.as_slice.ensures.value ∙ c.in-Ok.ensures.acts) c.args.task.node in
+    let sent = sent_then c.args.task e s.history leaves (entry_of core c.args.task) receipt known acts (c.as_slice.ensures.value ∙ c.in-Ok-ended.ensures.acts) c.args.task.node in
     let one = one_task_left c.args.task s.history e leaves c.requires.tied.cancels.one_task in
     let happened = returns-clause-happened c in
     record {
       ties =
           same_ties s.cluster s.corpus.now s.script.now _ _ _ _ _ _ _ happened (ap (slice_set s.tables.items (c.args.task.node - 1)) row)
-          (c.in_ok-perform.ensures.sent ∙ ap (λ queue. queue ++ messages_in c.args.task.node acts) (c.in_ok-tell_parent.ensures.ok ∙ ap (λ at. s.flight ++ told_parent receipt at) c.len.ensures))
+          (c.in_ok-perform.ensures.sent ∙ ap (λ queue. queue ++ messages_in c.args.task.node acts) (c.in-Ok.ensures.ok ∙ ap (λ at. s.flight ++ told_parent receipt at) c.len.ensures))
           (answers_tied s.cluster c.args.task (e ∷ s.history) s.corpus.now s.script.now _ _ _
           (after_cancelled s.cluster s.corpus.now s.script.now s.history _ _ _ c.requires.tied.ties c.args.task e m r was c.requires.tied.awaits
           c.index_mut.result.now receipt _ (messages_in c.args.task.node acts) its c.end_in-receipt.ensures.receipt (at_changed c.args.task None (task_at s.tasks) _ changed) (off_changed c.args.task None (task_at s.tasks) _ changed) sent) awaits one);
       cancels =
-          rw (happened, row, c.in-Ok.ensures.ended)
+          rw (happened, row, c.in-Ok-ended.ensures.ended)
           (answers_noted s.cluster c.args.task (e ∷ s.history) _ _ _ _ _ (left_lawful c.args.task s.history s.cluster c.requires.tied.ties.lawful c.requires.tied.awaits e m)
           (noted_ended c.args.task s.history e leaves s.cluster s.tables.items _ s.bans.items s.cores.items s.listings c.index_mut.result.now core (entry_of core c.args.task) receipt its at_core known c.requires.tied.cancels));
       awaits = rw happened (answers_await s.cluster c.args.task (e ∷ s.history) awaits);
