@@ -1,4 +1,4 @@
-ghost use Rattle.std.specs.Prelude.{◌≡◌, ◌∷◌, ◌≤◌, ◌↔◌, length, Err, OnOk, OnErr};
+ghost use Rattle.std.specs.Prelude.{◌≡◌, ◌∷◌, ◌≤◌, ◌↔◌, length, Err, IsOk, IfErr, OnOk, OnErr};
 ghost use Rattle.task_events.specs.declared.history.TheConstants.{MAX_EVENTS};
 ghost use Rattle.task_events.specs.declared.history.PushError.TheVariants as push_errors;
 ghost use Rattle.task_events.specs.History.{returned};
@@ -6,14 +6,16 @@ ghost use Rattle.task_events.specs.History.{returned};
 use crate::giving_up::give_up;
 use task_events::{Event, History, PushError, Stop};
 
-/// Why an event was not added.
-fn stop_of(error: &PushError) -> Stop
-    ensures full { (result ≡ Stop.HistoryFull) ↔ (error.now ≡ push_errors.Full (returned error.now)) }
-    ensures numbers { result ≡ Stop.NumbersSpent → ⊥ }
+/// What came of adding an event.
+fn outcome_of(pushed: &Result<(), PushError>) -> Result<(), Stop>
+    ensures ok { IsOk result ↔ IsOk pushed.now }
+    ensures full { IfErr pushed.now (λ error. (result ≡ Err Stop.HistoryFull) ↔ (error ≡ push_errors.Full (returned error))) }
+    ensures numbers { result ≡ Err Stop.NumbersSpent → ⊥ }
 {
-    match error {
-        PushError::Full(_) => Stop::HistoryFull,
-        PushError::Memory(_) => Stop::Memory,
+    match pushed {
+        Ok(()) => Ok(()),
+        Err(PushError::Full(_)) => Err(Stop::HistoryFull),
+        Err(PushError::Memory(_)) => Err(Stop::Memory),
     }
 }
 
@@ -25,12 +27,8 @@ pub fn append(history: &mut History, event: Event) -> Result<(), Stop>
     ensures full { (result ≡ Err Stop.HistoryFull) ↔ (length history.old ≡ MAX_EVENTS) }
     ensures numbers { (result ≡ Err Stop.NumbersSpent) → ⊥ }
 {
-    match history.push(event) {
-        Ok(()) => Ok(()),
-        Err(error) => {
-            let stop = stop_of(&error);
-            give_up(error);
-            Err(stop)
-        }
-    }
+    let pushed = history.push(event);
+    let outcome = outcome_of(&pushed);
+    give_up(pushed);
+    outcome
 }
