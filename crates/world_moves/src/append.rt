@@ -3,7 +3,6 @@ ghost use Rattle.task_events.specs.declared.history.TheConstants.{MAX_EVENTS};
 ghost use Rattle.task_events.specs.declared.history.PushError.TheVariants as push_errors;
 ghost use Rattle.task_events.specs.History.{returned};
 
-use crate::giving_up::give_up;
 use task_events::{Event, History, PushError, Stop};
 
 /// What came of adding an event.
@@ -29,6 +28,6 @@ pub fn append(history: &mut History, event: Event) -> Result<(), Stop>
 {
     let pushed = history.push(event);
     let outcome = outcome_of(&pushed);
-    give_up(pushed);
+    drop(pushed);
     outcome
 }

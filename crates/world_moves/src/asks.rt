@@ -13,7 +13,6 @@ ghost use Rattle.world_moves.specs.Ties.{IsTied, Keeps, task_at};
 
 use crate::append::append;
 use crate::flight::Sent;
-use crate::giving_up::give_up;
 use crate::running::Running;
 use crate::sending::send;
 use crate::state::State;
@@ -82,7 +81,7 @@ pub fn ask(state: &mut State<'_>, task: TaskId, request: Request) -> Result<(), 
     let token = match running.ask(to) {
         Ok(token) => token,
         Err(stop) => {
-            give_up(request);
+            drop(request);
             return Err(stop);
         }
     };
@@ -90,7 +89,7 @@ pub fn ask(state: &mut State<'_>, task: TaskId, request: Request) -> Result<(), 
     match send(&mut state.flight, Sent::Request { token, to, at }) {
         Ok(()) => {}
         Err(stop) => {
-            give_up(request);
+            drop(request);
             return Err(stop);
         }
     }

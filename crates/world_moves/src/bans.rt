@@ -9,7 +9,6 @@ ghost use Rattle.world_moves.specs.Ties.{IsTied, Keeps, KeepsLaws};
 
 use crate::append::append;
 use crate::flight::Notice;
-use crate::giving_up::give_up;
 use crate::listing::Listing;
 use crate::performing::perform;
 use crate::state::State;
@@ -36,7 +35,7 @@ fn deliver_ban(
     ensures numbers { result ≡ Err Stop.NumbersSpent → ⊥ }
 {
     let ban = state.flight.take(nth);
-    give_up(ban);
+    drop(ban);
     match state.bans[node as usize - 1].put(parent, cancel) {
         Ok(BanPut::Put) => {}
         Ok(BanPut::There(_)) => unreachable!(),
@@ -73,7 +72,7 @@ fn deliver_ack(state: &mut State<'_>, nth: usize, parent: TaskId, node: u32) -> 
     ensures numbers { result ≡ Err Stop.NumbersSpent → ⊥ }
 {
     let ack = state.flight.take(nth);
-    give_up(ack);
+    drop(ack);
     let Ok(acts) = state.cores[parent.node as usize - 1].acked(parent, node) else {
         return Err(Stop::Memory);
     };
@@ -100,7 +99,7 @@ fn deliver_unban(state: &mut State<'_>, nth: usize, parent: TaskId, node: u32) -
     ensures numbers { result ≡ Err Stop.NumbersSpent → ⊥ }
 {
     let unban = state.flight.take(nth);
-    give_up(unban);
+    drop(unban);
     let _stood = state.bans[node as usize - 1].remove(parent);
     append(&mut state.history, Event::BanGone { node, parent })?;
     Ok(())

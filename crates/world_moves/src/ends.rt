@@ -16,7 +16,6 @@ ghost use Rattle.world_moves.specs.Ties.{IsTied, Keeps, HasShards, DoesNext, tas
 
 use crate::append::append;
 use crate::flight::{Flight, Sent};
-use crate::giving_up::give_up;
 use crate::performing::perform;
 use crate::running::Running;
 use crate::sending::send;
@@ -76,7 +75,7 @@ pub fn finish(state: &mut State<'_>, task: TaskId, reply: Reply) -> Result<(), S
     match tell_parent(&mut state.flight, receipt, state.history.len()) {
         Ok(()) => {}
         Err(stop) => {
-            give_up(reply);
+            drop(reply);
             return Err(stop);
         }
     }
@@ -108,7 +107,7 @@ fn leave(state: &mut State<'_>, task: TaskId, event: Event) -> Result<(), Stop>
     match tell_parent(&mut state.flight, receipt, state.history.len()) {
         Ok(()) => {}
         Err(stop) => {
-            give_up(event);
+            drop(event);
             return Err(stop);
         }
     }

@@ -9,7 +9,6 @@ pub mod asks;
 pub mod bans;
 pub mod ends;
 pub mod flight;
-mod giving_up;
 pub mod listing;
 pub mod listings;
 pub mod marks;

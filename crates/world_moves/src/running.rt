@@ -1,6 +1,5 @@
 ghost use Rattle.std.specs.Prelude.{◌≡◌};
 
-use crate::giving_up::give_up;
 use child_track::ChildTrack;
 use task_table::Ticket;
 use task_work::Work;
@@ -28,7 +27,7 @@ impl Running {
             work,
             is_new: _,
         } = self;
-        give_up(work);
+        drop(work);
         (ticket, track)
     }
 }
@@ -43,7 +42,7 @@ impl Drop for Running {
             is_new: _,
         } = self;
         ticket.give_up();
-        give_up(work);
-        give_up(track);
+        drop(work);
+        drop(track);
     }
 }

@@ -3,7 +3,6 @@
 ghost use Rattle.std.specs.Prelude.{◌≡◌, ◌++◌, ◌∷◌, [], IfErr, OnOk, OnErr};
 
 use crate::flight::{Flight, Sent};
-use crate::giving_up::give_up;
 use task_events::Stop;
 
 /// Sends a message after all others. Where memory runs out it is given up, and nothing has changed.
@@ -15,7 +14,7 @@ pub(crate) fn send(flight: &mut Flight, sent: Sent) -> Result<(), Stop>
     match flight.send(sent) {
         Ok(()) => Ok(()),
         Err(failed) => {
-            give_up(failed);
+            drop(failed);
             Err(Stop::Memory)
         }
     }

@@ -16,7 +16,6 @@ ghost use Rattle.world_moves.specs.Moves.{greatest_number};
 ghost use Rattle.world_moves.specs.Ties.{task_at};
 
 use crate::append::append;
-use crate::giving_up::give_up;
 use crate::running::Running;
 use child_track::{AskToken, ChildTrack};
 use std::alloc::Global;
@@ -135,10 +134,10 @@ pub fn keep(
 {
     let task = running.ticket.id();
     match tasks.insert(task, running) {
-        Ok(before) => give_up(before),
+        Ok(before) => drop(before),
         Err(refused) => {
-            give_up(refused);
-            give_up(event);
+            drop(refused);
+            drop(event);
             return Err(Stop::Memory);
         }
     }
