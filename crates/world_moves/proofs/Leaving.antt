@@ -1,5 +1,5 @@
 -- The tables fit the past after a task has left.
-use Rattle.std.proofs.Common.{◌≡◌, ℕ, ◌+◌, ◌-◌, ◌≤◌, Bool, true, false, not, cond, List, [], ◌∷◌, ◌++◌, length, map, filter, get_or, Option, Some, None, refl, sym, ap, subst, ◌∙◌, arith}
+use Rattle.std.proofs.Common.{◌≡◌, ℕ, ◌-◌, ◌≤◌, Bool, true, false, not, cond, List, [], ◌∷◌, ◌++◌, length, map, filter, get_or, Option, Some, None, refl, sym, ap, subst, ◌∙◌, arith}
 use Rattle.std.specs.Prelude.{slice_get, slice_set, is_some, count_by, option_map, Any, ◌&&◌}
 use Rattle.std.specs.List.{AllByRecursion}
 use Rattle.std.proofs.lemmas.List.{map-append}
@@ -21,7 +21,6 @@ use Rattle.task_events.specs.Messages.Message.{Answer, Unban}
 use Rattle.task_events.specs.Bans.{mark_of, banned_nodes, unbans_are_sent}
 use Rattle.task_events.specs.Tasks.{is_live, has_ended, parent_of, ask_of, live_tasks, last_number, no_counts}
 use Rattle.task_laws.proofs.Reach.{reach_facts}
-use Rattle.task_laws.proofs.Numbers.{number}
 use Rattle.task_laws.proofs.Same.{same_tests}
 use Rattle.script_lang.specs.declared.command.Script.{Script}
 use Rattle.world_moves.specs.declared.flight.Sent.{Sent}
