@@ -136,12 +136,18 @@ window_at zero least ms = do
   size ← size_of least (get_member (codes "size") ms)
   if nat_le (from + size) 10000 then Ok (from, size) else Err (WindowTooLarge (from + size))
 
+-- the sort of the hits, and their window
+unfoldable pub hits_at : Bool → ℕ → Members → Result (List SortBy × (ℕ × ℕ)) BodyError
+hits_at zero least ms = do
+  sort ← sort_of (get_member (codes "sort") ms)
+  window ← window_at zero least ms
+  Ok (sort, window)
+
 unfoldable pub known_body_at : Bool → ℕ → Members → Result SearchBody BodyError
 known_body_at zero least ms = do
   query ← query_of (get_member (codes "query") ms)
-  sort ← sort_of (get_member (codes "sort") ms)
-  window ← window_at zero least ms
-  Ok (record { query = query; sort = sort; from = window.0; size = window.1 })
+  hits ← hits_at zero least ms
+  Ok (record { query = query; sort = hits.0; from = hits.1.0; size = hits.1.1 })
 
 abbrev pub body_unless : Option (List ℕ) → Result SearchBody BodyError → Result SearchBody BodyError
 body_unless None read = read

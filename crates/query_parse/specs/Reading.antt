@@ -6,6 +6,7 @@ use Rattle.std.specs.Cmp.Lexicographic.{slice_cmp}
 use Rattle.serde_json.specs.Data.{Data, null, boolean, number, string, array, object, Items, no_items, item, Members, no_members, member}
 use Rattle.serde_json.specs.Find.{get_member, as_array, as_object, as_str, as_number, as_u64}
 use Rattle.query_match.specs.declared.scalar.Scalar.{Scalar}
+use Rattle.query_match.specs.declared.query.Test.{Test}
 use Rattle.query_match.specs.declared.query.Test.TheVariants.{Equals, OneOf, Within, Starts, Exists}
 use Rattle.query_match.specs.declared.query.Range.{Range}
 use Rattle.query_parse.specs.declared.fault.QueryFault.TheVariants.{UnknownQuery, BadValue, NotOneKey}
@@ -82,20 +83,32 @@ unfoldable pub empty_at : List ℕ → Data → Result (Unit {0}) QueryError
 empty_at path (object no_members) = Ok tt
 empty_at path _ = bad_value path
 
+-- `v` or `{"value": v}`, at the path of a field
+unfoldable pub equals_at : List ℕ → Data → Result Test QueryError
+equals_at path d = do
+  v ← needs (unwrapped path d).0 (value_of (unwrapped path d).1)
+  Ok (Equals v)
+
 -- `{f: v}` or `{f: {"value": v}}`
 unfoldable pub term_at : List ℕ → Data → Result Query QueryError
 term_at path d = do
   m ← needs path (only_member d)
-  v ← needs (unwrapped (under path m.0) m.1).0 (value_of (unwrapped (under path m.0) m.1).1)
-  Ok (field m.0 (Equals v))
+  t ← equals_at (under path m.0) m.1
+  Ok (field m.0 t)
+
+-- `[v, v]`, at the path of a field
+unfoldable pub one_of_at : List ℕ → Data → Result Test QueryError
+one_of_at path d = do
+  ds ← needs path (as_array d)
+  vs ← each_at value_of path 0 ds
+  Ok (OneOf vs)
 
 -- `{f: [v, v]}`
 unfoldable pub terms_at : List ℕ → Data → Result Query QueryError
 terms_at path d = do
   m ← needs path (only_member d)
-  ds ← needs (under path m.0) (as_array m.1)
-  vs ← each_at value_of (under path m.0) 0 ds
-  Ok (field m.0 (OneOf vs))
+  t ← one_of_at (under path m.0) m.1
+  Ok (field m.0 t)
 
 abbrev pub optional_at : {A : Type 0} → (Data → Option A) → List ℕ → Option Data → Result (Option A) QueryError
 optional_at reads path None = Ok None
@@ -115,20 +128,32 @@ bounds_at path ms = do
   to ← bound_at path (codes "lte") ms
   Ok (record { above = above; from = from; below = below; to = to })
 
+-- `{"gte", "gt", "lte", "lt"}`, at the path of a field
+unfoldable pub within_at : List ℕ → Data → Result Test QueryError
+within_at path d = do
+  ms ← needs path (as_object d)
+  range ← bounds_at path ms
+  Ok (Within range)
+
 -- `{f: {"gte", "gt", "lte", "lt"}}`
 unfoldable pub range_at : List ℕ → Data → Result Query QueryError
 range_at path d = do
   m ← needs path (only_member d)
-  ms ← needs (under path m.0) (as_object m.1)
-  range ← bounds_at (under path m.0) ms
-  Ok (field m.0 (Within range))
+  t ← within_at (under path m.0) m.1
+  Ok (field m.0 t)
+
+-- `t` or `{"value": t}`, at the path of a field
+unfoldable pub starts_at : List ℕ → Data → Result Test QueryError
+starts_at path d = do
+  front ← needs (unwrapped path d).0 (as_str (unwrapped path d).1)
+  Ok (Starts front)
 
 -- `{f: t}` or `{f: {"value": t}}`
 unfoldable pub prefix_at : List ℕ → Data → Result Query QueryError
 prefix_at path d = do
   m ← needs path (only_member d)
-  t ← needs (unwrapped (under path m.0) m.1).0 (as_str (unwrapped (under path m.0) m.1).1)
-  Ok (field m.0 (Starts t))
+  t ← starts_at (under path m.0) m.1
+  Ok (field m.0 t)
 
 -- `{"field": f}`
 unfoldable pub exists_at : List ℕ → Data → Result Query QueryError

@@ -2,13 +2,13 @@
 
 ghost use Rattle.std.specs.Prelude.{◌≡◌, option_map};
 ghost use Rattle.serde_json.specs.View.{view, members_view};
-ghost use Rattle.query_parse.specs.Bodies.{Gives, count_of, count_or, from_of, size_of, is_body_field, unknown_field, query_of, window_at, known_body_at, body_at};
+ghost use Rattle.query_parse.specs.Bodies.{Gives, count_of, count_or, from_of, size_of, is_body_field, unknown_field, query_of, window_at, hits_at, known_body_at, body_at};
 
 use crate::fault::{BodyError, QueryFault};
 use crate::reading::read_query;
 use crate::shape::member;
 use crate::sort_reading::read_sort;
-use query_match::{Query, SearchBody, Text};
+use query_match::{Items, Query, SearchBody, SortBy, Text};
 use serde_json::{Map, Value};
 use std::alloc::Global;
 
@@ -107,6 +107,26 @@ fn read_window(
     }
 }
 
+/// The sort of the hits, and their window.
+#[tactic(auto, unfolding(crate::specs::Bodies::hits_at))]
+fn read_hits(
+    alloc: Global,
+    members: &Map<String, Value>,
+    zero: bool,
+    least: u32,
+) -> Result<(Items<SortBy>, (u32, u32)), BodyError>
+    ensures { Gives (λ h. h) result (hits_at zero least (members_view members.now.entries)) }
+{
+    let sort = read_sort(alloc, member(members, "sort"))?;
+    match read_window(alloc, members, zero, least) {
+        Ok(window) => Ok((sort, window)),
+        Err(error) => {
+            drop(sort);
+            Err(error)
+        }
+    }
+}
+
 /// A body without unknown fields.
 #[tactic(auto, unfolding(crate::specs::Bodies::known_body_at))]
 fn read_known(
@@ -118,14 +138,18 @@ fn read_known(
     ensures { Gives (λ b. b) result (known_body_at zero least (members_view members.now.entries)) }
 {
     let query = query_or_all(alloc, member(members, "query"))?;
-    let sort = read_sort(alloc, member(members, "sort"))?;
-    let (from, size) = read_window(alloc, members, zero, least)?;
-    Ok(SearchBody {
-        query,
-        sort,
-        from,
-        size,
-    })
+    match read_hits(alloc, members, zero, least) {
+        Ok((sort, window)) => Ok(SearchBody {
+            query,
+            sort,
+            from: window.0,
+            size: window.1,
+        }),
+        Err(error) => {
+            drop(query);
+            Err(error)
+        }
+    }
 }
 
 /// The body of a search that a JSON value is, after Elasticsearch's search body: `query`, `sort`, `from`, `size`, and `track_total_hits`, which is passed over.

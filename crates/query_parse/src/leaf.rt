@@ -1,12 +1,13 @@
 //! Queries that hold no query.
 
-ghost use Rattle.std.specs.Prelude.{◌≡◌, option_map};
+ghost use Rattle.std.specs.Prelude.{◌≡◌, option_map, Ok};
 ghost use Rattle.serde_json.specs.Find.{as_str};
 ghost use Rattle.serde_json.specs.View.{view, items_view, members_view};
 ghost use Rattle.query_parse.specs.Answers.{Gives};
 ghost use Rattle.query_match.specs.Found.{found_view};
 ghost use Rattle.query_parse.specs.Paths.{path_text};
-ghost use Rattle.query_parse.specs.Reading.{each_at, empty_at, term_at, terms_at, bound_of, bound_at, bounds_at, range_at, prefix_at, exists_at, ids_at, leaf_at};
+ghost use Rattle.query_parse.specs.Reading.{each_at, empty_at, equals_at, term_at, one_of_at, terms_at, bound_of, bound_at, bounds_at, within_at, range_at, starts_at, prefix_at, exists_at, ids_at, leaf_at};
+ghost use Rattle.query_match.specs.Query.{field};
 ghost use Rattle.query_match.specs.Values.{value_of};
 ghost use Rattle.query_match.specs.View.{query_view};
 
@@ -18,22 +19,42 @@ use query_match::{Found, Items, Node, Range, Scalar, Test, Text, value_in};
 use serde_json::{Map, Value};
 use std::alloc::Global;
 
+/// The query that something at a field passes a test.
+fn on_field(alloc: Global, name: &str, test: Test) -> Result<Node, QueryError>
+    ensures { Gives query_view result (Ok (field name.now test)) }
+{
+    match Text::from_str(alloc, name) {
+        Ok(name) => Ok(Node::Field(name, test)),
+        Err(_) => {
+            drop(test);
+            Err(QueryError::Memory)
+        }
+    }
+}
+
+/// `v` or `{"value": v}`, at the path of a field.
+#[tactic(auto, unfolding(crate::specs::Reading::equals_at))]
+fn read_equals(alloc: Global, path: &Path<'_>, value: &Value) -> Result<Test, QueryError>
+    ensures { Gives (λ t. t) result (equals_at (path_text path.now) (view value.now)) }
+{
+    let (path, value) = unwrapped(path, value);
+    match value_in(value) {
+        Some(found) => Ok(Test::Equals(found.kept(alloc)?)),
+        None => Err(path.fault(alloc, QueryFault::BadValue)),
+    }
+}
+
 /// `{f: v}` or `{f: {"value": v}}`.
 #[tactic(auto, unfolding(crate::specs::Reading::term_at))]
 fn read_term(alloc: Global, path: &Path<'_>, value: &Value) -> Result<Node, QueryError>
     ensures { Gives query_view result (term_at (path_text path.now) (view value.now)) }
 {
-    let Some((field, inner)) = only_member(value) else {
-        return Err(path.fault(alloc, QueryFault::BadValue));
-    };
-    let at_field = path.key(field);
-    let (at_value, inner) = unwrapped(&at_field, inner);
-    match value_in(inner) {
-        Some(found) => Ok(Node::Field(
-            Text::from_str(alloc, field)?,
-            Test::Equals(found.kept(alloc)?),
-        )),
-        None => Err(at_value.fault(alloc, QueryFault::BadValue)),
+    match only_member(value) {
+        None => Err(path.fault(alloc, QueryFault::BadValue)),
+        Some((field, inner)) => match read_equals(alloc, &path.key(field), inner) {
+            Ok(test) => on_field(alloc, field, test),
+            Err(error) => Err(error),
+        },
     }
 }
 
@@ -67,20 +88,29 @@ fn read_texts(alloc: Global, path: &Path<'_>, values: &[Value]) -> Result<Items<
     Ok(Items::from_vec(read))
 }
 
+/// `[v, v]`, at the path of a field.
+#[tactic(auto, unfolding(crate::specs::Reading::one_of_at))]
+fn read_one_of(alloc: Global, path: &Path<'_>, value: &Value) -> Result<Test, QueryError>
+    ensures { Gives (λ t. t) result (one_of_at (path_text path.now) (view value.now)) }
+{
+    match value.as_array() {
+        Some(values) => Ok(Test::OneOf(read_scalars(alloc, path, values.as_slice())?)),
+        None => Err(path.fault(alloc, QueryFault::BadValue)),
+    }
+}
+
 /// `{f: [v, v]}`.
 #[tactic(auto, unfolding(crate::specs::Reading::terms_at))]
 fn read_terms(alloc: Global, path: &Path<'_>, value: &Value) -> Result<Node, QueryError>
     ensures { Gives query_view result (terms_at (path_text path.now) (view value.now)) }
 {
-    let Some((field, inner)) = only_member(value) else {
-        return Err(path.fault(alloc, QueryFault::BadValue));
-    };
-    let at_field = path.key(field);
-    let Some(values) = inner.as_array() else {
-        return Err(at_field.fault(alloc, QueryFault::BadValue));
-    };
-    let values = read_scalars(alloc, &at_field, values.as_slice())?;
-    Ok(Node::Field(Text::from_str(alloc, field)?, Test::OneOf(values)))
+    match only_member(value) {
+        None => Err(path.fault(alloc, QueryFault::BadValue)),
+        Some((field, inner)) => match read_one_of(alloc, &path.key(field), inner) {
+            Ok(test) => on_field(alloc, field, test),
+            Err(error) => Err(error),
+        },
+    }
 }
 
 /// A whole number or a text.
@@ -135,20 +165,41 @@ fn read_bounds(
     })
 }
 
+/// `{"gte", "gt", "lte", "lt"}`, at the path of a field.
+#[tactic(auto, unfolding(crate::specs::Reading::within_at))]
+fn read_within(alloc: Global, path: &Path<'_>, value: &Value) -> Result<Test, QueryError>
+    ensures { Gives (λ t. t) result (within_at (path_text path.now) (view value.now)) }
+{
+    match value.as_object() {
+        Some(members) => Ok(Test::Within(read_bounds(alloc, path, members)?)),
+        None => Err(path.fault(alloc, QueryFault::BadValue)),
+    }
+}
+
 /// `{f: {"gte", "gt", "lte", "lt"}}`.
 #[tactic(auto, unfolding(crate::specs::Reading::range_at))]
 fn read_range(alloc: Global, path: &Path<'_>, value: &Value) -> Result<Node, QueryError>
     ensures { Gives query_view result (range_at (path_text path.now) (view value.now)) }
 {
-    let Some((field, inner)) = only_member(value) else {
-        return Err(path.fault(alloc, QueryFault::BadValue));
-    };
-    let at_field = path.key(field);
-    let Some(members) = inner.as_object() else {
-        return Err(at_field.fault(alloc, QueryFault::BadValue));
-    };
-    let range = read_bounds(alloc, &at_field, members)?;
-    Ok(Node::Field(Text::from_str(alloc, field)?, Test::Within(range)))
+    match only_member(value) {
+        None => Err(path.fault(alloc, QueryFault::BadValue)),
+        Some((field, inner)) => match read_within(alloc, &path.key(field), inner) {
+            Ok(test) => on_field(alloc, field, test),
+            Err(error) => Err(error),
+        },
+    }
+}
+
+/// `t` or `{"value": t}`, at the path of a field.
+#[tactic(auto, unfolding(crate::specs::Reading::starts_at))]
+fn read_starts(alloc: Global, path: &Path<'_>, value: &Value) -> Result<Test, QueryError>
+    ensures { Gives (λ t. t) result (starts_at (path_text path.now) (view value.now)) }
+{
+    let (path, value) = unwrapped(path, value);
+    match value.as_str() {
+        Some(front) => Ok(Test::Starts(Text::from_str(alloc, front)?)),
+        None => Err(path.fault(alloc, QueryFault::BadValue)),
+    }
 }
 
 /// `{f: t}` or `{f: {"value": t}}`.
@@ -156,17 +207,12 @@ fn read_range(alloc: Global, path: &Path<'_>, value: &Value) -> Result<Node, Que
 fn read_prefix(alloc: Global, path: &Path<'_>, value: &Value) -> Result<Node, QueryError>
     ensures { Gives query_view result (prefix_at (path_text path.now) (view value.now)) }
 {
-    let Some((field, inner)) = only_member(value) else {
-        return Err(path.fault(alloc, QueryFault::BadValue));
-    };
-    let at_field = path.key(field);
-    let (at_value, inner) = unwrapped(&at_field, inner);
-    match inner.as_str() {
-        Some(front) => Ok(Node::Field(
-            Text::from_str(alloc, field)?,
-            Test::Starts(Text::from_str(alloc, front)?),
-        )),
-        None => Err(at_value.fault(alloc, QueryFault::BadValue)),
+    match only_member(value) {
+        None => Err(path.fault(alloc, QueryFault::BadValue)),
+        Some((field, inner)) => match read_starts(alloc, &path.key(field), inner) {
+            Ok(test) => on_field(alloc, field, test),
+            Err(error) => Err(error),
+        },
     }
 }
 

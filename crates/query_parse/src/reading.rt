@@ -1,6 +1,6 @@
 //! Reading a query from a JSON value.
 
-ghost use Rattle.std.specs.Prelude.{◌≡◌, codes};
+ghost use Rattle.std.specs.Prelude.{◌≡◌, [], ◌∷◌, Ok, codes};
 ghost use Rattle.serde_json.specs.View.{view, items_view, members_view};
 ghost use Rattle.query_parse.specs.Answers.{Gives};
 ghost use Rattle.query_parse.specs.Paths.{path_text};
@@ -57,6 +57,21 @@ fn least_of(minimum: Option<u32>, must: &[Node], filter: &[Node], should: &[Node
             }
         }
     }
+}
+
+/// A list of one query.
+fn one_node(alloc: Global, node: Node) -> Result<Vec<Node>, QueryError>
+    ensures { Gives (λ ns. ns.items) result (Ok (node ∷ [])) }
+{
+    let mut nodes = match Vec::with_capacity(alloc, 1) {
+        Ok(nodes) => nodes,
+        Err(_) => {
+            drop(node);
+            return Err(QueryError::Memory);
+        }
+    };
+    nodes.push(node)?;
+    Ok(nodes)
 }
 
 /// A query.
@@ -151,12 +166,7 @@ fn read_queries(alloc: Global, path: &Path<'_>, value: &Value) -> Result<Vec<Nod
     ensures { Gives (λ ns. queries_view ns.items) result (clause_at (path_text path.now) (view value.now)) }
 {
     match value {
-        Value::Object(members) => {
-            let node = read_entry(alloc, path, members)?;
-            let mut nodes = Vec::with_capacity(alloc, 1)?;
-            nodes.push(node)?;
-            Ok(nodes)
-        }
+        Value::Object(members) => one_node(alloc, read_entry(alloc, path, members)?),
         Value::Array(values) => read_list(alloc, path, values.as_slice()),
         _ => Err(path.fault(alloc, QueryFault::BadValue)),
     }
