@@ -14,7 +14,7 @@ use Rattle.query_match.specs.declared.body.SearchBody.{SearchBody}
 use Rattle.query_match.specs.declared.sort.SortBy.{SortBy}
 use Rattle.query_parse.specs.Answers.{◌>>=◌}
 use Rattle.query_match.specs.Query.{Query, match_all}
-use Rattle.query_parse.specs.Reading.{member_keys, only_member, only_named, query_at}
+use Rattle.query_parse.specs.Reading.{is_one_of, member_keys, only_member, only_named, query_at}
 use Rattle.query_match.specs.Values.{same_bytes}
 
 -- ---- what a reader answers beside the function that it computes
@@ -111,7 +111,7 @@ size_of least d = size_passing (codes "size") (λ n. nat_le least n) (count_or 1
 -- ---- the body
 
 abbrev pub is_body_field : List ℕ → Bool
-is_body_field k = same_bytes k (codes "query") || same_bytes k (codes "sort") || same_bytes k (codes "from") || same_bytes k (codes "size") || same_bytes k (codes "track_total_hits")
+is_body_field = is_one_of (codes "query" ∷ codes "sort" ∷ codes "from" ∷ codes "size" ∷ codes "track_total_hits" ∷ [])
 
 -- the first key that no body has
 abbrev pub unknown_field : Members → Option (List ℕ)

@@ -1,6 +1,6 @@
 -- The query that a JSON value is, or the first fault in it: depth first, an object's keys in the order of their bytes.
-use Rattle.std.specs.Prelude.{ℕ, ◌+◌, List, [], ◌∷◌, ◌++◌, Bool, true, false, not, ◌||◌, ◌&&◌, Option, Some, None, option_and_then, Result, Ok, Err, nat_le, if◌then◌else◌, codes, decimal}
-use Rattle.std.specs.List.{list_all}
+use Rattle.std.specs.Prelude.{ℕ, ◌+◌, List, [], ◌∷◌, ◌++◌, Bool, true, false, not, ◌&&◌, Option, Some, None, option_and_then, Result, Ok, Err, nat_le, if◌then◌else◌, codes, decimal}
+use Rattle.std.specs.List.{list_all, list_any}
 use Rattle.std.specs.Ordering.{nat_cmp, match_ordering}
 use Rattle.std.specs.Cmp.Lexicographic.{slice_cmp}
 use Rattle.serde_json.specs.Data.{Data, null, boolean, number, string, array, object, Items, no_items, item, Members, no_members, member}
@@ -63,8 +63,12 @@ unwrapped path d = value_inside path d (only_named (codes "value") d)
 
 -- ---- queries that hold no query
 
+-- whether a name is one of some
+abbrev pub is_one_of : List (List ℕ) → List ℕ → Bool
+is_one_of names name = list_any (same_bytes name) names
+
 abbrev pub is_bound_name : List ℕ → Bool
-is_bound_name k = same_bytes k (codes "gt") || same_bytes k (codes "gte") || same_bytes k (codes "lt") || same_bytes k (codes "lte")
+is_bound_name = is_one_of (codes "gt" ∷ codes "gte" ∷ codes "lt" ∷ codes "lte" ∷ [])
 
 -- a whole number or a text
 abbrev pub bound_of : Data → Option Scalar
@@ -203,8 +207,7 @@ leaf_at (Some forms.Bool) path d = bad_value path
 -- ---- queries that hold queries
 
 abbrev pub is_clause_name : List ℕ → Bool
-is_clause_name k =
-    same_bytes k (codes "filter") || same_bytes k (codes "minimum_should_match") || same_bytes k (codes "must") || same_bytes k (codes "must_not") || same_bytes k (codes "should")
+is_clause_name = is_one_of (codes "filter" ∷ codes "minimum_should_match" ∷ codes "must" ∷ codes "must_not" ∷ codes "should" ∷ [])
 
 -- a whole number from 0 to 1,024
 abbrev pub minimum_of : Data → Option ℕ

@@ -2,11 +2,11 @@
 
 ghost use Rattle.std.specs.Prelude.{◌≡◌, option_map};
 ghost use Rattle.serde_json.specs.View.{view, members_view};
-ghost use Rattle.query_parse.specs.Bodies.{Gives, count_of, count_or, from_of, size_of, is_body_field, unknown_field, query_of, window_at, hits_at, known_body_at, body_at};
+ghost use Rattle.query_parse.specs.Bodies.{Gives, count_of, count_or, from_of, size_of, unknown_field, query_of, window_at, hits_at, known_body_at, body_at};
 
 use crate::fault::{BodyError, QueryFault};
 use crate::reading::read_query;
-use crate::shape::member;
+use crate::shape::{is_one_of, member};
 use crate::sort_reading::read_sort;
 use query_match::{Items, Query, SearchBody, SortBy, Text};
 use serde_json::{Map, Value};
@@ -55,22 +55,15 @@ fn read_size(alloc: Global, least: u32, value: Option<&Value>) -> Result<u32, Bo
     }
 }
 
-fn is_body_field(name: &str) -> bool
-    ensures { result ≡ is_body_field name.now }
-{
-    name == "query"
-        || name == "sort"
-        || name == "from"
-        || name == "size"
-        || name == "track_total_hits"
-}
+/// The fields that a body can have.
+const BODY_FIELDS: [&str; 5] = ["query", "sort", "from", "size", "track_total_hits"];
 
 /// The first key that no body has.
 fn unknown_field(members: &Map<String, Value>) -> Option<&str>
     ensures { option_map (λ f. f.now) result ≡ unknown_field (members_view members.now.entries) }
 {
     for (key, _) in members.iter() {
-        if !is_body_field(key.as_str()) {
+        if !is_one_of(key.as_str(), &BODY_FIELDS) {
             return Some(key.as_str());
         }
     }

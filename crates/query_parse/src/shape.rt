@@ -1,11 +1,11 @@
 //! The shapes of JSON values that bodies are made of.
 
-ghost use Rattle.std.specs.Prelude.{◌≡◌, option_map};
+ghost use Rattle.std.specs.Prelude.{◌≡◌, map, option_map};
 ghost use Rattle.std.specs.List.{list_all};
 ghost use Rattle.serde_json.specs.Find.{get_member};
 ghost use Rattle.serde_json.specs.View.{view, members_view};
 ghost use Rattle.query_parse.specs.Paths.{path_text};
-ghost use Rattle.query_parse.specs.Reading.{only_entry, only_member, only_named, unwrapped, member_keys, is_bound_name, is_clause_name};
+ghost use Rattle.query_parse.specs.Reading.{only_entry, only_member, only_named, unwrapped, member_keys, is_one_of, is_bound_name, is_clause_name};
 
 use crate::path::Path;
 use serde_json::{Map, Value};
@@ -61,40 +61,44 @@ pub(crate) fn unwrapped<'a>(path: &'a Path<'a>, value: &'a Value) -> (Path<'a>, 
     }
 }
 
-fn is_bound_name(name: &str) -> bool
-    ensures { result ≡ is_bound_name name.now }
+/// Whether a name is one of some.
+pub(crate) fn is_one_of(name: &str, names: &[&str]) -> bool
+    ensures { result ≡ is_one_of (map (λ n. n.now) names.now) name.now }
 {
-    name == "gt" || name == "gte" || name == "lt" || name == "lte"
+    for other in names {
+        if name == *other {
+            return true;
+        }
+    }
+    false
 }
 
-fn is_clause_name(name: &str) -> bool
-    ensures { result ≡ is_clause_name name.now }
-{
-    name == "filter"
-        || name == "minimum_should_match"
-        || name == "must"
-        || name == "must_not"
-        || name == "should"
-}
-
-pub(crate) fn has_bounds_alone(members: &Map<String, Value>) -> bool
-    ensures { result ≡ list_all is_bound_name (member_keys (members_view members.now.entries)) }
+/// Whether each key is one of some names.
+fn has_these_alone(members: &Map<String, Value>, names: &[&str]) -> bool
+    ensures { result ≡ list_all (is_one_of (map (λ n. n.now) names.now)) (member_keys (members_view members.now.entries)) }
 {
     for (key, _) in members.iter() {
-        if !is_bound_name(key.as_str()) {
+        if !is_one_of(key.as_str(), names) {
             return false;
         }
     }
     true
+}
+
+/// The bounds that a range can have.
+const BOUND_NAMES: [&str; 4] = ["gt", "gte", "lt", "lte"];
+
+/// The keys that a `bool` can have.
+const CLAUSE_NAMES: [&str; 5] = ["filter", "minimum_should_match", "must", "must_not", "should"];
+
+pub(crate) fn has_bounds_alone(members: &Map<String, Value>) -> bool
+    ensures { result ≡ list_all is_bound_name (member_keys (members_view members.now.entries)) }
+{
+    has_these_alone(members, &BOUND_NAMES)
 }
 
 pub(crate) fn has_clauses_alone(members: &Map<String, Value>) -> bool
     ensures { result ≡ list_all is_clause_name (member_keys (members_view members.now.entries)) }
 {
-    for (key, _) in members.iter() {
-        if !is_clause_name(key.as_str()) {
-            return false;
-        }
-    }
-    true
+    has_these_alone(members, &CLAUSE_NAMES)
 }

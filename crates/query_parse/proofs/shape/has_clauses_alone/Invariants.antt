@@ -1,8 +1,0 @@
-use Rattle.std.proofs.Common.{◌≡◌}
-use Rattle.std.specs.List.{list_all}
-use Rattle.serde_json.specs.View.{members_view}
-use Rattle.query_parse.specs.Reading.{member_keys, is_clause_name}
-use Rattle.query_parse.proofs.shape.has_clauses_alone.Given as goal
-
-abbrev pub invariant-loop-key : goal.invariant-loop-key
-invariant-loop-key l = list_all is_clause_name (member_keys (members_view l.members.entries)) ≡ list_all is_clause_name (member_keys (members_view l.key-iterator))
