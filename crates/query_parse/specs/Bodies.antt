@@ -143,11 +143,14 @@ hits_at zero least ms = do
   window ← window_at zero least ms
   Ok (sort, window)
 
+abbrev pub body_of : Query → List SortBy × (ℕ × ℕ) → SearchBody
+body_of query hits = record { query = query; sort = hits.0; from = hits.1.0; size = hits.1.1 }
+
 unfoldable pub known_body_at : Bool → ℕ → Members → Result SearchBody BodyError
 known_body_at zero least ms = do
   query ← query_of (get_member (codes "query") ms)
   hits ← hits_at zero least ms
-  Ok (record { query = query; sort = hits.0; from = hits.1.0; size = hits.1.1 })
+  Ok (body_of query hits)
 
 abbrev pub body_unless : Option (List ℕ) → Result SearchBody BodyError → Result SearchBody BodyError
 body_unless None read = read

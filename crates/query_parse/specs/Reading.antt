@@ -14,6 +14,8 @@ use Rattle.query_parse.specs.declared.fault.QueryError.{QueryError}
 use Rattle.query_parse.specs.declared.fault.QueryError.TheVariants.{Bad}
 use Rattle.query_parse.specs.declared.form.Form.{Form}
 use Rattle.query_parse.specs.declared.form.Form.TheVariants as forms
+use Rattle.query_parse.specs.declared.leaf.Asked.{Asked}
+use Rattle.query_parse.specs.declared.leaf.Asked.TheVariants as asked
 use Rattle.query_match.specs.Query.{Query, match_all, match_none, field, ids, bool, Queries, no_queries, query}
 use Rattle.query_match.specs.Values.{same_bytes, value_of}
 use Rattle.query_parse.specs.Answers.{◌>>=◌}
@@ -93,26 +95,12 @@ equals_at path d = do
   v ← needs (unwrapped path d).0 (value_of (unwrapped path d).1)
   Ok (Equals v)
 
--- `{f: v}` or `{f: {"value": v}}`
-unfoldable pub term_at : List ℕ → Data → Result Query QueryError
-term_at path d = do
-  m ← needs path (only_member d)
-  t ← equals_at (under path m.0) m.1
-  Ok (field m.0 t)
-
 -- `[v, v]`, at the path of a field
 unfoldable pub one_of_at : List ℕ → Data → Result Test QueryError
 one_of_at path d = do
   ds ← needs path (as_array d)
   vs ← each_at value_of path 0 ds
   Ok (OneOf vs)
-
--- `{f: [v, v]}`
-unfoldable pub terms_at : List ℕ → Data → Result Query QueryError
-terms_at path d = do
-  m ← needs path (only_member d)
-  t ← one_of_at (under path m.0) m.1
-  Ok (field m.0 t)
 
 abbrev pub optional_at : {A : Type 0} → (Data → Option A) → List ℕ → Option Data → Result (Option A) QueryError
 optional_at reads path None = Ok None
@@ -123,14 +111,22 @@ optional_at reads path (Some d) = do
 unfoldable pub bound_at : List ℕ → List ℕ → Members → Result (Option Scalar) QueryError
 bound_at path name ms = optional_at bound_of (under path name) (get_member name ms)
 
+-- the strict and the weak bound of one side, each if it is there
+unfoldable pub side_at : List ℕ → (strict weak : List ℕ) → Members → Result (Option Scalar × Option Scalar) QueryError
+side_at path strict weak ms = do
+  first ← bound_at path strict ms
+  second ← bound_at path weak ms
+  Ok (first, second)
+
+abbrev pub range_of : Option Scalar × Option Scalar → Option Scalar × Option Scalar → Range
+range_of low high = record { above = low.0; from = low.1; below = high.0; to = high.1 }
+
 unfoldable pub bounds_at : List ℕ → Members → Result Range QueryError
 bounds_at path ms = do
   _ ← expects path (list_all is_bound_name (member_keys ms))
-  above ← bound_at path (codes "gt") ms
-  from ← bound_at path (codes "gte") ms
-  below ← bound_at path (codes "lt") ms
-  to ← bound_at path (codes "lte") ms
-  Ok (record { above = above; from = from; below = below; to = to })
+  low ← side_at path (codes "gt") (codes "gte") ms
+  high ← side_at path (codes "lt") (codes "lte") ms
+  Ok (range_of low high)
 
 -- `{"gte", "gt", "lte", "lt"}`, at the path of a field
 unfoldable pub within_at : List ℕ → Data → Result Test QueryError
@@ -139,24 +135,24 @@ within_at path d = do
   range ← bounds_at path ms
   Ok (Within range)
 
--- `{f: {"gte", "gt", "lte", "lt"}}`
-unfoldable pub range_at : List ℕ → Data → Result Query QueryError
-range_at path d = do
-  m ← needs path (only_member d)
-  t ← within_at (under path m.0) m.1
-  Ok (field m.0 t)
-
 -- `t` or `{"value": t}`, at the path of a field
 unfoldable pub starts_at : List ℕ → Data → Result Test QueryError
 starts_at path d = do
   front ← needs (unwrapped path d).0 (as_str (unwrapped path d).1)
   Ok (Starts front)
 
--- `{f: t}` or `{f: {"value": t}}`
-unfoldable pub prefix_at : List ℕ → Data → Result Query QueryError
-prefix_at path d = do
+-- what a query asks of a field, from what stands at the field
+abbrev pub test_at : Asked → List ℕ → Data → Result Test QueryError
+test_at asked.Equal path d = equals_at path d
+test_at asked.OneOf path d = one_of_at path d
+test_at asked.Within path d = within_at path d
+test_at asked.Start path d = starts_at path d
+
+-- a query of one field, the key of its object
+unfoldable pub field_at : Asked → List ℕ → Data → Result Query QueryError
+field_at asks path d = do
   m ← needs path (only_member d)
-  t ← starts_at (under path m.0) m.1
+  t ← test_at asks (under path m.0) m.1
   Ok (field m.0 t)
 
 -- `{"field": f}`
@@ -196,10 +192,10 @@ leaf_at (Some forms.All) path d = do
 leaf_at (Some forms.Nothing) path d = do
   _ ← empty_at path d
   Ok match_none
-leaf_at (Some forms.Term) path d = term_at path d
-leaf_at (Some forms.Terms) path d = terms_at path d
-leaf_at (Some forms.Range) path d = range_at path d
-leaf_at (Some forms.Prefix) path d = prefix_at path d
+leaf_at (Some forms.Term) path d = field_at asked.Equal path d
+leaf_at (Some forms.Terms) path d = field_at asked.OneOf path d
+leaf_at (Some forms.Range) path d = field_at asked.Within path d
+leaf_at (Some forms.Prefix) path d = field_at asked.Start path d
 leaf_at (Some forms.Exists) path d = exists_at path d
 leaf_at (Some forms.Ids) path d = ids_at path d
 leaf_at (Some forms.Bool) path d = bad_value path

@@ -2,7 +2,7 @@
 
 ghost use Rattle.std.specs.Prelude.{◌≡◌, option_map};
 ghost use Rattle.serde_json.specs.View.{view, members_view};
-ghost use Rattle.query_parse.specs.Bodies.{Gives, count_of, count_or, from_of, size_of, unknown_field, query_of, window_at, hits_at, known_body_at, body_at};
+ghost use Rattle.query_parse.specs.Bodies.{Gives, count_of, count_or, from_of, size_of, unknown_field, query_of, window_at, hits_at, body_of, known_body_at, body_at};
 
 use crate::fault::{BodyError, QueryFault};
 use crate::reading::read_query;
@@ -120,6 +120,19 @@ fn read_hits(
     }
 }
 
+/// The body of this query that shows these hits.
+fn body_of(query: Query, hits: (Items<SortBy>, (u32, u32))) -> SearchBody
+    ensures { result ≡ body_of query hits }
+{
+    let (sort, (from, size)) = hits;
+    SearchBody {
+        query,
+        sort,
+        from,
+        size,
+    }
+}
+
 /// A body without unknown fields.
 #[tactic(auto, unfolding(crate::specs::Bodies::known_body_at))]
 fn read_known(
@@ -132,12 +145,7 @@ fn read_known(
 {
     let query = query_or_all(alloc, member(members, "query"))?;
     match read_hits(alloc, members, zero, least) {
-        Ok((sort, window)) => Ok(SearchBody {
-            query,
-            sort,
-            from: window.0,
-            size: window.1,
-        }),
+        Ok(hits) => Ok(body_of(query, hits)),
         Err(error) => {
             drop(query);
             Err(error)

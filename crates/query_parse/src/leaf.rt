@@ -6,7 +6,7 @@ ghost use Rattle.serde_json.specs.View.{view, items_view, members_view};
 ghost use Rattle.query_parse.specs.Answers.{Gives};
 ghost use Rattle.query_match.specs.Found.{found_view};
 ghost use Rattle.query_parse.specs.Paths.{path_text};
-ghost use Rattle.query_parse.specs.Reading.{each_at, empty_at, equals_at, term_at, one_of_at, terms_at, bound_of, bound_at, bounds_at, within_at, range_at, starts_at, prefix_at, exists_at, ids_at, leaf_at};
+ghost use Rattle.query_parse.specs.Reading.{each_at, empty_at, equals_at, one_of_at, bound_of, bound_at, side_at, range_of, bounds_at, within_at, starts_at, test_at, field_at, exists_at, ids_at, leaf_at};
 ghost use Rattle.query_match.specs.Query.{field};
 ghost use Rattle.query_match.specs.Values.{value_of};
 ghost use Rattle.query_match.specs.View.{query_view};
@@ -18,6 +18,15 @@ use crate::shape::{has_bounds_alone, member, only_member, only_named, unwrapped}
 use query_match::{Found, Items, Node, Range, Scalar, Test, Text, value_in};
 use serde_json::{Map, Value};
 use std::alloc::Global;
+
+/// What a query asks of a field.
+#[derive(Clone, Copy, PartialEq, Eq)]
+enum Asked {
+    Equal,
+    OneOf,
+    Within,
+    Start,
+}
 
 /// The query that something at a field passes a test.
 fn on_field(alloc: Global, name: &str, test: Test) -> Result<Node, QueryError>
@@ -41,20 +50,6 @@ fn read_equals(alloc: Global, path: &Path<'_>, value: &Value) -> Result<Test, Qu
     match value_in(value) {
         Some(found) => Ok(Test::Equals(found.kept(alloc)?)),
         None => Err(path.fault(alloc, QueryFault::BadValue)),
-    }
-}
-
-/// `{f: v}` or `{f: {"value": v}}`.
-#[tactic(auto, unfolding(crate::specs::Reading::term_at))]
-fn read_term(alloc: Global, path: &Path<'_>, value: &Value) -> Result<Node, QueryError>
-    ensures { Gives query_view result (term_at (path_text path.now) (view value.now)) }
-{
-    match only_member(value) {
-        None => Err(path.fault(alloc, QueryFault::BadValue)),
-        Some((field, inner)) => match read_equals(alloc, &path.key(field), inner) {
-            Ok(test) => on_field(alloc, field, test),
-            Err(error) => Err(error),
-        },
     }
 }
 
@@ -99,20 +94,6 @@ fn read_one_of(alloc: Global, path: &Path<'_>, value: &Value) -> Result<Test, Qu
     }
 }
 
-/// `{f: [v, v]}`.
-#[tactic(auto, unfolding(crate::specs::Reading::terms_at))]
-fn read_terms(alloc: Global, path: &Path<'_>, value: &Value) -> Result<Node, QueryError>
-    ensures { Gives query_view result (terms_at (path_text path.now) (view value.now)) }
-{
-    match only_member(value) {
-        None => Err(path.fault(alloc, QueryFault::BadValue)),
-        Some((field, inner)) => match read_one_of(alloc, &path.key(field), inner) {
-            Ok(test) => on_field(alloc, field, test),
-            Err(error) => Err(error),
-        },
-    }
-}
-
 /// A whole number or a text.
 fn bound_in(value: &Value) -> Option<Found<'_>>
     ensures { option_map found_view result ≡ bound_of (view value.now) }
@@ -142,6 +123,28 @@ fn read_bound(
     }
 }
 
+/// The strict and the weak bound of one side, each if it is there.
+#[tactic(auto, unfolding(crate::specs::Reading::side_at))]
+fn read_side(
+    alloc: Global,
+    path: &Path<'_>,
+    strict: &str,
+    weak: &str,
+    members: &Map<String, Value>,
+) -> Result<(Option<Scalar>, Option<Scalar>), QueryError>
+    ensures { Gives (λ s. s) result
+        (side_at (path_text path.now) strict.now weak.now (members_view members.now.entries)) }
+{
+    let first = read_bound(alloc, path, strict, members)?;
+    match read_bound(alloc, path, weak, members) {
+        Ok(second) => Ok((first, second)),
+        Err(error) => {
+            drop(first);
+            Err(error)
+        }
+    }
+}
+
 #[tactic(auto, unfolding(crate::specs::Reading::bounds_at))]
 fn read_bounds(
     alloc: Global,
@@ -153,16 +156,26 @@ fn read_bounds(
     if !has_bounds_alone(members) {
         return Err(path.fault(alloc, QueryFault::BadValue));
     }
-    let above = read_bound(alloc, path, "gt", members)?;
-    let from = read_bound(alloc, path, "gte", members)?;
-    let below = read_bound(alloc, path, "lt", members)?;
-    let to = read_bound(alloc, path, "lte", members)?;
-    Ok(Range {
-        above,
-        from,
-        below,
-        to,
-    })
+    let low = read_side(alloc, path, "gt", "gte", members)?;
+    match read_side(alloc, path, "lt", "lte", members) {
+        Ok(high) => Ok(range_of(low, high)),
+        Err(error) => {
+            drop(low);
+            Err(error)
+        }
+    }
+}
+
+/// The range with these bounds below and above.
+fn range_of(low: (Option<Scalar>, Option<Scalar>), high: (Option<Scalar>, Option<Scalar>)) -> Range
+    ensures { result ≡ range_of low high }
+{
+    Range {
+        above: low.0,
+        from: low.1,
+        below: high.0,
+        to: high.1,
+    }
 }
 
 /// `{"gte", "gt", "lte", "lt"}`, at the path of a field.
@@ -173,20 +186,6 @@ fn read_within(alloc: Global, path: &Path<'_>, value: &Value) -> Result<Test, Qu
     match value.as_object() {
         Some(members) => Ok(Test::Within(read_bounds(alloc, path, members)?)),
         None => Err(path.fault(alloc, QueryFault::BadValue)),
-    }
-}
-
-/// `{f: {"gte", "gt", "lte", "lt"}}`.
-#[tactic(auto, unfolding(crate::specs::Reading::range_at))]
-fn read_range(alloc: Global, path: &Path<'_>, value: &Value) -> Result<Node, QueryError>
-    ensures { Gives query_view result (range_at (path_text path.now) (view value.now)) }
-{
-    match only_member(value) {
-        None => Err(path.fault(alloc, QueryFault::BadValue)),
-        Some((field, inner)) => match read_within(alloc, &path.key(field), inner) {
-            Ok(test) => on_field(alloc, field, test),
-            Err(error) => Err(error),
-        },
     }
 }
 
@@ -202,14 +201,36 @@ fn read_starts(alloc: Global, path: &Path<'_>, value: &Value) -> Result<Test, Qu
     }
 }
 
-/// `{f: t}` or `{f: {"value": t}}`.
-#[tactic(auto, unfolding(crate::specs::Reading::prefix_at))]
-fn read_prefix(alloc: Global, path: &Path<'_>, value: &Value) -> Result<Node, QueryError>
-    ensures { Gives query_view result (prefix_at (path_text path.now) (view value.now)) }
+/// What a query asks of a field, from what stands at the field.
+fn read_test(
+    alloc: Global,
+    asked: Asked,
+    path: &Path<'_>,
+    value: &Value,
+) -> Result<Test, QueryError>
+    ensures { Gives (λ t. t) result (test_at asked (path_text path.now) (view value.now)) }
+{
+    match asked {
+        Asked::Equal => read_equals(alloc, path, value),
+        Asked::OneOf => read_one_of(alloc, path, value),
+        Asked::Within => read_within(alloc, path, value),
+        Asked::Start => read_starts(alloc, path, value),
+    }
+}
+
+/// A query of one field, the key of its object.
+#[tactic(auto, unfolding(crate::specs::Reading::field_at))]
+fn read_field(
+    alloc: Global,
+    asked: Asked,
+    path: &Path<'_>,
+    value: &Value,
+) -> Result<Node, QueryError>
+    ensures { Gives query_view result (field_at asked (path_text path.now) (view value.now)) }
 {
     match only_member(value) {
         None => Err(path.fault(alloc, QueryFault::BadValue)),
-        Some((field, inner)) => match read_starts(alloc, &path.key(field), inner) {
+        Some((field, inner)) => match read_test(alloc, asked, &path.key(field), inner) {
             Ok(test) => on_field(alloc, field, test),
             Err(error) => Err(error),
         },
@@ -282,10 +303,10 @@ pub(crate) fn read_leaf(
             read_empty(alloc, path, value)?;
             Ok(Node::Nothing)
         }
-        Form::Term => read_term(alloc, path, value),
-        Form::Terms => read_terms(alloc, path, value),
-        Form::Range => read_range(alloc, path, value),
-        Form::Prefix => read_prefix(alloc, path, value),
+        Form::Term => read_field(alloc, Asked::Equal, path, value),
+        Form::Terms => read_field(alloc, Asked::OneOf, path, value),
+        Form::Range => read_field(alloc, Asked::Within, path, value),
+        Form::Prefix => read_field(alloc, Asked::Start, path, value),
         Form::Exists => read_exists(alloc, path, value),
         Form::Ids => read_ids(alloc, path, value),
         Form::Bool => Err(path.fault(alloc, QueryFault::BadValue)),
