@@ -89,7 +89,13 @@ fn has_these_alone(members: &Map<String, Value>, names: &[&str]) -> bool
 const BOUND_NAMES: [&str; 4] = ["gt", "gte", "lt", "lte"];
 
 /// The keys that a `bool` can have.
-const CLAUSE_NAMES: [&str; 5] = ["filter", "minimum_should_match", "must", "must_not", "should"];
+const CLAUSE_NAMES: [&str; 5] = [
+    "filter",
+    "minimum_should_match",
+    "must",
+    "must_not",
+    "should",
+];
 
 pub(crate) fn has_bounds_alone(members: &Map<String, Value>) -> bool
     ensures { result ≡ list_all is_bound_name (member_keys (members_view members.now.entries)) }
