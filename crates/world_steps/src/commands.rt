@@ -29,6 +29,13 @@ use task_laws::drained_bans;
 use world_moves::listing::Listing;
 use world_moves::state::State;
 
+/// Whether a body could not be read for want of memory. Otherwise the fault is one of the body.
+fn lacks_memory(fault: &BodyError) -> bool
+    ensures { result ≡ false → fault.now ≡ BodyError.Memory → ⊥ }
+{
+    matches!(fault, BodyError::Memory)
+}
+
 /// The body of a search, unless it has a fault.
 fn body_of(alloc: Global, body: &DocSource) -> Result<Option<SearchBody>, Stop>
     ensures body { IfOk result (λ found. found ≡ body_or_none (body_at false 0 body.now)) }
@@ -36,8 +43,11 @@ fn body_of(alloc: Global, body: &DocSource) -> Result<Option<SearchBody>, Stop>
 {
     match read_body(alloc, body.as_value(), false, 0) {
         Ok(body) => Ok(Some(body)),
-        Err(BodyError::Memory) => Err(Stop::Memory),
-        Err(_) => Ok(None),
+        Err(fault) => {
+            let spent = lacks_memory(&fault);
+            drop(fault);
+            if spent { Err(Stop::Memory) } else { Ok(None) }
+        }
     }
 }
 

@@ -1,4 +1,4 @@
-ghost use Rattle.std.specs.Prelude.{◌≡◌, ◌≤◌, ◌+◌, [], length, Ok, Err, Some, None, OnOk, OnErr, IfOk, IfErr, IfSome, ℕ};
+ghost use Rattle.std.specs.Prelude.{◌≡◌, ◌≤◌, ◌+◌, [], ◌∷◌, ◌++◌, length, Ok, Err, Some, None, OnOk, OnErr, IfOk, IfErr, IfSome, ℕ};
 ghost use Rattle.task_events.specs.Lawful.{Lawful};
 ghost use Rattle.task_events.specs.Cancels.{last_command};
 ghost use Rattle.task_events.specs.Laws.{IsDrained};
@@ -10,6 +10,8 @@ ghost use Rattle.world_moves.specs.Moves.{Delivers, IsPartly, StopsDelivery, Sto
 ghost use Rattle.world_moves.specs.Plain.{AnswersPlainly};
 ghost use Rattle.world_steps.specs.Runs.{Steps, AnswersStep, Settles, PartlySettles};
 ghost use Rattle.world_steps.specs.Scripts.{CanRun, Commands, PartlyCommands, Drains, PartlyDrains, IsTurn, closing, StopsRun};
+ghost use Rattle.task_ids.specs.Limits.{IsNode, IsSlotCount};
+ghost use Rattle.task_table.specs.Table.{new_table};
 ghost use Rattle.world_steps.specs.World.{tables_from, cores_from, no_bans};
 
 use crate::acting::Stepped;
@@ -63,15 +65,48 @@ pub enum Delivered {
     NoSuch(u64),
 }
 
+/// Adds the table of a node, on which nothing runs yet.
+fn add_table(
+    tables: &mut Vec<TaskTable>,
+    alloc: Global,
+    node: u32,
+    slots: u32,
+) -> Result<(), AllocError>
+    requires node { IsNode node }
+    requires slots { IsSlotCount slots }
+    ensures { OnOk result (tables.new.items ≡ tables.old.items ++ new_table node slots ∷ []) }
+{
+    tables.push(TaskTable::new(alloc, node, slots)?)?;
+    Ok(())
+}
+
+/// Adds the table of each node of a cluster to none.
+fn add_tables(
+    tables: &mut Vec<TaskTable>,
+    alloc: Global,
+    cluster: &Cluster,
+) -> Result<(), AllocError>
+    requires { tables.old.items ≡ [] }
+    ensures { OnOk result (tables.new.items ≡ tables_from 0 cluster.now.nodes cluster.now.slots) }
+{
+    for place in 0..cluster.nodes {
+        add_table(tables, alloc, place + 1, cluster.slots)?;
+    }
+    Ok(())
+}
+
 /// The table of each node of a cluster, on which nothing runs yet.
 fn new_tables(alloc: Global, cluster: &Cluster) -> Result<Vec<TaskTable>, AllocError>
     ensures { IfOk result (λ tables. tables.items ≡ tables_from 0 cluster.now.nodes cluster.now.slots) }
 {
     let mut tables = Vec::with_capacity(alloc, cluster.nodes as usize)?;
-    for place in 0..cluster.nodes {
-        tables.push(TaskTable::new(alloc, place + 1, cluster.slots)?)?;
+    match add_tables(&mut tables, alloc, cluster) {
+        Ok(()) => Ok(tables),
+        Err(error) => {
+            drop(tables);
+            Err(error)
+        }
     }
-    Ok(tables)
 }
 
 /// The core of each node, in which nothing is cancelled yet.

@@ -1,7 +1,7 @@
 use Rattle.std.proofs.Common.{rules, ◌+◌, arith}
 use Rattle.std.proofs.lemmas.List.FromFn.{map-range_with_len_more}
 use Rattle.task_table.specs.Table.{new_table}
-use Rattle.world_steps.proofs.world.new_tables.Goals as goal
+use Rattle.world_steps.proofs.world.add_tables.Goals as goal
 
 pub loop-place-init : goal.loop-place-init
 loop-place-init c = search rules
