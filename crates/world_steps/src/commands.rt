@@ -57,6 +57,7 @@ fn whole_ask(index: &Text, body: SearchBody) -> Result<SearchAsk, Stop>
     ensures memory { IfErr result (λ stop. stop ≡ Stop.Memory) }
 {
     let Ok(index) = index.copy() else {
+        drop(body);
         return Err(Stop::Memory);
     };
     Ok(SearchAsk {
@@ -96,6 +97,7 @@ fn search(
         return Ok(());
     };
     if !state.shards.has(index.as_str()) {
+        drop(body);
         return Ok(());
     }
     let ask = whole_ask(index, body)?;
