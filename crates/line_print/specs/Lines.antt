@@ -86,23 +86,21 @@ started k history = first_in root_in (events_of k history)
 abbrev pub is_known : Corpus → List ℕ → Bool
 is_known corpus index = list_any (λ line. bytes_eq index line.index) corpus.lines
 
--- Why a search has no task: the first that fits of a fault of its body, an index that there is not, and a node without a free slot.
+-- why a search whose body has no fault has no task: an index that there is not, and else a node without a free slot
+abbrev pub start_refusal : List ℕ → Bool → Option ℕ → Option Data
+start_refusal index false full_node = Some (index_not_found index)
+start_refusal index true (Some node) = Some (rejected node)
+start_refusal index true None = None
+
+-- Why a search has no task: a fault of its body, and else what refuses its start.
 abbrev pub refusal : List ℕ → Result SearchBody BodyError → Bool → Option ℕ → Option Data
 refusal index (Err fault) known full_node = Some (body_error fault)
-refusal index (Ok body) false full_node = Some (index_not_found index)
-refusal index (Ok body) true (Some node) = Some (rejected node)
-refusal index (Ok body) true None = None
+refusal index (Ok body) known full_node = start_refusal index known full_node
 
 -- the fault of a body that was read, if it has one
 abbrev pub fault_in : Result SearchBody BodyError → Option BodyError
 fault_in (Err fault) = Some fault
 fault_in (Ok body) = None
-
--- why a search whose body has no fault has no task
-abbrev pub start_refusal : List ℕ → Bool → Option ℕ → Option Data
-start_refusal index false full_node = Some (index_not_found index)
-start_refusal index true (Some node) = Some (rejected node)
-start_refusal index true None = None
 
 -- how a search ended: with its hits, or with all its shards failed, or cancelled
 abbrev pub ended_line : ℕ → List Command → ℕ → Option Reply → List ℕ

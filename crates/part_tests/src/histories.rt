@@ -1,8 +1,8 @@
-//! The text of one event, into bytes.
+//! The text of one event, into bytes, and a copy of a request, which no command makes yet.
 
 use std::alloc::Global;
-use task_events::{Event, print_event};
-use task_ids::TaskId;
+use task_events::{Event, FetchAsk, Request, print_event};
+use task_ids::{Boxed, Items, TaskId, Text};
 
 /// Whether this text is told of a refusal.
 fn tells(alloc: Global, wanted: &[u8]) -> bool {
@@ -18,4 +18,36 @@ fn tells(alloc: Global, wanted: &[u8]) -> bool {
 #[test]
 fn tells_a_refusal_with_its_reason(rt: HostRuntime) {
     assert!(rt; tells(rt.alloc(), b"refuse n2:17 4 too slow"));
+}
+
+/// A request for two documents of one shard.
+fn request(alloc: Global) -> Result<Request, AllocError> {
+    let mut places = Items::new(alloc);
+    places.push(3)?;
+    places.push(5)?;
+    let ask = FetchAsk {
+        index: Text::new(String::from_str_in("books", alloc)?),
+        shard: 1,
+        version: 7,
+        places,
+    };
+    Ok(Request::Fetch(Boxed::new(alloc, ask)?))
+}
+
+/// Whether the copy of a request asks the same.
+fn is_copied(request: &Request) -> bool {
+    let (Request::Fetch(asked), Ok(Request::Fetch(copied))) = (request, request.copy()) else {
+        return false;
+    };
+    let (asked, copied) = (asked.get(), copied.get());
+    copied.index.as_str() == asked.index.as_str()
+        && copied.shard == asked.shard
+        && copied.version == asked.version
+        && copied.places.as_slice() == asked.places.as_slice()
+}
+
+#[test]
+fn copies_a_request(rt: HostRuntime) {
+    let asked = request(rt.alloc());
+    assert!(rt; asked.is_ok_and(|it| is_copied(&it)));
 }

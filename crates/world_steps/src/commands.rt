@@ -1,6 +1,6 @@
 //! What commands do, and the closing drain.
 
-ghost use Rattle.std.specs.Prelude.{◌≡◌, ◌⊎◌, ◌∷◌, ◌+◌, ◌≤◌, length, false, Some, IfOk, OnOk, OnErr, IfErr};
+ghost use Rattle.std.specs.Prelude.{◌≡◌, ◌⊎◌, ◌↔◌, ◌∷◌, ◌+◌, ◌≤◌, length, true, false, Some, IfOk, OnOk, OnErr, IfErr};
 ghost use Rattle.query_parse.specs.Bodies.{body_at};
 ghost use Rattle.task_events.specs.Cancels.{last_command, beginning};
 ghost use Rattle.task_events.specs.Laws.{IsDrained};
@@ -31,7 +31,7 @@ use world_moves::state::State;
 
 /// Whether a body could not be read for want of memory. Otherwise the fault is one of the body.
 fn lacks_memory(fault: &BodyError) -> bool
-    ensures { result ≡ false → fault.now ≡ BodyError.Memory → ⊥ }
+    ensures { (result ≡ true) ↔ (fault.now ≡ BodyError.Memory) }
 {
     matches!(fault, BodyError::Memory)
 }
