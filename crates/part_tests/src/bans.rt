@@ -1,14 +1,23 @@
 //! The bans of a node.
 
+ghost use Rattle.task_ids.specs.Limits.{IsCancel};
+
 use ban_table::{Ban, BanPut, BanTable};
 use task_ids::TaskId;
+
+/// Puts a ban of a parent by a cancel. Gives what the table answers, if there is memory.
+fn put(bans: &mut BanTable, parent: TaskId, cancel: u32) -> Option<BanPut>
+    requires { IsCancel cancel }
+{
+    bans.put(parent, cancel).ok()
+}
 
 #[test]
 fn keeps_the_first_ban_of_a_parent(rt: HostRuntime) {
     let parent = TaskId { node: 1, number: 1 };
     let mut bans = BanTable::new(rt.alloc());
-    assert!(rt; bans.put(parent, 4) == Ok(BanPut::Put));
-    assert!(rt; bans.put(parent, 5) == Ok(BanPut::There(4)));
+    assert!(rt; put(&mut bans, parent, 4) == Some(BanPut::Put));
+    assert!(rt; put(&mut bans, parent, 5) == Some(BanPut::There(4)));
     assert!(rt; bans.find(parent) == Some(4));
     assert!(rt; bans.remove(parent));
     assert!(rt; !bans.remove(parent));
@@ -23,8 +32,8 @@ fn lists_bans_by_parent(rt: HostRuntime) {
     };
     let high = TaskId { node: 2, number: 1 };
     let mut bans = BanTable::new(rt.alloc());
-    assert!(rt; bans.put(high, 3) == Ok(BanPut::Put));
-    assert!(rt; bans.put(low, 2) == Ok(BanPut::Put));
+    assert!(rt; put(&mut bans, high, 3) == Some(BanPut::Put));
+    assert!(rt; put(&mut bans, low, 2) == Some(BanPut::Put));
     let first = Ban {
         parent: low,
         cancel: 2,

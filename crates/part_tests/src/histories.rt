@@ -1,6 +1,6 @@
 //! The text of one event, into bytes, and a copy of a request, which no command makes yet.
 
-use std::alloc::Global;
+use std::alloc::{AllocError, Global};
 use task_events::{Event, FetchAsk, Request, print_event};
 use task_ids::{Boxed, Items, TaskId, Text};
 
@@ -26,7 +26,7 @@ fn request(alloc: Global) -> Result<Request, AllocError> {
     places.push(3)?;
     places.push(5)?;
     let ask = FetchAsk {
-        index: Text::new(String::from_str_in("books", alloc)?),
+        index: Text::new(String::from_str(alloc, "books")?),
         shard: 1,
         version: 7,
         places,

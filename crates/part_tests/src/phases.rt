@@ -1,9 +1,9 @@
 //! What later kinds of searches ask of a shard: an older version, a slice, and what stands behind a cursor.
 
-ghost use Rattle.std.specs.Prelude.{◌<◌};
+ghost use Rattle.std.specs.Prelude.{◌≡◌, ◌<◌, false};
+ghost use Rattle.search_phase.specs.Queries.{IsQueried, has_ended};
 
-use query_match::SearchBody;
-use query_parse::read_body;
+use query_match::{Query, SearchBody, SortBy};
 use search_phase::{FetchAnswer, ShardFetch, ShardQuery, TurnAnswer};
 use serde_json::Value;
 use shard_docs::Shard;
@@ -41,8 +41,19 @@ fn shard(alloc: Global) -> Shard {
 
 /// A search by `n`.
 fn by_n(alloc: Global) -> Option<SearchBody> {
-    let body = Value::from_str(alloc, r#"{"sort":["n"]}"#).ok()?;
-    read_body(alloc, &body, false, 0).ok()
+    let field = query_match::Text::from_str(alloc, "n").ok()?;
+    let mut sort = query_match::Items::new(alloc);
+    sort.push(SortBy {
+        field,
+        descending: false,
+    })
+    .ok()?;
+    Some(SearchBody {
+        query: Query::all(),
+        sort,
+        from: 0,
+        size: 10,
+    })
 }
 
 /// What a search by `n` asks of a shard.
@@ -64,13 +75,21 @@ fn ask(
     })
 }
 
-/// What a query finds in its first turn.
-fn top_in(alloc: Global, shard: &Shard, ask: ShardAsk) -> Option<ShardTop> {
-    let mut query = ShardQuery::new(alloc, ask);
+/// What a query finds in its next turn, if that is its last.
+fn turned(query: &mut ShardQuery, shard: &Shard) -> Option<ShardTop>
+    requires queried { IsQueried query.old shard.now }
+    requires not_ended { has_ended query.old shard.now ≡ false }
+{
     match query.turn(shard) {
         Ok(TurnAnswer::Ready(top)) => Some(top),
         _ => None,
     }
+}
+
+/// What a query finds in its first turn.
+fn top_in(alloc: Global, shard: &Shard, ask: ShardAsk) -> Option<ShardTop> {
+    let mut query = ShardQuery::new(alloc, ask);
+    turned(&mut query, shard)
 }
 
 /// What a query of the documents finds.

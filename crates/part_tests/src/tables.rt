@@ -71,27 +71,66 @@ fn mark_kept(table: &mut TaskTable, number: u32, cancel: u32) -> MarkAnswer
     table.mark(number, cancel)
 }
 
+/// Whether only the first mark of the task 1 is kept, and no other task is found.
+fn marks_once(table: &mut TaskTable) -> bool
+    ensures { (id : TaskId) → IsLive table.old id → IsLive table.new id }
+{
+    let first = mark_kept(table, 1, 4);
+    let second = mark_kept(table, 1, 5);
+    let other = mark_kept(table, 2, 5);
+    first == MarkAnswer::Marked && second == MarkAnswer::Already(4) && other == MarkAnswer::NotFound
+}
+
+/// Whether the task of this ticket ends as a root with this mark.
+fn ends_with(alloc: Global, table: &mut TaskTable, ticket: Ticket, mark: u32) -> bool
+    requires { IsLive table.old ticket.id }
+{
+    let id = ticket.id();
+    let ended = table.end(ticket, ChildTrack::new(alloc, id));
+    ended.receipt.task() == Some(id) && ended.receipt.parent().is_none() && ended.mark == Some(mark)
+}
+
+/// Whether the table has one row, of this number and without a mark.
+fn has_one_row(table: &TaskTable, number: u32) -> bool {
+    table.rows().is_ok_and(|rows| {
+        rows.len() == 1 && rows[0].id.number == number && rows[0].cancelled.is_none()
+    })
+}
+
+/// Whether the task of the ticket fills a table of one slot, is marked once, and ends.
+fn fills_until_it_ends(alloc: Global, table: &mut TaskTable, ticket: Ticket) -> bool
+    requires { IsLive table.old ticket.id }
+{
+    let is_full = put_root(alloc, table) == Err("full");
+    let is_marked = marks_once(table);
+    ends_with(alloc, table, ticket, 4) && is_full && is_marked
+}
+
 #[test]
 fn one_slot_holds_one_task_at_a_time(rt: HostRuntime) -> Result<(), Fail> {
     let mut table = TaskTable::new(rt.alloc(), 1, 1)?;
     let ticket = put_in(rt.alloc(), &mut table, None, None)?;
     let id = ticket.id();
+    assert!(rt; fills_until_it_ends(rt.alloc(), &mut table, ticket));
     assert!(rt; id == TaskId { node: 1, number: 1 });
-    assert!(rt; put_root(rt.alloc(), &mut table) == Err("full"));
-    assert!(rt; mark_kept(&mut table, 1, 4) == MarkAnswer::Marked);
-    assert!(rt; mark_kept(&mut table, 1, 5) == MarkAnswer::Already(4));
-    assert!(rt; mark_kept(&mut table, 2, 5) == MarkAnswer::NotFound);
-    let ended = table.end(ticket, ChildTrack::new(rt.alloc(), id));
-    assert!(rt;
-        ended.receipt.task() == Some(id)
-            && ended.receipt.parent().is_none()
-            && ended.mark == Some(4)
-    );
     assert!(rt; put_root(rt.alloc(), &mut table) == Ok(2));
-    let rows = table.rows()?;
-    assert!(rt; rows.len() == 1);
-    assert!(rt; rows[0].id.number == 2 && rows[0].cancelled.is_none());
+    assert!(rt; has_one_row(&table, 2));
     Ok(())
+}
+
+/// Puts a child in for a token and gives its ticket up. Gives its number, or which refusal came.
+fn put_child(
+    alloc: Global,
+    table: &mut TaskTable,
+    parent: TaskId,
+    token: AskToken,
+) -> Result<u32, &'static str>
+    requires { token.parent ≡ parent }
+{
+    let ticket = put_in(alloc, table, Some(parent), Some(token))?;
+    let number = ticket.id().number;
+    ticket.give_up();
+    Ok(number)
 }
 
 #[test]
@@ -101,9 +140,7 @@ fn children_are_found_by_ascending_number(rt: HostRuntime) -> Result<(), Fail> {
     let mut table = TaskTable::new(rt.alloc(), 2, 4)?;
     for number in 1..4 {
         let token = track.ask(2)?;
-        let ticket = put_in(rt.alloc(), &mut table, Some(parent), Some(token))?;
-        assert!(rt; ticket.id().number == number);
-        ticket.give_up();
+        assert!(rt; put_child(rt.alloc(), &mut table, parent, token) == Ok(number));
     }
     for (next, marked) in [(1, 2), (1, 1), (3, 3)] {
         assert!(rt; table.next_child(parent) == Some(next));

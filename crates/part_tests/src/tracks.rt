@@ -1,6 +1,6 @@
 //! The asks of a task: tokens, answers, and what a closed track refuses.
 
-use child_track::{AskError, ChildTrack, Stranger};
+use child_track::{AskError, ChildTrack, Receipt, Stranger};
 use task_ids::TaskId;
 
 fn task() -> TaskId {
@@ -35,6 +35,25 @@ fn a_closed_track_asks_no_more(rt: HostRuntime) {
     assert!(rt; refused == Some(AskError::Closed { cancel: 4 }));
 }
 
+/// Whether the receipt answers the first ask of a root's track, once.
+fn answers_once(track: &mut ChildTrack, receipt: Receipt) -> bool {
+    let is_its = receipt.task().is_none() && receipt.parent() == Some(task()) && receipt.ask() == 1;
+    let first = track.answer(receipt);
+    let second = track.answer(receipt);
+    is_its && first == Ok(()) && second == Err(Stranger(receipt))
+}
+
+/// Whether closing the track finds node 2 alone asked.
+fn closes_over_node_2(track: &mut ChildTrack) -> bool {
+    let nodes = track.close(4);
+    nodes.has(2) && !nodes.has(1) && !nodes.has(3) && track.nodes() == nodes
+}
+
+/// Whether the receipt of a root's track tells its task alone.
+fn tells_its_task(sealed: Receipt) -> bool {
+    sealed.task() == Some(task()) && sealed.parent().is_none() && sealed.ask() == 0
+}
+
 #[test]
 fn a_closed_track_takes_each_answer_once(rt: HostRuntime) {
     let mut track = ChildTrack::new(rt.alloc(), task());
@@ -42,17 +61,8 @@ fn a_closed_track_takes_each_answer_once(rt: HostRuntime) {
         Ok(token) => Some(token.reject()),
         Err(_) => None,
     };
-    let nodes = track.close(4);
-    assert!(rt; nodes.has(2) && !nodes.has(1) && !nodes.has(3));
-    assert!(rt; track.nodes() == nodes && track.unanswered() == 1);
-    if let Some(receipt) = receipt {
-        assert!(rt; receipt.task().is_none() && receipt.parent() == Some(task()));
-        assert!(rt; receipt.ask() == 1);
-        assert!(rt; track.answer(receipt) == Ok(()));
-        assert!(rt; track.answer(receipt) == Err(Stranger(receipt)));
-    }
-    assert!(rt; receipt.is_some() && track.unanswered() == 0);
-    let sealed = track.seal(None);
-    assert!(rt; sealed.task() == Some(task()) && sealed.parent().is_none());
-    assert!(rt; sealed.ask() == 0);
+    assert!(rt; closes_over_node_2(&mut track) && track.unanswered() == 1);
+    assert!(rt; receipt.is_some_and(|it| answers_once(&mut track, it)));
+    assert!(rt; track.unanswered() == 0);
+    assert!(rt; tells_its_task(track.seal(None)));
 }
