@@ -45,7 +45,7 @@ impl Found<'_> {
     }
 
     /// How they stand in the order of values: whole numbers, then texts by bytes, then false, true.
-    pub(crate) fn compare(&self, other: &Found<'_>) -> Ordering
+    pub fn compare(&self, other: &Found<'_>) -> Ordering
         ensures { result ≡ value_cmp (found_view self.now) (found_view other.now) }
     {
         match (self, other) {

@@ -1,13 +1,11 @@
-//! Queries, sorts and bodies of searches as values: which documents a query matches, after Elasticsearch's Query DSL, and by which key a sort orders them.
+//! Queries, sorts and bodies of searches as values, after Elasticsearch's Query DSL, and what they mean: which documents a query
+//! matches, and by which key a sort orders them.
 #![tactic(auto)]
 
-mod best;
 mod body;
 mod copying;
-mod field_test;
 mod found;
 mod items;
-mod matching;
 mod query;
 mod scalar;
 mod sort;
@@ -16,7 +14,7 @@ mod text;
 pub use body::SearchBody;
 pub use found::{Found, value_in};
 pub use items::Items;
-pub use query::{Node, Query, Range, Test};
+pub use query::{Node, Query, Range, Side, Test};
 pub use scalar::Scalar;
-pub use sort::{KeyPart, SortBy, SortKey, sort_key};
+pub use sort::{KeyPart, SortBy, SortKey};
 pub use text::Text;

@@ -35,6 +35,13 @@ impl Query {
         Query { node }
     }
 
+    /// The tree, borrowed.
+    pub fn node(&self) -> &Node
+        ensures { query_view result.now ≡ self.now }
+    {
+        &self.node
+    }
+
     /// The query that every document matches.
     pub fn all() -> Query
         ensures { result ≡ match_all }
@@ -94,9 +101,13 @@ pub struct Range {
 
 /// Which bound of a range.
 #[derive(Clone, Copy)]
-pub(crate) enum Side {
+pub enum Side {
+    /// `gt`.
     Above,
+    /// `gte`.
     From,
+    /// `lt`.
     Below,
+    /// `lte`.
     To,
 }

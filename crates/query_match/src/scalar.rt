@@ -28,7 +28,7 @@ impl Scalar {
     }
 
     /// The value, borrowed.
-    pub(crate) fn lent(&self) -> Found<'_>
+    pub fn lent(&self) -> Found<'_>
         ensures { found_view result ≡ self.now }
     {
         match self {

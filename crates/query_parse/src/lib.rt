@@ -12,5 +12,5 @@ mod sort_reading;
 
 pub use body_reading::read_body;
 pub use fault::{BodyError, QueryError, QueryFault};
-pub use query_match::{Items, KeyPart, Query, Scalar, SearchBody, SortBy, SortKey, Text, sort_key};
+pub use query_match::{Items, KeyPart, Query, Scalar, SearchBody, SortBy, SortKey, Text};
 pub use reading::read_query;

@@ -4,7 +4,7 @@ ghost use Rattle.std.specs.Prelude.{◌≡◌, ◌≤◌, ◌++◌, ◌&&◌, If
 ghost use Rattle.task_events.specs.Answers.{is_in_slice, is_found, hit_key};
 ghost use Rattle.search_phase.specs.Queries.{keys_below};
 
-use query_match::sort_key;
+use doc_match::{matches, sort_key};
 use shard_docs::{Shard, slice_of};
 use std::alloc::{AllocError, Global};
 use task_events::{HitKey, ShardAsk, SlicePick};
@@ -23,7 +23,7 @@ fn is_found(ask: &ShardAsk, doc: &Doc) -> bool
     ensures { result ≡ is_found ask.now.body ask.now.slice doc.now }
 {
     let id = doc.id.as_str().as_bytes();
-    ask.body.query.matches(id, doc.source.as_value()) && is_in_slice(ask.slice, id)
+    matches(&ask.body.query, id, doc.source.as_value()) && is_in_slice(ask.slice, id)
 }
 
 fn hit_key(alloc: Global, ask: &ShardAsk, place: u32, doc: &Doc) -> Result<HitKey, AllocError>

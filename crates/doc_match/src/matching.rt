@@ -1,0 +1,163 @@
+//! Whether a document matches a query.
+
+ghost use Rattle.std.specs.Prelude.{◌≡◌, nat_le, option_map};
+ghost use Rattle.std.specs.List.{list_any};
+ghost use Rattle.serde_json.specs.View.{view, items_view, members_view};
+ghost use Rattle.query_match.specs.Matching.{holds, matches, all_match, none_matches, match_count};
+ghost use Rattle.query_match.specs.Values.{after_dot, after_key, same_bytes, held_at, held_by_key, held_behind, held_behind_each};
+ghost use Rattle.query_match.specs.View.{query_view, queries_view};
+
+use crate::field_test::holds;
+use query_match::{Node, Query, Test, Text};
+use serde_json::{Map, Value};
+
+fn after_dot(name: &[u8]) -> Option<&[u8]>
+    ensures { option_map (λ r. r.now) result ≡ after_dot name.now }
+{
+    match name {
+        [b'.', rest @ ..] => Some(rest),
+        _ => None,
+    }
+}
+
+/// The rest of a field's name that begins with the key and a dot.
+pub(crate) fn after_key<'f>(key: &[u8], field: &'f [u8]) -> Option<&'f [u8]>
+    ensures { option_map (λ r. r.now) result ≡ after_key key.now field.now }
+{
+    if field.starts_with(key) {
+        after_dot(&field[key.len()..])
+    } else {
+        None
+    }
+}
+
+/// Something that lies at the field of an object passes the test.
+#[cycle(held)]
+fn holds_at(test: &Test, field: &[u8], members: &Map<String, Value>) -> bool
+    ensures { result ≡ list_any (holds test.now) (held_at field.now (members_view members.now.entries)) }
+{
+    for (key, value) in members.iter() {
+        if holds_by_key(test, field, key.as_str(), value) {
+            return true;
+        }
+    }
+    false
+}
+
+#[cycle(held)]
+fn holds_by_key(test: &Test, field: &[u8], key: &str, value: &Value) -> bool
+    ensures { result ≡ list_any (holds test.now) (held_by_key field.now key.now (view value.now)) }
+{
+    let key = key.as_bytes();
+    if field == key {
+        return holds(test, value);
+    }
+    match after_key(key, field) {
+        Some(rest) => holds_behind(test, rest, value),
+        None => false,
+    }
+}
+
+/// Something that lies at the field of an object passes the test, in one object or in a list of them.
+#[cycle(held)]
+fn holds_behind(test: &Test, field: &[u8], value: &Value) -> bool
+    ensures { result ≡ list_any (holds test.now) (held_behind field.now (view value.now)) }
+{
+    match value {
+        Value::Object(members) => holds_at(test, field, members),
+        Value::Array(items) => holds_behind_one(test, field, items.as_slice()),
+        _ => false,
+    }
+}
+
+#[cycle(held)]
+fn holds_behind_one(test: &Test, field: &[u8], items: &[Value]) -> bool
+    ensures { result ≡ list_any (holds test.now) (held_behind_each field.now (items_view items.now)) }
+{
+    for item in items {
+        if holds_behind(test, field, item) {
+            return true;
+        }
+    }
+    false
+}
+
+fn is_one_of(id: &[u8], ids: &[Text]) -> bool
+    ensures { result ≡ list_any (same_bytes id.now) ids.now }
+{
+    ids.iter().any(|other| id == other.as_str().as_bytes())
+}
+
+#[cycle(matching)]
+fn node_matches(node: &Node, id: &[u8], source: &Value) -> bool
+    ensures { result ≡ matches (query_view node.now) id.now (view source.now) }
+{
+    match node {
+        Node::All => true,
+        Node::Nothing => false,
+        Node::Field(field, test) => holds_behind(test, field.as_str().as_bytes(), source),
+        Node::Ids(ids) => is_one_of(id, ids.as_slice()),
+        Node::Bool {
+            must,
+            filter,
+            should,
+            must_not,
+            least,
+        } => {
+            all_match(must, id, source)
+                && all_match(filter, id, source)
+                && none_matches(must_not, id, source)
+                && enough_match(should, *least, id, source)
+        }
+    }
+}
+
+#[cycle(matching)]
+fn all_match(nodes: &[Node], id: &[u8], source: &Value) -> bool
+    ensures { result ≡ all_match (queries_view nodes.now) id.now (view source.now) }
+{
+    for node in nodes {
+        if !node_matches(node, id, source) {
+            return false;
+        }
+    }
+    true
+}
+
+#[cycle(matching)]
+fn none_matches(nodes: &[Node], id: &[u8], source: &Value) -> bool
+    ensures { result ≡ none_matches (queries_view nodes.now) id.now (view source.now) }
+{
+    for node in nodes {
+        if node_matches(node, id, source) {
+            return false;
+        }
+    }
+    true
+}
+
+/// At least so many of the queries match.
+#[cycle(matching)]
+fn enough_match(nodes: &[Node], least: u32, id: &[u8], source: &Value) -> bool
+    ensures { result ≡ nat_le least (match_count (queries_view nodes.now) id.now (view source.now)) }
+{
+    let mut missing = least;
+    for node in nodes {
+        if missing == 0 {
+            return true;
+        }
+        if node_matches(node, id, source) {
+            missing -= 1;
+        }
+    }
+    missing == 0
+}
+
+/// Whether the document of this id and source matches.
+///
+/// It takes no memory, and walks the source once for each field that the query names. A number with a fraction or an exponent is no value. A source is an object; of a list the objects in it would count.
+pub fn matches(query: &Query, id: &[u8], source: &Value) -> bool
+    ensures { result ≡ matches query.now id.now (view source.now) }
+{
+    node_matches(query.node(), id, source)
+}

@@ -1,7 +1,0 @@
-use Rattle.std.proofs.Common.{◌≡◌, take, map}
-use Rattle.serde_json.specs.View.{view}
-use Rattle.query_match.specs.Sorting.{part_at}
-use Rattle.query_match.proofs.sort.sort_key.Given as goal
-
-abbrev pub invariant-loop-by : goal.invariant-loop-by
-invariant-loop-by l = l.parts.items ≡ map (part_at (view l.source)) (take l.by-index l.sort)
