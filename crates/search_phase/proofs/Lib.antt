@@ -6,7 +6,6 @@ pub mod FetchAnswers
 pub mod FetchTurns
 pub mod Growing
 pub mod HitKeys
-pub mod Hits
 pub mod Kept
 pub mod Lookups
 pub mod Ordered

@@ -91,14 +91,10 @@ module _ (ask : ShardAsk) where
     pub no_row : row_at version place writes ≡ None → keys_below ask version (place + 1) writes ≡ keys_below ask version place writes
     no_row h = next None h ∙ append-nil _
 
-    module _ (doc : Doc) (h : row_at version place writes ≡ Some doc) where
-      -- a row that matches adds its key
-      pub row_found : is_found ask.body ask.slice doc ≡ true → keys_below ask version (place + 1) writes ≡ keys_below ask version place writes ++ hit_key ask.body ask.shard (place, doc) ∷ []
-      row_found k = next (Some doc) h ∙ ap (λ b. keys_below ask version place writes ++ map (hit_key ask.body ask.shard) (cond b ((place, doc) ∷ []) [])) k
-
-      -- and another adds none
-      pub row_not_found : is_found ask.body ask.slice doc ≡ false → keys_below ask version (place + 1) writes ≡ keys_below ask version place writes
-      row_not_found k = next (Some doc) h ∙ ap (λ b. keys_below ask version place writes ++ map (hit_key ask.body ask.shard) (cond b ((place, doc) ∷ []) [])) k ∙ append-nil _
+    -- and another place adds that of its row, if it matches
+    pub one_row : (doc : Doc) → row_at version place writes ≡ Some doc
+        → keys_below ask version (place + 1) writes ≡ keys_below ask version place writes ++ keys_among ask.body ask.slice ask.shard ((place, doc) ∷ [])
+    one_row doc h = next (Some doc) h
 
   -- below the first place there is none
   pub keys_below-none : (version : ℕ) (writes : List Doc) → keys_below ask version 0 writes ≡ []

@@ -1,6 +1,6 @@
 //! The answer of a search, put together from the answers to all its asks.
 
-ghost use Rattle.std.specs.Prelude.{◌≡◌, ◌==◌, ◌+◌, ◌∷◌, [], ◌++◌, OnOk, find, None, ◌^◌, ◌<◌, ◌≤◌, IfOk, length, map, filter_map, position, slice_get, take, drop, option_copied, option_and_then};
+ghost use Rattle.std.specs.Prelude.{◌≡◌, ◌==◌, ◌∷◌, [], ◌++◌, OnOk, find, None, ◌^◌, ◌<◌, ◌≤◌, IfOk, length, map, filter_map, position, slice_get, take, drop, option_copied, option_and_then};
 ghost use Rattle.std.specs.List.{sum_by, range_with_len, last_or};
 ghost use Rattle.task_events.specs.Answers.{context_of};
 ghost use Rattle.task_events.specs.Searches.{failure_of, counted, tops_in, search_reply};
@@ -14,41 +14,17 @@ use task_events::{
 };
 use task_ids::{Boxed, Items, TaskId};
 
-fn failure_of(asked: &Asked) -> Option<ShardFailure>
-    ensures { result ≡ failure_of asked.now }
+/// Why a task failed, where it did.
+fn failure_of(asked: Option<&Asked>) -> Option<ShardFailure>
+    ensures { result ≡ option_and_then failure_of (option_copied asked.entry) }
 {
-    match &asked.answer {
+    match &asked?.answer {
         Some(Reply::Cancelled { task, cancel, .. }) => Some(ShardFailure::Cancelled {
             task: *task,
             cancel: *cancel,
         }),
         Some(Reply::Rejected { node }) => Some(ShardFailure::Rejected { node: *node }),
         _ => None,
-    }
-}
-
-/// The asks of the queries.
-fn queries(asked: &[Asked], shards: u32) -> &[Asked]
-    requires { shards ≤ length asked.now }
-    ensures { result.now ≡ take shards asked.now }
-{
-    &asked[..shards as usize]
-}
-
-/// The asks of the fetches.
-fn fetched(asked: &[Asked], shards: u32) -> &[Asked]
-    requires { shards ≤ length asked.now }
-    ensures { result.now ≡ drop shards asked.now }
-{
-    &asked[shards as usize..]
-}
-
-fn failure_in(asked: &[Asked], place: usize) -> Option<ShardFailure>
-    ensures { result ≡ option_and_then failure_of (slice_get asked.now place) }
-{
-    match asked.get(place) {
-        Some(query) => failure_of(query),
-        None => None,
     }
 }
 
@@ -84,14 +60,11 @@ fn failure_at(
     requires { shards ≤ length asked.now }
     ensures { result ≡ failure_by fetches.now shards asked.now shard }
 {
-    let query = failure_in(asked, shard as usize);
+    let query = failure_of(asked_at(asked, shard as usize));
     if query.is_some() {
         return query;
     }
-    match answer_to(fetches, fetched(asked, shards), shard) {
-        Some(answer) => failure_of(answer),
-        None => None,
-    }
+    failure_of(answer_to(fetches, &asked[shards as usize..], shard))
 }
 
 fn add_failure(
@@ -207,7 +180,11 @@ fn total_of(tops: &[&ShardTop]) -> u64
     requires { sum_by (λ top. top.count) (map (λ top. top.now) tops.now) < 2 ^ 64 }
     ensures { result ≡ sum_by (λ top. top.count) (map (λ top. top.now) tops.now) }
 {
-    tops.iter().map(|top| top.count).sum()
+    let mut total = 0;
+    for top in tops {
+        total += top.count;
+    }
+    total
 }
 
 fn last_of(won: &[HitKey]) -> Result<Option<HitKey>, AllocError>
@@ -277,8 +254,8 @@ fn reply_with(
       last = last_or None fetching.now.won;
     }) }
 {
-    let (counts, total) = counted_in(alloc, queries(asked, shards))?;
-    let (hits, last) = shown(alloc, fetching, fetched(asked, shards))?;
+    let (counts, total) = counted_in(alloc, &asked[..shards as usize])?;
+    let (hits, last) = shown(alloc, fetching, &asked[shards as usize..])?;
     Ok(SearchReply {
         context,
         shards: counts,

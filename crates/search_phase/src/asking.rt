@@ -13,25 +13,18 @@ use std::alloc::{AllocError, Global};
 use task_events::{FetchAsk, Reply, Request, SearchAsk, ShardAsk};
 use task_ids::Boxed;
 
-/// The query phase of a search in a shard.
-fn query_of(ask: &SearchAsk, shard: u32) -> Result<ShardAsk, AllocError>
-    ensures { IfOk result (λ query. query ≡ query_of ask.now shard) }
+/// The request of the query of a shard.
+fn query_request(alloc: Global, ask: &SearchAsk, shard: u32) -> Result<Option<Request>, AllocError>
+    ensures { IfOk result (λ request. request ≡ Some (Request.Query (query_of ask.now shard))) }
 {
-    Ok(ShardAsk {
+    let query = ShardAsk {
         index: ask.index.copy()?,
         shard,
         body: ask.body.copy()?,
         version: None,
         after: None,
         slice: ask.slice,
-    })
-}
-
-/// The request of the query of a shard.
-fn query_request(alloc: Global, ask: &SearchAsk, shard: u32) -> Result<Option<Request>, AllocError>
-    ensures { IfOk result (λ request. request ≡ Some (Request.Query (query_of ask.now shard))) }
-{
-    let query = query_of(ask, shard)?;
+    };
     let query = Boxed::new(alloc, query)?;
     Ok(Some(Request::Query(query)))
 }

@@ -1,6 +1,6 @@
 //! The fetch phase of a search in one shard.
 
-ghost use Rattle.std.specs.Prelude.{◌≡◌, ◌+◌, ◌≤◌, List, false, length, filter_map, slice_range, IfOk, OnOk, OnErr};
+ghost use Rattle.std.specs.Prelude.{◌≡◌, ◌+◌, ◌≤◌, List, [], ◌∷◌, ◌++◌, false, length, filter_map, slice_range, IfOk, OnOk, OnErr};
 ghost use Rattle.task_ids.specs.declared.doc.Doc.{Doc};
 ghost use Rattle.task_events.specs.Answers.{hit_at};
 ghost use Rattle.search_phase.specs.Fetches.{IsFetched, StaysFetched, new_fetch, has_fetched, fetched_in};
@@ -11,7 +11,7 @@ use std::alloc::{AllocError, Global};
 use std::marker::Model;
 use std::mem::replace;
 use task_events::{FetchAsk, Hit};
-use task_ids::{Doc, Items};
+use task_ids::Items;
 
 /// How many places a turn looks up, at most.
 const PLACES_PER_TURN: usize = 1024;
@@ -48,14 +48,24 @@ impl Model for ShardFetch {
     ghost view = { λ f. record { ask = f.ask; turns = f.turns; hits = f.hits.items } };
 }
 
-fn hit(ask: &FetchAsk, place: u32, doc: &Doc) -> Result<Hit, AllocError>
-    ensures { IfOk result (λ hit. hit ≡ record { index = ask.now.index; doc = doc.now; place = place }) }
+/// Adds the document of a place, where it has a row alive at the version.
+fn add_hit(
+    hits: &mut Vec<Hit>,
+    ask: &FetchAsk,
+    shard: &Shard,
+    place: u32,
+) -> Result<(), AllocError>
+    ensures { OnOk result (hits.new.items
+        ≡ hits.old.items ++ filter_map (hit_at ask.now.index ask.now.version shard.now) (place ∷ [])) }
 {
-    Ok(Hit {
-        index: ask.index.copy()?,
-        doc: doc.copy()?,
-        place,
-    })
+    if let Some(doc) = shard.row(ask.version, place) {
+        hits.push(Hit {
+            index: ask.index.copy()?,
+            doc: doc.copy()?,
+            place,
+        })?;
+    }
+    Ok(())
 }
 
 /// The documents of the places from one index on and below another.
@@ -74,10 +84,7 @@ fn hits_at(
     let places = &ask.places.as_slice()[start..end];
     let mut hits = Vec::new(alloc);
     for &place in places {
-        let Some(doc) = shard.row(ask.version, place) else {
-            continue;
-        };
-        hits.push(hit(ask, place, doc)?)?;
+        add_hit(&mut hits, ask, shard, place)?;
     }
     Ok(hits)
 }
@@ -118,7 +125,9 @@ impl ShardFetch {
         let start = self.turns * PLACES_PER_TURN;
         let end = start + (all - start).min(PLACES_PER_TURN);
         let mut found = hits_at(self.alloc, &self.ask, shard, start, end)?;
-        self.hits.append(&mut found)?;
+        let added = self.hits.append(&mut found);
+        drop(found);
+        added?;
         self.turns += 1;
         if end < all {
             return Ok(FetchAnswer::More);

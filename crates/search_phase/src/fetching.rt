@@ -1,8 +1,8 @@
 //! What the fetch phase of a search asks for.
 
-ghost use Rattle.std.specs.Prelude.{◌≡◌, ◌≤◌, ◌∷◌, [], ◌++◌, length, true, IfOk, OnOk, map, option_and_then, option_copied};
+ghost use Rattle.std.specs.Prelude.{◌≡◌, ◌≤◌, ◌∷◌, [], ◌++◌, length, true, IfOk, OnOk, map};
 ghost use Rattle.std.specs.List.{flat_map};
-ghost use Rattle.task_events.specs.Searches.{top_of, has_winner, fetch_of, are_answered, has_queried};
+ghost use Rattle.task_events.specs.Searches.{has_winner, fetch_of, are_answered, has_queried};
 ghost use Rattle.search_phase.specs.FetchPhase.{tops_of, places_of, fetches_for, fetching_of, fetching_in};
 
 use crate::merging::{add_keys, cut_keys};
@@ -19,26 +19,14 @@ pub(crate) struct Fetching {
     pub(crate) fetches: Items<FetchAsk>,
 }
 
-fn top_of(asked: &Asked) -> Option<&ShardTop>
-    ensures { option_copied result ≡ option_and_then top_of asked.now.answer }
-{
-    match &asked.answer {
-        Some(Reply::Top(top)) => Some(top.get()),
-        _ => None,
-    }
-}
-
 fn add_top<'a>(tops: &mut Vec<&'a ShardTop>, asked: &'a Asked) -> Result<(), AllocError>
     ensures { OnOk result (map (λ top. top.now) tops.new.items
         ≡ map (λ top. top.now) tops.old.items ++ tops_of (asked.now ∷ [])) }
 {
-    match top_of(asked) {
-        Some(top) => {
-            tops.push(top)?;
-            Ok(())
-        }
-        None => Ok(()),
+    if let Some(Reply::Top(top)) = &asked.answer {
+        tops.push(top.get())?;
     }
+    Ok(())
 }
 
 /// The tops among some answers, in order.

@@ -1,6 +1,6 @@
 //! Keeping the keys that stand first.
 
-ghost use Rattle.std.specs.Prelude.{◌≡◌, ◌+◌, ◌<◌, ◌≤◌, ◌∷◌, ◌++◌, length, take, filter, IsOk, OnOk, OnErr};
+ghost use Rattle.std.specs.Prelude.{◌≡◌, ◌+◌, ◌<◌, ◌≤◌, ◌∷◌, ◌++◌, length, take, filter, OnOk, OnErr};
 ghost use Rattle.std.specs.BinaryHeap.{IsHeap, heap_items, heap_len, heap_capacity};
 ghost use Rattle.task_events.specs.HitOrder.{hit_cmp, in_hit_order, is_after};
 
@@ -9,43 +9,45 @@ use std::collections::BinaryHeap;
 use task_events::HitKey;
 
 /// Keeps a key in place of the last one, where it stands before that one. It takes no memory.
-fn keep_before_last(first: &mut BinaryHeap<HitKey>, key: HitKey) -> Result<(), AllocError>
+fn keep_before_last(first: &mut BinaryHeap<HitKey>, key: HitKey)
     requires { IsHeap hit_cmp (heap_items first.old) }
     ensures ordered { IsHeap hit_cmp (heap_items first.new) }
     ensures keys { in_hit_order (heap_items first.new)
         ≡ take (heap_len first.old) (in_hit_order (key ∷ heap_items first.old)) }
     ensures len { heap_len first.new ≡ heap_len first.old }
     ensures room { heap_capacity first.old ≤ heap_capacity first.new }
-    ensures succeeds { IsOk result }
 {
     let Some(last) = first.peek() else {
-        return Ok(());
+        return;
     };
     if last <= &key {
-        return Ok(());
+        return;
     }
     first.pop();
-    first.push(key)?;
-    Ok(())
+    match first.push(key) {
+        Ok(()) => {}
+        Err(_) => unreachable!(),
+    }
 }
 
-/// Keeps a key among at most so many that stand first. It fails only where there is no room for one more.
-fn keep(first: &mut BinaryHeap<HitKey>, most: usize, key: HitKey) -> Result<(), AllocError>
+/// Keeps a key among at most so many that stand first, where there is room for one more.
+fn keep(first: &mut BinaryHeap<HitKey>, most: usize, key: HitKey)
     requires ordered { IsHeap hit_cmp (heap_items first.old) }
     requires few { heap_len first.old ≤ most }
+    requires room { heap_len first.old < most → heap_len first.old < heap_capacity first.old }
     ensures still_ordered { IsHeap hit_cmp (heap_items first.new) }
-    ensures ok { OnOk result (in_hit_order (heap_items first.new) ≡ take most (in_hit_order (key ∷ heap_items first.old))) }
-    ensures succeeds { (heap_len first.old < most → heap_len first.old < heap_capacity first.old) → IsOk result }
-
+    ensures keys { in_hit_order (heap_items first.new) ≡ take most (in_hit_order (key ∷ heap_items first.old)) }
     ensures still_few { heap_len first.new ≤ most }
     ensures one_more { heap_len first.new ≤ heap_len first.old + 1 }
-    ensures room { heap_capacity first.old ≤ heap_capacity first.new }
+    ensures still_room { heap_capacity first.old ≤ heap_capacity first.new }
 {
-    if first.len() < most {
-        first.push(key)?;
-        return Ok(());
+    if most <= first.len() {
+        return keep_before_last(first, key);
     }
-    keep_before_last(first, key)
+    match first.push(key) {
+        Ok(()) => {}
+        Err(_) => unreachable!(),
+    }
 }
 
 fn is_after(after: &Option<HitKey>, key: &HitKey) -> bool
@@ -76,7 +78,7 @@ pub(crate) fn keep_all(
     first.reserve(room)?;
     for key in found {
         if is_after(after, &key) {
-            keep(first, most, key)?;
+            keep(first, most, key);
         }
     }
     Ok(())

@@ -1,7 +1,7 @@
 //! Looking at the rows of a shard.
 
-ghost use Rattle.std.specs.Prelude.{◌≡◌, ◌≤◌, ◌++◌, ◌&&◌, IfOk, Some, None};
-ghost use Rattle.task_events.specs.Answers.{is_in_slice, is_found, hit_key};
+ghost use Rattle.std.specs.Prelude.{◌≡◌, ◌≤◌, ◌∷◌, [], ◌++◌, ◌&&◌, IfOk, OnOk, Some, None};
+ghost use Rattle.task_events.specs.Answers.{is_in_slice, is_found, keys_among};
 ghost use Rattle.search_phase.specs.Queries.{keys_below};
 
 use doc_match::{matches, sort_key};
@@ -26,15 +26,25 @@ fn is_found(ask: &ShardAsk, doc: &Doc) -> bool
     matches(&ask.body.query, id, doc.source.as_value()) && is_in_slice(ask.slice, id)
 }
 
-fn hit_key(alloc: Global, ask: &ShardAsk, place: u32, doc: &Doc) -> Result<HitKey, AllocError>
-    ensures { IfOk result (λ key. key ≡ hit_key ask.now.body ask.now.shard (place, doc.now)) }
+/// Adds the key of a row, where it matches.
+fn add_key(
+    keys: &mut Vec<HitKey>,
+    ask: &ShardAsk,
+    place: u32,
+    doc: &Doc,
+) -> Result<(), AllocError>
+    ensures { OnOk result (keys.new.items
+        ≡ keys.old.items ++ keys_among ask.now.body ask.now.slice ask.now.shard ((place, doc.now) ∷ [])) }
 {
-    let sort = sort_key(alloc, ask.body.sort.as_slice(), doc.source.as_value())?;
-    Ok(HitKey {
-        sort,
-        shard: ask.shard,
-        place,
-    })
+    if is_found(ask, doc) {
+        let sort = sort_key(*keys.allocator(), ask.body.sort.as_slice(), doc.source.as_value())?;
+        keys.push(HitKey {
+            sort,
+            shard: ask.shard,
+            place,
+        })?;
+    }
+    Ok(())
 }
 
 /// The keys of the rows that match, at a version, from a place on and below another.
@@ -55,9 +65,7 @@ pub(crate) fn keys_between(
         let Some(doc) = shard.row(version, place) else {
             continue;
         };
-        if is_found(ask, doc) {
-            keys.push(hit_key(alloc, ask, place, doc)?)?;
-        }
+        add_key(&mut keys, ask, place, doc)?;
     }
     Ok(keys)
 }

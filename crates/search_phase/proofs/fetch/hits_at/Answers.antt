@@ -1,21 +1,17 @@
 -- Each place adds the document of its row, if there is one.
-use Rattle.std.proofs.Common.{◌++◌, ◌∷◌, [], refl, sym, ap, ◌∙◌, filter_map, take, slice_range}
+use Rattle.std.proofs.Common.{◌++◌, ◌∷◌, [], sym, ap, ◌∙◌, filter_map, get_or, slice_range}
+use Rattle.std.proofs.lemmas.List.{take_all, get_or_default}
 use Rattle.task_events.specs.Answers.{hit_at}
-use Rattle.search_phase.proofs.Hits.{hit_there, no_hit}
+use Rattle.search_phase.proofs.FetchAnswers.{filter_map_step}
 use Rattle.search_phase.proofs.fetch.hits_at.Goals as goal
 
-pub loop-place-preserved-in_default : goal.loop-place-preserved-in_default
-loop-place-preserved-in_default c =
-    let ask = c.args.ask.now in
-    let places = slice_range c.as_slice.result.now c.args.start c.args.end in
-    c.loop-place.invariant ∙ sym (no_hit ask.index ask.version c.args.shard.now places c.loop-place.place-index _ c.loop-place-test.true refl (sym c.in_default.ensures))
+pub loop-place-init : goal.loop-place-init
+loop-place-init c = c.new-hits.ensures.items
 
 pub loop-place-preserved : goal.loop-place-preserved
 loop-place-preserved c =
-    let ask = c.args.ask.now in
+    let hit = hit_at c.args.ask.now.index c.args.ask.now.version c.args.shard.now in
     let places = slice_range c.as_slice.result.now c.args.start c.args.end in
-    let before = filter_map (hit_at ask.index ask.version c.args.shard.now) (take c.loop-place.place-index places) in
-    c.in_ok-push.ensures.items
-    ∙ ap (λ hits. hits ++ c.in_ok-hit.field-0 ∷ []) c.loop-place.invariant
-    ∙ ap (λ hit. before ++ hit ∷ []) c.in_ok-hit.ensures
-    ∙ sym (hit_there ask.index ask.version c.args.shard.now places c.loop-place.place-index _ c.loop-place-test.true refl c.in-Some.doc.now (sym c.in-Some.ensures))
+    let place = get_or places c.loop-place.place-index 0 in
+    c.in_ok-add_hit.ensures ∙ ap (λ hits. hits ++ filter_map hit (place ∷ [])) c.loop-place.invariant
+    ∙ sym (filter_map_step hit places c.loop-place.place-index place c.loop-place-test.true (get_or_default places c.loop-place.place-index 0 place c.loop-place-test.true))

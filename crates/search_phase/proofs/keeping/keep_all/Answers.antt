@@ -1,5 +1,5 @@
--- The keys so far are the first of those that came; there is room for each that will be kept, so no push fails.
-use Rattle.std.proofs.Common.{◌+◌, ◌<◌, ◌≤◌, ◌∷◌, ◌++◌, length, take, filter, true, false, [], sym, ap, ◌∙◌, arith, subst, true≢false, heap_items, heap_len}
+-- The keys so far are the first of those that came; there is room for each that will be kept, as `keep` requires.
+use Rattle.std.proofs.Common.{◌+◌, ◌<◌, ◌≤◌, ◌∷◌, ◌++◌, length, take, filter, [], sym, ap, ◌∙◌, arith, subst, heap_items, heap_len}
 use Rattle.std.specs.BinaryHeap.{IsHeap, heap_capacity}
 use Rattle.std.proofs.lemmas.List.{append-nil, append_assoc, length-append, map-id}
 use Rattle.std.proofs.lemmas.List.Sorted.{IsPermutation-refl}
@@ -28,28 +28,26 @@ keep-requires-clause-ordered c = c.loop-key.invariant.0
 pub keep-requires-clause-few : goal.keep-requires-clause-few
 keep-requires-clause-few c = c.loop-key.invariant.1
 
-pub loop-key-preserved-in-Continue-branch-2 : goal.loop-key-preserved-in-Continue-branch-2
-loop-key-preserved-in-Continue-branch-2 c =
-    let e = c.in_ok-keep.ensures in
+pub keep-requires-clause-room : goal.keep-requires-clause-room
+keep-requires-clause-room c =
+    let i = c.loop-key.invariant in
+    let gives = c.into_iter-key-iterator.ensures.into_iter_gives in
+    let turn = YieldsList-turn (YieldsList-from_vec {s = c.into_iter-key-iterator.result} c.args.found.items gives.0 (gives.1 ∙ c.args.found.ok.0)) c.loop-key.yielded c.loop-key.key-iterator c.loop-key.yielded_by c.next.result c.next.new.self c.in-Some.key c.in-Some.is c.next.ensures.steps in
+    λ few. omega (arith, i.2, i.3, turn.0, few, c.min-room.ensures, c.len.ensures, c.len-2.ensures, c.args.found.ok.0, c.in_ok-reserve.ensures.len)
+
+pub loop-key-preserved-then-is_after : goal.loop-key-preserved-then-is_after
+loop-key-preserved-then-is_after c =
+    let e = c.keep.ensures in
     let i = c.loop-key.invariant in
     let before = heap_items c.reserve.new.self in
     let passes = sym c.is_after.ensures ∙ c.if-is_after.true in (
       e.still_ordered,
       e.still_few,
       omega (arith, e.one_more, i.2, length-append c.loop-key.yielded (c.in-Some.key ∷ [])),
-      omega (arith, e.room, i.3),
-      first_push c.args.most c.in-Some.key (heap_items c.loop-key.first) (before ++ filter (is_after c.args.after.now) c.loop-key.yielded) (heap_items c.keep.new.first) i.4 e.ok
+      omega (arith, e.still_room, i.3),
+      first_push c.args.most c.in-Some.key (heap_items c.loop-key.first) (before ++ filter (is_after c.args.after.now) c.loop-key.yielded) (heap_items c.keep.new.first) i.4 e.keys
           ∙ ap (λ keys. take c.args.most (in_hit_order keys)) (append_assoc before _ _ ∙ ap (λ keys. before ++ keys) (sym (filter_in (is_after c.args.after.now) c.loop-key.yielded c.in-Some.key passes))),
     )
-
-pub returns-in_err-keep-clause-err : goal.returns-in_err-keep-clause-err
-returns-in_err-keep-clause-err c =
-    let i = c.loop-key.invariant in
-    let gives = c.into_iter-key-iterator.ensures.into_iter_gives in
-    let turn = YieldsList-turn (YieldsList-from_vec {s = c.into_iter-key-iterator.result} c.args.found.items gives.0 (gives.1 ∙ c.args.found.ok.0)) c.loop-key.yielded c.loop-key.key-iterator c.loop-key.yielded_by c.next.result c.next.new.self c.in-Some.key c.in-Some.is c.next.ensures.steps in
-    let room : heap_len c.loop-key.first < c.args.most → heap_len c.loop-key.first < heap_capacity c.loop-key.first =
-    λ few. omega (arith, i.2, i.3, turn.0, few, c.min-room.ensures, c.len.ensures, c.len-2.ensures, c.args.found.ok.0, c.in_ok-reserve.ensures.len) in
-    absurd (true≢false (sym (c.in_err-keep.ensures.succeeds room)))
 
 pub loop-key-preserved : goal.loop-key-preserved
 loop-key-preserved c =

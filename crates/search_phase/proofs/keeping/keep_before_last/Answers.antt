@@ -13,11 +13,11 @@ returns-then-le-clause-keys c =
     stays_out c.args.key c.in-Some.last.now c.args.first.now.data.items (c.in-Some.ensures.greatest c.requires) (stands c ∙ c.if-le.true)
     ∙ ap (λ n. take n (placed c.args.key (in_hit_order c.args.first.now.data.items))) (sym c.args.first.now.data.ok.0)
 
-stands_not : (c : goal.In_ok-push) → stands_first c.in-Some.last.now c.args.key ≡ c.le.result
+stands_not : (c : goal.In-Ok) → stands_first c.in-Some.last.now c.args.key ≡ c.le.result
 stands_not c = search rules
 
 pub returns-clause-keys : goal.returns-clause-keys
 returns-clause-keys c =
     takes_top c.args.key c.in-Some.last.now c.args.first.now.data.items c.pop.new.self.data.items c.push.new.self.data.items c.pop.result (c.pop.ensures.variant.1 (c.in-Some.ensures.variant.0 Rattle.std.specs.Prelude.refl))
-    c.pop.ensures.top c.pop.ensures.permutation c.pop.ensures.below_top c.requires c.in-Some.ensures.lookup (stands_not c ∙ c.if-le.false) c.in_ok-push.ensures.permutation
+    c.pop.ensures.top c.pop.ensures.permutation c.pop.ensures.below_top c.requires c.in-Some.ensures.lookup (stands_not c ∙ c.if-le.false) c.in-Ok.ensures.permutation
     ∙ ap (λ n. take n (placed c.args.key (in_hit_order c.args.first.now.data.items))) (sym c.args.first.now.data.ok.0)
