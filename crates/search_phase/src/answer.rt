@@ -242,28 +242,29 @@ fn reply_with(
     asked: &[Asked],
     fetching: &Fetching,
     failed: Items<FailedShard>,
-) -> Result<SearchReply, AllocError>
+) -> Result<Reply, AllocError>
     requires all_asked { shards ≤ length asked.now }
     requires total { sum_by (λ top. top.count) (tops_in shards asked.now) < 2 ^ 64 }
-    ensures { IfOk result (λ reply. reply ≡ record {
+    ensures { IfOk result (λ reply. reply ≡ Reply.Search (record {
       context = context;
       shards = map counted (tops_in shards asked.now);
       failed = failed;
       total = sum_by (λ top. top.count) (tops_in shards asked.now);
       hits = filter_map (hit_by fetching.now.fetches (drop shards asked.now)) fetching.now.won;
       last = last_or None fetching.now.won;
-    }) }
+    })) }
 {
     let (counts, total) = counted_in(alloc, &asked[..shards as usize])?;
     let (hits, last) = shown(alloc, fetching, &asked[shards as usize..])?;
-    Ok(SearchReply {
+    let reply = SearchReply {
         context,
         shards: counts,
         failed,
         total,
         hits,
         last,
-    })
+    };
+    Ok(Reply::Search(Boxed::new(alloc, reply)?))
 }
 
 /// The reply of a search whose asks are all answered.
@@ -286,6 +287,5 @@ pub(crate) fn answer(
         return Ok(Reply::AllFailed(failed));
     }
     let context = context_of(task, ask);
-    let reply = reply_with(alloc, context, shards, asked, fetching, failed)?;
-    Ok(Reply::Search(Boxed::new(alloc, reply)?))
+    reply_with(alloc, context, shards, asked, fetching, failed)
 }

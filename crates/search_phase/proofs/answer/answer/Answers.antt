@@ -1,10 +1,11 @@
 -- The reply is put together from what the fields say.
-use Rattle.std.proofs.Common.{◌≡◌, List, None, length, drop, sym, ◌∙◌, ap, filter_map}
-use Rattle.std.specs.List.{range_with_len, last_or}
+use Rattle.std.proofs.Common.{◌≡◌, List, None, length, drop, refl, sym, ◌∙◌, ap, map, filter_map}
+use Rattle.std.specs.List.{sum_by, range_with_len, last_or}
+use Rattle.std.proofs.lemmas.Result.{IfOk-weaker}
 use Rattle.task_events.specs.declared.request.FetchAsk.{FetchAsk}
 use Rattle.task_events.specs.declared.reply.SearchReply.{SearchReply}
-use Rattle.task_events.specs.declared.reply.Reply.TheVariants.{Search}
-use Rattle.task_events.specs.Searches.{tops_in, fetches_of, winners_among, failed_in}
+use Rattle.task_events.specs.declared.reply.ShardTop.{ShardTop}
+use Rattle.task_events.specs.Searches.{counted, tops_in, fetches_of, winners_among, failed_in}
 use Rattle.search_phase.specs.declared.fetching.Fetching.{Fetching}
 use Rattle.search_phase.specs.FetchPhase.{failed_by, hit_by}
 use Rattle.search_phase.proofs.FetchAnswers.{failed_is, hits_are}
@@ -31,13 +32,16 @@ returns c =
     let won : c.args.fetching.now.won ≡ winners_among ask.body tops = ap (λ (f : Fetching). f.won) c.requires.fetching in
     let failed : c.in_ok-failed.failed ≡ failed_in ask shards asked =
     c.in_ok-failed.ensures ∙ ap (λ (l : List FetchAsk). filter_map (failed_by l shards asked) (range_with_len 0 shards)) (c.as_slice.ensures ∙ fetches) ∙ failed_is ask shards asked in
-    let reply = c.in_ok-reply.ensures in
-    ap Search c.in_ok-new.ensures.ok
-    ∙ reply_by_parts c.args.task ask shards asked c.in_ok-reply.reply
-    (ap (λ (r : SearchReply). r.context) reply ∙ c.context_of-context.ensures)
-    (ap (λ (r : SearchReply). r.shards) reply)
-    (ap (λ (r : SearchReply). r.failed) reply ∙ failed)
-    (ap (λ (r : SearchReply). r.total) reply)
-    (ap (λ (r : SearchReply). r.hits) reply ∙ (λ i. filter_map (hit_by (fetches i) (drop shards asked)) (won i)) ∙ hits_are ask shards asked (winners_among ask.body tops))
-    (ap (λ (r : SearchReply). r.last) reply ∙ ap (last_or None) won)
-    (λ e. c.if-failures-shards.false (ap length (c.as_slice-failures.ensures ∙ sym (ap (λ (r : SearchReply). r.failed) reply)) ∙ e))
+    let reply : SearchReply = record {
+      context = c.context_of-context.result;
+      shards = map counted tops;
+      failed = c.in_ok-failed.failed;
+      total = sum_by (λ (top : ShardTop). top.count) tops;
+      hits = filter_map (hit_by c.args.fetching.now.fetches (drop shards asked)) c.args.fetching.now.won;
+      last = last_or None c.args.fetching.now.won;
+    } in
+    let whole = reply_by_parts c.args.task ask shards asked reply c.context_of-context.ensures refl failed refl
+    ((λ i. filter_map (hit_by (fetches i) (drop shards asked)) (won i)) ∙ hits_are ask shards asked (winners_among ask.body tops))
+    (ap (last_or None) won)
+    (λ e. c.if-failures-shards.false (ap length c.as_slice-failures.ensures ∙ e)) in
+    IfOk-weaker c.reply_with.result _ _ (λ r e. e ∙ whole) c.reply_with.ensures
