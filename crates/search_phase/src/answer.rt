@@ -116,7 +116,12 @@ fn hits_of(asked: &Asked) -> &[Hit]
 fn hit_at(hits: &[Hit], place: u32) -> Option<&Hit>
     ensures { option_copied result ≡ find (λ hit. place == hit.place) hits.now }
 {
-    hits.iter().find(|hit| place == hit.place)
+    for hit in hits {
+        if place == hit.place {
+            return Some(hit);
+        }
+    }
+    None
 }
 
 /// The document of a winner, where its shard's fetch has it.

@@ -77,7 +77,12 @@ fn place_of(asked: &[Asked], ask: u32) -> Option<usize>
 fn is_above(asked: &[Asked], ask: u32) -> bool
     ensures { result ≡ is_above ask asked.now }
 {
-    asked.iter().all(|a| a.ask < ask)
+    for a in asked {
+        if ask <= a.ask {
+            return false;
+        }
+    }
+    true
 }
 
 fn set_answer(asked: &mut Vec<Asked>, place: usize, answer: Option<Reply>)
