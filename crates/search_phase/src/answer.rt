@@ -18,7 +18,10 @@ use task_ids::{Boxed, Items, TaskId};
 fn failure_of(asked: Option<&Asked>) -> Option<ShardFailure>
     ensures { result ≡ option_and_then failure_of (option_copied asked.entry) }
 {
-    match &asked?.answer {
+    let Some(asked) = asked else {
+        return None;
+    };
+    match &asked.answer {
         Some(Reply::Cancelled { task, cancel, .. }) => Some(ShardFailure::Cancelled {
             task: *task,
             cancel: *cancel,

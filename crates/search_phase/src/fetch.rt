@@ -125,9 +125,7 @@ impl ShardFetch {
         let start = self.turns * PLACES_PER_TURN;
         let end = start + (all - start).min(PLACES_PER_TURN);
         let mut found = hits_at(self.alloc, &self.ask, shard, start, end)?;
-        let added = self.hits.append(&mut found);
-        drop(found);
-        added?;
+        self.hits.append(&mut found)?;
         self.turns += 1;
         if end < all {
             return Ok(FetchAnswer::More);

@@ -1,9 +1,15 @@
 -- Each place adds the key of its row, if there is one that matches.
-use Rattle.std.proofs.Common.{◌++◌, ◌∷◌, [], sym, ap, ◌∙◌, append_assoc}
+use Rattle.std.proofs.Common.{◌≡◌, ◌++◌, ◌∷◌, [], sym, ap, ◌∙◌, arith, append_assoc}
+use Rattle.std.proofs.lemmas.List.{append-nil}
 use Rattle.task_events.specs.Answers.{keys_among}
 use Rattle.search_phase.specs.Queries.{keys_below}
 use Rattle.search_phase.proofs.Rows.{no_row, one_row}
 use Rattle.search_phase.proofs.looking.keys_between.Goals as goal
+
+pub loop-place-init : goal.loop-place-init
+loop-place-init c =
+    let before = keys_below c.args.ask.now c.args.version c.args.start c.args.shard.now in
+    sym (append-nil before) ∙ ap (λ keys. before ++ keys) (sym c.new-keys.ensures.items)
 
 pub loop-place-preserved-in_default : goal.loop-place-preserved-in_default
 loop-place-preserved-in_default c =
@@ -20,3 +26,8 @@ loop-place-preserved c =
     ∙ ap (λ keys. keys ++ key) c.loop-place.invariant
     ∙ append_assoc before c.loop-place.keys.items key
     ∙ ap (λ keys. before ++ keys) (sym c.in_ok-add_key.ensures)
+
+pub returns : goal.returns
+returns c =
+    let ends : c.loop-place.place ≡ c.args.end = omega arith in
+    ap (λ place. keys_below c.args.ask.now c.args.version place c.args.shard.now) (sym ends) ∙ c.loop-place.invariant

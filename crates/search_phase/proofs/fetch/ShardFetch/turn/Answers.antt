@@ -33,15 +33,15 @@ overflow_add-self c =
     omega (arith, start, ap length c.as_slice-all.ensures)
 
 -- places are left
-opens : (c : goal.Then-end-all) → (record { ask = c.self.inside.ask; turns = c.self.inside.turns + 1; hits = c.append-added.new.self.items } ≡ fetched_in c.args.self.now.ask (c.args.self.now.turns + 1) c.args.shard.now)
-    × (More ≡ fetch_answer (record { ask = c.self.inside.ask; turns = c.self.inside.turns + 1; hits = c.append-added.new.self.items }) c.args.shard.now)
+opens : (c : goal.After-drop-found-then-end-all) → (record { ask = c.self.inside.ask; turns = c.self.inside.turns + 1; hits = c.append.new.self.items } ≡ fetched_in c.args.self.now.ask (c.args.self.now.turns + 1) c.args.shard.now)
+    × (More ≡ fetch_answer (record { ask = c.self.inside.ask; turns = c.self.inside.turns + 1; hits = c.append.new.self.items }) c.args.shard.now)
 opens c =
     let shown : FetchState = record { ask = c.self.inside.ask; turns = c.self.inside.turns; hits = c.self.inside.hits.items } in
     let start = c.self.inside.turns * 1024 in
     let ends = ap (λ n. start + n) (c.min.ensures ∙ ap (λ (places : List Rattle.std.proofs.Common.ℕ). min (length places - start) 1024) c.as_slice-all.ensures) in
     let below = subst (λ (places : List Rattle.std.proofs.Common.ℕ). Rattle.std.proofs.Common.◌<◌ (start + c.min.result) (length places)) c.as_slice-all.ensures c.if-end-all.true in
     let now = open_fetch shown c.args.shard.now (can_fetch _ _ _ c.self.view_is c.requires.fetched c.requires.not_ended) (start + c.min.result) ends c.in_ok-found.found.items c.in_ok-found.ensures below in (
-      ap (λ hits. record { ask = c.self.inside.ask; turns = c.self.inside.turns + 1; hits = hits }) c.in_ok-added.ensures.items ∙ now.0 ∙ ap (λ (f : FetchState). fetched_in f.ask (f.turns + 1) c.args.shard.now) c.self.view_is,
+      ap (λ hits. record { ask = c.self.inside.ask; turns = c.self.inside.turns + 1; hits = hits }) c.in_ok-append.ensures.items ∙ now.0 ∙ ap (λ (f : FetchState). fetched_in f.ask (f.turns + 1) c.args.shard.now) c.self.view_is,
       now.1,
     )
 
@@ -58,7 +58,7 @@ pub returns-then-end-all-clause-stays : goal.returns-then-end-all-clause-stays
 returns-then-end-all-clause-stays c = λ within more. IsFetched-grow _ c.args.shard.now more within (fetched_in-fetched _ c.args.self.now.ask (c.args.self.now.turns + 1) c.args.shard.now (opens c).0)
 
 -- it was the last
-ends : (c : goal.After-from_vec) → (record { ask = c.self.inside.ask; turns = c.self.inside.turns + 1; hits = c.replace-hits.new.dest.items } ≡ fetched_in c.args.self.now.ask (c.args.self.now.turns + 1) c.args.shard.now)
+ends : (c : goal.After-drop-found-2) → (record { ask = c.self.inside.ask; turns = c.self.inside.turns + 1; hits = c.replace-hits.new.dest.items } ≡ fetched_in c.args.self.now.ask (c.args.self.now.turns + 1) c.args.shard.now)
     × (Ready c.from_vec.result ≡ fetch_answer (record { ask = c.self.inside.ask; turns = c.self.inside.turns + 1; hits = c.replace-hits.new.dest.items }) c.args.shard.now)
 ends c =
     let shown : FetchState = record { ask = c.self.inside.ask; turns = c.self.inside.turns; hits = c.self.inside.hits.items } in
@@ -68,7 +68,7 @@ ends c =
     let now = last_fetch shown c.args.shard.now (can_fetch _ _ _ c.self.view_is c.requires.fetched c.requires.not_ended) (start + c.min.result) ends c.in_ok-found.found.items c.in_ok-found.ensures past in
     let none = ap (λ v. v.items) c.replace-hits.ensures.after ∙ c.new.ensures.items in (
       ap (λ hits. record { ask = c.self.inside.ask; turns = c.self.inside.turns + 1; hits = hits }) none ∙ now.0 ∙ ap (λ (f : FetchState). fetched_in f.ask (f.turns + 1) c.args.shard.now) c.self.view_is,
-      ap Ready (c.from_vec.ensures ∙ ap (λ v. v.items) c.replace-hits.ensures.value ∙ c.in_ok-added.ensures.items) ∙ now.1,
+      ap Ready (c.from_vec.ensures ∙ ap (λ v. v.items) c.replace-hits.ensures.value ∙ c.in_ok-append.ensures.items) ∙ now.1,
     )
 
 pub returns-clause-ok : goal.returns-clause-ok
