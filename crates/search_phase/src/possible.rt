@@ -25,7 +25,12 @@ fn is_ascending(keys: &[HitKey]) -> bool
 fn are_of_shard(keys: &[HitKey], shard: u32) -> bool
     ensures { result ≡ list_all (λ key. key.shard == shard) keys.now }
 {
-    keys.iter().all(|key| key.shard == shard)
+    for key in keys {
+        if key.shard != shard {
+            return false;
+        }
+    }
+    true
 }
 
 fn is_top_for(ask: &SearchAsk, shard: u32, top: &ShardTop) -> bool

@@ -1,13 +1,13 @@
 -- No hit so far is of the place.
 use Rattle.std.proofs.Common.{ℕ, ◌≡◌, ◌+◌, ◌<◌, List, Some, cond, sym, ap, ◌∙◌, drop, find, length, get_or}
-use Rattle.std.specs.Prelude.{◌==◌}
+use Rattle.std.specs.Prelude.{◌==◌, Bool}
 use Rattle.std.proofs.lemmas.Bool.{eq-eqb, ne_eqb}
 use Rattle.std.proofs.lemmas.List.{at_drop_more, at_drop_all}
 use Rattle.task_events.specs.declared.reply.Hit.{Hit}
 use Rattle.search_phase.proofs.answer.hit_at.Goals as goal
 
 module _ (hits : List Hit) (place i : ℕ) (hit : Hit) (within : i < length hits) (here : hit ≡ get_or hits i hit) where
-  abbrev of_place : Hit → Rattle.std.proofs.Common.Bool
+  abbrev of_place : Hit → Bool
   of_place hit = place == hit.place
 
   at_hit : find of_place (drop i hits) ≡ cond (place == hit.place) (Some hit) (find of_place (drop (i + 1) hits))

@@ -1,6 +1,6 @@
 -- The keys so far are the first of those that came; there is room for each that will be kept, as `keep` requires.
-use Rattle.std.proofs.Common.{◌+◌, ◌<◌, ◌≤◌, ◌∷◌, ◌++◌, length, take, filter, [], sym, ap, ◌∙◌, arith, subst, heap_items, heap_len}
-use Rattle.std.specs.BinaryHeap.{IsHeap, heap_capacity}
+use Rattle.std.proofs.Common.{◌≤◌, ◌∷◌, ◌++◌, length, take, filter, [], sym, ap, ◌∙◌, arith, subst, heap_items}
+use Rattle.std.specs.BinaryHeap.{IsHeap}
 use Rattle.std.proofs.lemmas.List.{append-nil, append_assoc, length-append, map-id}
 use Rattle.std.proofs.lemmas.List.Sorted.{IsPermutation-refl}
 use Rattle.std.proofs.lemmas.Iterator.Adapters.{YieldsList-from_vec}
