@@ -49,12 +49,7 @@ impl Model for ShardFetch {
 }
 
 /// Adds the document of a place, where it has a row alive at the version.
-fn add_hit(
-    hits: &mut Vec<Hit>,
-    ask: &FetchAsk,
-    shard: &Shard,
-    place: u32,
-) -> Result<(), AllocError>
+fn add_hit(hits: &mut Vec<Hit>, ask: &FetchAsk, shard: &Shard, place: u32) -> Result<(), AllocError>
     ensures { OnOk result (hits.new.items
         ≡ hits.old.items ++ filter_map (hit_at ask.now.index ask.now.version shard.now) (place ∷ [])) }
 {

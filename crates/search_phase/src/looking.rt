@@ -27,17 +27,16 @@ fn is_found(ask: &ShardAsk, doc: &Doc) -> bool
 }
 
 /// Adds the key of a row, where it matches.
-fn add_key(
-    keys: &mut Vec<HitKey>,
-    ask: &ShardAsk,
-    place: u32,
-    doc: &Doc,
-) -> Result<(), AllocError>
+fn add_key(keys: &mut Vec<HitKey>, ask: &ShardAsk, place: u32, doc: &Doc) -> Result<(), AllocError>
     ensures { OnOk result (keys.new.items
         ≡ keys.old.items ++ keys_among ask.now.body ask.now.slice ask.now.shard ((place, doc.now) ∷ [])) }
 {
     if is_found(ask, doc) {
-        let sort = sort_key(*keys.allocator(), ask.body.sort.as_slice(), doc.source.as_value())?;
+        let sort = sort_key(
+            *keys.allocator(),
+            ask.body.sort.as_slice(),
+            doc.source.as_value(),
+        )?;
         keys.push(HitKey {
             sort,
             shard: ask.shard,
