@@ -11,8 +11,9 @@ use crate::sort::{KeyPart, SortBy};
 use crate::text::Text;
 use std::alloc::{AllocError, Global};
 
-/// A value that a copy is equal to.
-trait Copied: Drop {
+/// A value of which a copy can be made that is equal to it.
+pub trait Copied: Drop {
+    /// An equal value. It fails only for want of memory.
     fn copied(&self) -> Result<Self, AllocError>
         ensures { IfOk result (λ copy. copy ≡ self.now) };
 }
@@ -41,7 +42,8 @@ impl Copied for KeyPart {
     }
 }
 
-fn copies_of<X: Copied>(alloc: Global, items: &[X]) -> Result<Vec<X>, AllocError>
+/// Equal values, in the same order. It fails only for want of memory.
+pub fn copies_of<X: Copied>(alloc: Global, items: &[X]) -> Result<Vec<X>, AllocError>
     ensures { IfOk result (λ copies. copies.items ≡ items.now) }
 {
     let mut copies = Vec::with_capacity(alloc, items.len())?;

@@ -12,6 +12,7 @@ mod sort;
 mod text;
 
 pub use body::SearchBody;
+pub use copying::{Copied, copies_of};
 pub use found::{Found, value_in};
 pub use items::Items;
 pub use query::{Node, Query, Range, Side, Test};

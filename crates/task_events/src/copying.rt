@@ -2,8 +2,9 @@
 
 ghost use Rattle.std.specs.Prelude.{◌≡◌, IfOk};
 
-use crate::reply::{FailedShard, Hit, Reply, SearchReply, ShardCount, ShardTop};
+use crate::reply::{Hit, Reply, SearchReply, ShardTop};
 use crate::request::{FetchAsk, HitKey, Request, SearchAsk, ShardAsk};
+use query_match::{Copied, copies_of};
 use std::alloc::AllocError;
 use task_ids::{Boxed, Items};
 
@@ -29,35 +30,31 @@ fn copy_key(key: &Option<HitKey>) -> Result<Option<HitKey>, AllocError>
     }
 }
 
-fn copy_keys(keys: &Items<HitKey>) -> Result<Items<HitKey>, AllocError>
-    ensures { IfOk result (λ copies. copies ≡ keys.now) }
-{
-    let items = keys.as_slice();
-    let mut copies = Vec::with_capacity(keys.allocator(), items.len())?;
-    for item in items {
-        copies.push(item.copy()?)?;
+impl Copied for HitKey {
+    fn copied(&self) -> Result<HitKey, AllocError> {
+        self.copy()
     }
+}
+
+impl Copied for Hit {
+    fn copied(&self) -> Result<Hit, AllocError> {
+        self.copy()
+    }
+}
+
+/// Equal items, in the same order.
+fn copy_items<X: Copied>(items: &Items<X>) -> Result<Items<X>, AllocError>
+    ensures { IfOk result (λ copies. copies ≡ items.now) }
+{
+    let copies = copies_of(items.allocator(), items.as_slice())?;
     Ok(Items::from_vec(copies))
 }
 
-fn copy_places(places: &Items<u32>) -> Result<Items<u32>, AllocError>
-    ensures { IfOk result (λ copies. copies ≡ places.now) }
+/// The same small values, in the same order.
+fn copy_values<X: Copy>(values: &Items<X>) -> Result<Items<X>, AllocError>
+    ensures { IfOk result (λ copies. copies ≡ values.now) }
 {
-    let copies = Vec::from_slice(places.allocator(), places.as_slice())?;
-    Ok(Items::from_vec(copies))
-}
-
-fn copy_failed(failed: &Items<FailedShard>) -> Result<Items<FailedShard>, AllocError>
-    ensures { IfOk result (λ copies. copies ≡ failed.now) }
-{
-    let copies = Vec::from_slice(failed.allocator(), failed.as_slice())?;
-    Ok(Items::from_vec(copies))
-}
-
-fn copy_counts(counts: &Items<ShardCount>) -> Result<Items<ShardCount>, AllocError>
-    ensures { IfOk result (λ copies. copies ≡ counts.now) }
-{
-    let copies = Vec::from_slice(counts.allocator(), counts.as_slice())?;
+    let copies = Vec::from_slice(values.allocator(), values.as_slice())?;
     Ok(Items::from_vec(copies))
 }
 
@@ -104,7 +101,7 @@ impl FetchAsk {
             index: self.index.copy()?,
             shard: self.shard,
             version: self.version,
-            places: copy_places(&self.places)?,
+            places: copy_values(&self.places)?,
         })
     }
 }
@@ -145,12 +142,7 @@ impl Hit {
 pub fn copy_hits(hits: &Items<Hit>) -> Result<Items<Hit>, AllocError>
     ensures { IfOk result (λ copies. copies ≡ hits.now) }
 {
-    let items = hits.as_slice();
-    let mut copies = Vec::with_capacity(hits.allocator(), items.len())?;
-    for item in items {
-        copies.push(item.copy()?)?;
-    }
-    Ok(Items::from_vec(copies))
+    copy_items(hits)
 }
 
 impl ShardTop {
@@ -162,7 +154,7 @@ impl ShardTop {
             shard: self.shard,
             version: self.version,
             count: self.count,
-            keys: copy_keys(&self.keys)?,
+            keys: copy_items(&self.keys)?,
         })
     }
 }
@@ -174,8 +166,8 @@ impl SearchReply {
     {
         Ok(SearchReply {
             context: self.context,
-            shards: copy_counts(&self.shards)?,
-            failed: copy_failed(&self.failed)?,
+            shards: copy_values(&self.shards)?,
+            failed: copy_values(&self.failed)?,
             total: self.total,
             hits: copy_hits(&self.hits)?,
             last: copy_key(&self.last)?,
@@ -208,7 +200,7 @@ impl Reply {
             Reply::Search(reply) => Ok(Reply::Search(copy_search_reply(reply)?)),
             Reply::Top(top) => Ok(Reply::Top(copy_top(top)?)),
             Reply::Hits(hits) => Ok(Reply::Hits(copy_hits(hits)?)),
-            Reply::AllFailed(failed) => Ok(Reply::AllFailed(copy_failed(failed)?)),
+            Reply::AllFailed(failed) => Ok(Reply::AllFailed(copy_values(failed)?)),
             Reply::Cancelled {
                 task,
                 cancel,
