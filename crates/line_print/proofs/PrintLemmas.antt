@@ -1,6 +1,6 @@
 -- The texts of a reply's parts, as they are appended one after another.
-use Rattle.std.proofs.Common.{◌≡◌, ℕ, ◌+◌, ◌-◌, ◌<◌, Bool, true, false, List, [], ◌∷◌, ◌++◌, length, get_or, drop, map, codes, refl, sym, ap, ◌∙◌, append_assoc, decimal}
-use Rattle.std.proofs.lemmas.List.{drop_more}
+use Rattle.std.proofs.Common.{◌≡◌, ℕ, ◌+◌, ◌-◌, ◌<◌, ◌≤◌, Bool, true, false, List, [], ◌∷◌, ◌++◌, length, get_or, drop, map, codes, refl, sym, ap, ◌∙◌, append_assoc, decimal}
+use Rattle.std.proofs.lemmas.List.{drop_all, drop_more}
 use Rattle.json.specs.Print.{quoted, escape_byte}
 use Rattle.serde_json.specs.Data.{Data, Items, array}
 use Rattle.serde_json.specs.View.{items_of}
@@ -92,13 +92,30 @@ list_text command items o out h =
     ∙ ap (λ text. text ++ codes "}\n") (h ∙ opened ((o ++ codes "{\"command\":") ++ decimal command) (codes ",\"reply\":") (items_text false items))
     ∙ line_text command (array items) o
 
--- one more item is appended, after a comma if one came before it
+-- one more item is appended, after a comma if one came before it, and there are more after it
+item_more : {X : Type 0} (json : X → Data) (x : X) (rest here : List X) (later : Bool) (before between after all : List ℕ) → here ≡ x ∷ rest → between ≡ before ++ comma_if later → after ≡ between ++ compact_text (json x)
+    → before ++ items_text later (items_of (map json here)) ≡ all → after ++ items_text true (items_of (map json rest)) ≡ all
+item_more json x rest here later before between after all first comma new so_far =
+    ap (λ text. text ++ items_text true (items_of (map json rest))) (new ∙ ap (λ text. text ++ compact_text (json x)) comma)
+    ∙ append_assoc (before ++ comma_if later) (compact_text (json x)) (items_text true (items_of (map json rest)))
+    ∙ append_assoc before (comma_if later) (compact_text (json x) ++ items_text true (items_of (map json rest)))
+    ∙ sym (ap (λ items. before ++ items_text later (items_of (map json items))) first)
+    ∙ so_far
+
+here_first : {X : Type 0} (xs : List X) (i : ℕ) (x : X) → i < length xs → x ≡ get_or xs i x → drop i xs ≡ x ∷ drop (i + 1) xs
+here_first xs i x h is = drop_more xs i x h ∙ ap (λ next. next ∷ drop (i + 1) xs) (sym is)
+
+-- the same in a list, at a place
 pub items_more : {X : Type 0} (json : X → Data) (xs : List X) (i : ℕ) (x : X) (later : Bool) (before between after all : List ℕ) → i < length xs → x ≡ get_or xs i x → between ≡ before ++ comma_if later → after ≡ between ++ compact_text (json x)
     → before ++ items_text later (items_of (map json (drop i xs))) ≡ all → after ++ items_text true (items_of (map json (drop (i + 1) xs))) ≡ all
-items_more json xs i x later before between after all h is comma new so_far =
-    ap (λ text. text ++ items_text true (items_of (map json (drop (i + 1) xs)))) (new ∙ ap (λ text. text ++ compact_text (json x)) comma)
-    ∙ append_assoc (before ++ comma_if later) (compact_text (json x)) (items_text true (items_of (map json (drop (i + 1) xs))))
-    ∙ append_assoc before (comma_if later) (compact_text (json x) ++ items_text true (items_of (map json (drop (i + 1) xs))))
-    ∙ ap (λ next. before ++ items_text later (items_of (map json (next ∷ drop (i + 1) xs)))) is
-    ∙ sym (ap (λ rest. before ++ items_text later (items_of (map json rest))) (drop_more xs i x h))
-    ∙ so_far
+items_more json xs i x later before between after all h is = item_more json x (drop (i + 1) xs) (drop i xs) later before between after all (here_first xs i x h is)
+
+-- the same where more items come after the list
+pub items_before_more : {X : Type 0} (json : X → Data) (xs more : List X) (i : ℕ) (x : X) (later : Bool) (before between after all : List ℕ) → i < length xs → x ≡ get_or xs i x → between ≡ before ++ comma_if later → after ≡ between ++ compact_text (json x)
+    → before ++ items_text later (items_of (map json (drop i xs ++ more))) ≡ all → after ++ items_text true (items_of (map json (drop (i + 1) xs ++ more))) ≡ all
+items_before_more json xs more i x later before between after all h is =
+    item_more json x (drop (i + 1) xs ++ more) (drop i xs ++ more) later before between after all (ap (λ items. items ++ more) (here_first xs i x h is))
+
+pub items_after : {X : Type 0} (json : X → Data) (xs more : List X) (i : ℕ) (later : Bool) (before all : List ℕ) → length xs ≤ i
+    → before ++ items_text later (items_of (map json (drop i xs ++ more))) ≡ all → before ++ items_text later (items_of (map json more)) ≡ all
+items_after json xs more i later before all h so_far = ap (λ items. before ++ items_text later (items_of (map json (items ++ more)))) (sym (drop_all i xs h)) ∙ so_far

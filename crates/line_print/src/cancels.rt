@@ -84,7 +84,7 @@ fn none_line(
     ensures { OnOk result (out.new.items ≡ out.old.items ++ error_line command (not_found target)) }
 {
     let error = not_found(alloc, target)?;
-    error_line(alloc, out, command, &error)
+    error_line(alloc, out, command, error)
 }
 
 /// Appends the line of a cancel that named tasks, by the events of its turn.
@@ -98,7 +98,7 @@ fn named_line(
     ensures { OnOk result (out.new.items ≡ out.old.items ++ reply_line command (cancelled (filter_map named_in turn.now) wait)) }
 {
     let reply = cancelled(alloc, turn, wait)?;
-    reply_line(alloc, out, command, &reply)
+    reply_line(alloc, out, command, reply)
 }
 
 /// Appends the line of a cancel, by the events of its turn.

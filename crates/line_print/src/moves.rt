@@ -7,10 +7,11 @@ ghost use Rattle.line_print.specs.Lines.{idle_error, moved_line, settled};
 
 use crate::errors::{no_such_message, plain_error};
 use crate::idle::Idle;
+use crate::members::with_number;
 use crate::told::events_line;
 use crate::write::{error_line, reply_line};
 use script_lang::Command;
-use serde_json::{Value, json};
+use serde_json::{Map, Value};
 use std::alloc::{AllocError, Global};
 use task_events::Event;
 
@@ -43,7 +44,7 @@ pub(crate) fn moved_line(
     match idle {
         Some(idle) => {
             let error = idle_error(alloc, idle)?;
-            error_line(alloc, out, command, &error)
+            error_line(alloc, out, command, error)
         }
         None => Ok(()),
     }
@@ -53,7 +54,8 @@ pub(crate) fn moved_line(
 fn settled(alloc: Global, events: u64) -> Result<Value, AllocError>
     ensures { IfOk result (λ value. view value ≡ settled events) }
 {
-    json!(in alloc; {"events": events})
+    let told = with_number(alloc, Map::new(alloc), "events", events)?;
+    Ok(Value::Object(told))
 }
 
 /// Appends the line of a `settle`, with how many events its turn has.
@@ -66,5 +68,5 @@ pub(crate) fn settled_line(
     ensures { OnOk result (out.new.items ≡ out.old.items ++ reply_line command (settled events)) }
 {
     let reply = settled(alloc, events as u64)?;
-    reply_line(alloc, out, command, &reply)
+    reply_line(alloc, out, command, reply)
 }

@@ -1,7 +1,7 @@
 ghost use Rattle.std.specs.Prelude.{◌≡◌, ◌++◌, false, OnOk, map, decimal};
 ghost use Rattle.json.specs.Print.{quoted};
 ghost use Rattle.serde_json.specs.View.{view, items_of};
-ghost use Rattle.serde_json.specs.Written.{has_float, compact_text, items_text};
+ghost use Rattle.serde_json.specs.Written.{has_float, comma_if, compact_text, items_text};
 ghost use Rattle.task_events.specs.Printed.{hit_json, hits_json, shards_json, search_json, total_json};
 
 use serde_json::Value;
@@ -37,7 +37,16 @@ pub(crate) fn push_quoted(alloc: Global, out: &mut Vec<u8>, text: &str) -> Resul
     ensures { OnOk result (out.new.items ≡ out.old.items ++ quoted text.now) }
 {
     let value = Value::try_from_str(alloc, text)?;
-    push_json(alloc, out, &value)
+    let pushed = push_json(alloc, out, &value);
+    drop(value);
+    pushed
+}
+
+/// Appends a comma, if something stands before.
+pub(crate) fn push_comma(out: &mut Vec<u8>, later: bool) -> Result<(), AllocError>
+    ensures { OnOk result (out.new.items ≡ out.old.items ++ comma_if later) }
+{
+    if later { push(out, ",") } else { Ok(()) }
 }
 
 /// Appends a name as it stands, and a number.
@@ -67,9 +76,7 @@ fn push_hits(alloc: Global, out: &mut Vec<u8>, hits: &[Hit]) -> Result<(), Alloc
 {
     let mut later = false;
     for hit in hits {
-        if later {
-            push(out, ",")?;
-        }
+        push_comma(out, later)?;
         push_hit(alloc, out, hit)?;
         later = true;
     }

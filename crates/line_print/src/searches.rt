@@ -79,24 +79,21 @@ pub(crate) fn indices_of<'a>(
     Ok(known)
 }
 
-/// The fault of a search's body, if it has one.
-fn fault_in(alloc: Global, body: &DocSource) -> Result<Option<BodyError>, AllocError>
-    ensures { IfOk result (λ fault. fault ≡ fault_in (body_at false 0 body.now)) }
-{
-    match read_body(alloc, body.as_value(), false, 0) {
-        Ok(_) => Ok(None),
-        Err(BodyError::Memory) => Err(AllocError),
-        Err(fault) => Ok(Some(fault)),
-    }
-}
-
 /// The fault of a search's body as JSON, if it has one.
 fn body_refusal(alloc: Global, body: &DocSource) -> Result<Option<Value>, AllocError>
     ensures { IfOk result (λ error. option_map view error ≡ option_map body_error (fault_in (body_at false 0 body.now))) }
 {
-    match fault_in(alloc, body)? {
-        Some(fault) => Ok(Some(errors::body_error(alloc, &fault)?)),
-        None => Ok(None),
+    match read_body(alloc, body.as_value(), false, 0) {
+        Ok(read) => {
+            drop(read);
+            Ok(None)
+        }
+        Err(BodyError::Memory) => Err(AllocError),
+        Err(fault) => {
+            let error = errors::body_error(alloc, &fault);
+            drop(fault);
+            Ok(Some(error?))
+        }
     }
 }
 
@@ -157,7 +154,7 @@ fn end_line(
             ..
         } => {
             let error = errors::all_shards_failed(alloc, failed.as_slice())?;
-            error_line(alloc, out, command, &error)
+            error_line(alloc, out, command, error)
         }
         Event::End {
             reply: Reply::Cancelled { task, cancel, .. },
@@ -165,7 +162,7 @@ fn end_line(
         }
         | Event::Refuse { task, cancel } => {
             let error = errors::task_cancelled(alloc, reason_of(script, *cancel), *task)?;
-            error_line(alloc, out, command, &error)
+            error_line(alloc, out, command, error)
         }
         _ => Ok(()),
     }
@@ -188,7 +185,7 @@ pub(crate) fn search_line(
 {
     let turn = run.turn(command as usize);
     match refusal(alloc, index, body, run.known.contains(index), turn)? {
-        Some(error) => error_line(alloc, out, command, &error),
+        Some(error) => error_line(alloc, out, command, error),
         None => match run.end_of(started(turn)) {
             Some(event) => end_line(alloc, out, run.cluster.shards, run.script, command, event),
             None => Ok(()),

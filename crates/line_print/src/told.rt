@@ -9,7 +9,7 @@ ghost use Rattle.task_events.specs.declared.event.Event.{Event};
 ghost use Rattle.task_events.specs.Printed.{reply_line};
 ghost use Rattle.line_print.specs.Lines.{reason_of, reason_for, told, told_all};
 
-use crate::print::{push, push_quoted};
+use crate::print::{push, push_comma, push_quoted};
 use crate::write::push_start;
 use script_lang::Command;
 use std::alloc::{AllocError, Global};
@@ -65,9 +65,7 @@ fn push_events(
 {
     let mut has = later;
     for event in events {
-        if has {
-            push(out, ",")?;
-        }
+        push_comma(out, has)?;
         push_event(alloc, out, script, event)?;
         has = true;
     }

@@ -2,7 +2,7 @@
 
 ghost use Rattle.std.specs.Prelude.{◌≡◌, ◌++◌, false, OnOk, codes, decimal};
 ghost use Rattle.serde_json.specs.View.{view};
-ghost use Rattle.serde_json.specs.Written.{has_float};
+ghost use Rattle.serde_json.specs.Written.{has_float, compact_text};
 ghost use Rattle.task_events.specs.Printed.{search_json, reply_line};
 ghost use Rattle.line_print.specs.Lines.{error_line};
 
@@ -25,20 +25,36 @@ pub(crate) fn push_start(
     push(out, key)
 }
 
+/// Appends the line of a command with a value at a key.
+fn push_line(
+    alloc: Global,
+    out: &mut Vec<u8>,
+    command: u32,
+    key: &str,
+    value: &Value,
+) -> Result<(), AllocError>
+    requires { has_float (view value.now) ≡ false }
+    ensures { OnOk result (out.new.items
+        ≡ ((((out.old.items ++ codes "{\"command\":") ++ decimal command) ++ key.now) ++ compact_text (view value.now)) ++ codes "}\n") }
+{
+    push_start(alloc, out, command, key)?;
+    push_json(alloc, out, value)?;
+    push(out, "}\n")
+}
+
 /// Appends the line of a command that has no reply.
 pub(crate) fn error_line(
     alloc: Global,
     out: &mut Vec<u8>,
     command: u32,
-    error: &Value,
+    error: Value,
 ) -> Result<(), AllocError>
-    requires { has_float (view error.now) ≡ false }
-    ensures { OnOk result (out.new.items ≡ out.old.items ++ error_line command (view error.now)) }
+    requires { has_float (view error) ≡ false }
+    ensures { OnOk result (out.new.items ≡ out.old.items ++ error_line command (view error)) }
 {
-    push_start(alloc, out, command, ",\"error\":")?;
-    push_json(alloc, out, error)?;
-    push(out, "}\n")?;
-    Ok(())
+    let pushed = push_line(alloc, out, command, ",\"error\":", &error);
+    drop(error);
+    pushed
 }
 
 /// Appends the line of a command whose reply is a small value.
@@ -46,15 +62,14 @@ pub(crate) fn reply_line(
     alloc: Global,
     out: &mut Vec<u8>,
     command: u32,
-    reply: &Value,
+    reply: Value,
 ) -> Result<(), AllocError>
-    requires { has_float (view reply.now) ≡ false }
-    ensures { OnOk result (out.new.items ≡ out.old.items ++ reply_line command (view reply.now)) }
+    requires { has_float (view reply) ≡ false }
+    ensures { OnOk result (out.new.items ≡ out.old.items ++ reply_line command (view reply)) }
 {
-    push_start(alloc, out, command, ",\"reply\":")?;
-    push_json(alloc, out, reply)?;
-    push(out, "}\n")?;
-    Ok(())
+    let pushed = push_line(alloc, out, command, ",\"reply\":", &reply);
+    drop(reply);
+    pushed
 }
 
 /// Appends the line of a search that found something, where its index has so many shards.

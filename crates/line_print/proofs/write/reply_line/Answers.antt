@@ -1,8 +1,10 @@
+use Rattle.std.proofs.Common.{◌≡◌, ℕ, ◌++◌, List, OnOk, subst}
 use Rattle.serde_json.specs.View.{view}
 use Rattle.line_print.proofs.PrintLemmas.{line_text}
 use Rattle.line_print.proofs.write.reply_line.Goals as goal
 
 pub returns : goal.returns
 returns c =
-    rw (c.in_ok-push.ensures, c.in_ok-push_json.ensures, c.in_ok-push_start.ensures)
-    (line_text c.args.command (view c.args.reply.now) c.args.out.now.items)
+    subst (λ (text : List ℕ). OnOk c.push_line-pushed.result (c.push_line-pushed.new.out.items ≡ text))
+    (line_text c.args.command (view c.args.reply) c.args.out.now.items)
+    c.push_line-pushed.ensures
