@@ -66,8 +66,7 @@ fn push_hit(alloc: Global, out: &mut Vec<u8>, hit: &Hit) -> Result<(), AllocErro
     push_quoted(alloc, out, hit.index.as_str())?;
     push(out, ",\"_source\":")?;
     hit.doc.source.print(alloc, out)?;
-    push(out, "}")?;
-    Ok(())
+    push(out, "}")
 }
 
 /// Appends hits with commas between them and the closing bracket of a JSON list.
@@ -80,8 +79,7 @@ fn push_hits(alloc: Global, out: &mut Vec<u8>, hits: &[Hit]) -> Result<(), Alloc
         push_hit(alloc, out, hit)?;
         later = true;
     }
-    push(out, "]")?;
-    Ok(())
+    push(out, "]")
 }
 
 /// Appends how many of so many shards failed and how many did not.
@@ -96,8 +94,7 @@ fn push_shards(alloc: Global, out: &mut Vec<u8>, shards: u64, failed: u64) -> Re
         shards.saturating_sub(failed),
     )?;
     push_count(alloc, out, ",\"total\":", shards)?;
-    push(out, "}")?;
-    Ok(())
+    push(out, "}")
 }
 
 /// Appends how many documents match.
@@ -105,8 +102,7 @@ fn push_total(alloc: Global, out: &mut Vec<u8>, total: u64) -> Result<(), AllocE
     ensures { OnOk result (out.new.items ≡ out.old.items ++ compact_text (total_json total)) }
 {
     push_count(alloc, out, "{\"relation\":\"eq\",\"value\":", total)?;
-    push(out, "}")?;
-    Ok(())
+    push(out, "}")
 }
 
 /// Appends the hits and how many documents match.
@@ -117,8 +113,7 @@ fn push_found(alloc: Global, out: &mut Vec<u8>, reply: &SearchReply) -> Result<(
     push_hits(alloc, out, reply.hits.as_slice())?;
     push(out, ",\"total\":")?;
     push_total(alloc, out, reply.total)?;
-    push(out, "}")?;
-    Ok(())
+    push(out, "}")
 }
 
 /// Appends a search's reply, where its index has so many shards.
@@ -135,6 +130,5 @@ pub(crate) fn push_reply(
     push_shards(alloc, out, u64::from(shards), failed)?;
     push(out, ",\"hits\":")?;
     push_found(alloc, out, reply)?;
-    push(out, "}")?;
-    Ok(())
+    push(out, "}")
 }

@@ -88,6 +88,5 @@ pub(crate) fn events_line(
     for turn in turns {
         later = push_events(alloc, out, script, later, *turn)?;
     }
-    push(out, "]}\n")?;
-    Ok(())
+    push(out, "]}\n")
 }

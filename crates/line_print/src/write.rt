@@ -84,6 +84,5 @@ pub(crate) fn hits_line(
 {
     push_start(alloc, out, command, ",\"reply\":")?;
     push_reply(alloc, out, shards, reply)?;
-    push(out, "}\n")?;
-    Ok(())
+    push(out, "}\n")
 }

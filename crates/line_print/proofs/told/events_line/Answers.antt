@@ -1,4 +1,4 @@
-use Rattle.std.proofs.Common.{◌≡◌, ◌≤◌, ◌<◌, ℕ, ◌+◌, ◌++◌, List, Bor, length, get_or, drop, map, flat_map, ap, sym, ◌∙◌, arith}
+use Rattle.std.proofs.Common.{◌≡◌, ◌≤◌, ◌<◌, ℕ, ◌+◌, ◌++◌, List, Bor, OnOk, subst, length, get_or, drop, map, flat_map, ap, sym, ◌∙◌, arith}
 use Rattle.std.proofs.lemmas.List.{drop_all, drop_more}
 use Rattle.serde_json.specs.Data.{string}
 use Rattle.serde_json.specs.View.{items_of}
@@ -27,5 +27,6 @@ loop-turn-preserved c =
 pub returns : goal.returns
 returns c =
     let ended : length c.args.turns.now ≤ c.loop-turn.turn-index = omega arith in
-    rw c.in_ok-push.ensures
+    subst (λ (text : List ℕ). OnOk c.push.result (c.push.new.out.items ≡ text))
     (list_text c.args.command _ c.args.out.now.items c.loop-turn.out.items (rw (drop_all c.loop-turn.turn-index c.args.turns.now ended) at c.loop-turn.invariant))
+    c.push.ensures
