@@ -1,6 +1,7 @@
 -- The queries that nodes stand for, and reading them one after the other, as a loop does.
-use Rattle.std.proofs.Common.{◌≡◌, ℕ, ◌+◌, ◌<◌, ◌≤◌, List, [], ◌∷◌, ◌++◌, length, drop, get_or, nat_eq, Option, Some, None, Result, Ok, Err, Vec, Global, refl, sym, ap, ◌∙◌, Ordering, Less, Equal, Greater, nat_cmp, arith, rules}
+use Rattle.std.proofs.Common.{◌≡◌, ℕ, ◌+◌, ◌<◌, ◌≤◌, List, [], ◌∷◌, ◌++◌, length, drop, get_or, nat_eq, true, Option, Some, None, Result, Ok, Err, Vec, Global, refl, sym, ap, ◌∙◌, Ordering, Less, Equal, Greater, nat_cmp, arith, rules}
 use Rattle.std.specs.Prelude.{decimal}
+use Rattle.std.specs.List.{list_all}
 use Rattle.std.specs.Ordering.{match_ordering}
 use Rattle.std.specs.Cmp.Lexicographic.{slice_cmp}
 use Rattle.std.proofs.lemmas.List.{drop_all}
@@ -15,7 +16,7 @@ use Rattle.query_parse.specs.declared.fault.QueryError.TheVariants.{Bad, Memory}
 use Rattle.query_match.specs.declared.query.Node.{Node, Bool as Clauses, the_lemmas}
 use Rattle.query_parse.specs.Answers.{◌>>=◌, Fails}
 use Rattle.query_match.specs.Query.{Query, bool, Queries, no_queries, query}
-use Rattle.query_parse.specs.Reading.{under, are_none, form_named, only_entry, query_at, query_in, query_of, clause_in, clause_at, queries_at}
+use Rattle.query_parse.specs.Reading.{under, are_none, form_named, is_clause_name, member_keys, minimum_at, bool_of, only_entry, query_at, query_in, query_of, clause_in, clause_at, queries_at}
 use Rattle.query_match.specs.View.{query_view, queries_view}
 use Rattle.query_parse.proofs.Each.{drop_here}
 
@@ -70,6 +71,36 @@ clause_in-none path name ms h = member_clause-is path name ms ∙ ap (member_cla
 pub clause_in-some : (path name : List ℕ) (ms : Members) (d : Data) → Some d ≡ get_member name ms → clause_in path name ms ≡ clause_at (under path name) d
 unfolding member_clause
 clause_in-some path name ms d h = member_clause-is path name ms ∙ ap (member_clause path name) (sym h)
+
+-- ---- the clauses of a `bool`, of which one fails
+
+first_fails : {X Y : Type 0} (e : QueryError) (read : Result X QueryError) (rest : X → Result Y QueryError) → Fails e read → Fails e (read >>= rest)
+first_fails Memory read rest h = tt
+first_fails (Bad p k) read rest h = ap (λ r. r >>= rest) h
+
+pub fails_at_filter : (e : QueryError) (path : List ℕ) (ms : Members) (filter must must_not should : Result Queries QueryError) → list_all is_clause_name (member_keys ms) ≡ true → Fails e filter → Fails e (bool_of path ms filter must must_not should)
+unfolding bool_of
+fails_at_filter e path ms filter must must_not should known h = rw known (first_fails e filter _ h)
+
+pub fails_at_minimum : (e : QueryError) (path : List ℕ) (ms : Members) (filter must must_not should : Result Queries QueryError) (fs : Queries) → list_all is_clause_name (member_keys ms) ≡ true → filter ≡ Ok fs → Fails e (minimum_at path ms)
+    → Fails e (bool_of path ms filter must must_not should)
+unfolding bool_of
+fails_at_minimum e path ms filter must must_not should fs known f h = rw (known, f) (first_fails e (minimum_at path ms) _ h)
+
+pub fails_at_must : (e : QueryError) (path : List ℕ) (ms : Members) (filter must must_not should : Result Queries QueryError) (fs : Queries) (least : Option ℕ) → list_all is_clause_name (member_keys ms) ≡ true → filter ≡ Ok fs → minimum_at path ms ≡ Ok least
+    → Fails e must → Fails e (bool_of path ms filter must must_not should)
+unfolding bool_of
+fails_at_must e path ms filter must must_not should fs least known f l h = rw (known, f, l) (first_fails e must _ h)
+
+pub fails_at_must_not : (e : QueryError) (path : List ℕ) (ms : Members) (filter must must_not should : Result Queries QueryError) (fs qs : Queries) (least : Option ℕ) → list_all is_clause_name (member_keys ms) ≡ true → filter ≡ Ok fs → minimum_at path ms ≡ Ok least
+    → must ≡ Ok qs → Fails e must_not → Fails e (bool_of path ms filter must must_not should)
+unfolding bool_of
+fails_at_must_not e path ms filter must must_not should fs qs least known f l m h = rw (known, f, l, m) (first_fails e must_not _ h)
+
+pub fails_at_should : (e : QueryError) (path : List ℕ) (ms : Members) (filter must must_not should : Result Queries QueryError) (fs qs ns : Queries) (least : Option ℕ) → list_all is_clause_name (member_keys ms) ≡ true → filter ≡ Ok fs → minimum_at path ms ≡ Ok least
+    → must ≡ Ok qs → must_not ≡ Ok ns → Fails e should → Fails e (bool_of path ms filter must must_not should)
+unfolding bool_of
+fails_at_should e path ms filter must must_not should fs qs ns least known f l m n h = rw (known, f, l, m, n) (first_fails e should _ h)
 
 -- ---- a list of queries
 

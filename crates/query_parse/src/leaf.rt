@@ -20,7 +20,7 @@ use serde_json::{Map, Value};
 use std::alloc::Global;
 
 /// What a query asks of a field.
-#[derive(Clone, Copy, PartialEq, Eq)]
+#[derive(Clone, Copy)]
 enum Asked {
     Equal,
     OneOf,

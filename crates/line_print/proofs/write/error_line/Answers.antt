@@ -1,4 +1,4 @@
-use Rattle.std.proofs.Common.{◌≡◌, ℕ, ◌++◌, List, OnOk, subst}
+use Rattle.std.proofs.Common.{◌≡◌, ℕ, List, OnOk, subst}
 use Rattle.serde_json.specs.View.{view}
 use Rattle.line_print.proofs.PrintLemmas.{error_text}
 use Rattle.line_print.proofs.write.error_line.Goals as goal

@@ -1,4 +1,4 @@
-use Rattle.std.proofs.Common.{◌≡◌, ℕ, ◌++◌, List, OnOk, subst}
+use Rattle.std.proofs.Common.{◌≡◌, ℕ, List, OnOk, subst}
 use Rattle.serde_json.specs.View.{view}
 use Rattle.line_print.proofs.PrintLemmas.{line_text}
 use Rattle.line_print.proofs.write.reply_line.Goals as goal

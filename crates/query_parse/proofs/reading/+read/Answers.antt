@@ -1,19 +1,49 @@
-use Rattle.std.proofs.Common.{◌≡◌, ◌<◌, true, Ok, sym, ap, ◌∙◌, rules, arith}
+use Rattle.std.proofs.Common.{◌≡◌, ◌<◌, true, Ok, sym, ap, ◌∙◌, arith}
 use Rattle.std.specs.List.{list_all}
 use Rattle.std.proofs.lemmas.Result.{err_from_is_err_and}
 use Rattle.serde_json.specs.View.{view, items_view, members_view}
 use Rattle.query_parse.specs.Paths.{path_text}
 use Rattle.query_parse.specs.Reading.{member_keys, is_clause_name, least_of, bool_of}
 use Rattle.query_match.specs.View.{queries_view}
-use Rattle.query_parse.proofs.Nodes.{view-Bool, clause_in-none, clause_in-some, query_in-some, goes_on, ends, is_done}
+use Rattle.query_parse.proofs.Nodes.{view-Bool, clause_in-none, clause_in-some, query_in-some, fails_at_filter, fails_at_minimum, fails_at_must, fails_at_must_not, fails_at_should, goes_on, ends, is_done}
 use Rattle.query_parse.proofs.Sizes.{data_size, items_size, members_size, size-get_member, size-item}
 use Rattle.query_parse.proofs.reading.+read.Goals as goal
+
+pub read_bool-returns-in_err-filter : goal.read_bool-returns-in_err-filter
+read_bool-returns-in_err-filter t c =
+    let p = err_from_is_err_and c.from_residual.result c.from_residual.ensures.1 in
+    rw (p.1, p.2)
+    (fails_at_filter c.in_err-filter.field-0.0 (path_text c.args.path.now) (members_view c.args.members.now.entries) _ _ _ _ (sym c.has_clauses_alone.ensures ∙ c.if-not-has_clauses_alone.false) c.in_err-filter.ensures)
+
+pub read_bool-returns-in_err-minimum : goal.read_bool-returns-in_err-minimum
+read_bool-returns-in_err-minimum t c =
+    let p = err_from_is_err_and c.from_residual-in_err-minimum.result c.from_residual-in_err-minimum.ensures.1 in
+    rw (p.1, p.2)
+    (fails_at_minimum c.in_err-minimum.field-0.0 (path_text c.args.path.now) (members_view c.args.members.now.entries) _ _ _ _ _ (sym c.has_clauses_alone.ensures ∙ c.if-not-has_clauses_alone.false) c.in_ok-filter.ensures c.in_err-minimum.ensures)
+
+pub read_bool-returns-in_err-must : goal.read_bool-returns-in_err-must
+read_bool-returns-in_err-must t c =
+    let p = err_from_is_err_and c.from_residual-in_err-must.result c.from_residual-in_err-must.ensures.1 in
+    rw (p.1, p.2)
+    (fails_at_must c.in_err-must.field-0.0 (path_text c.args.path.now) (members_view c.args.members.now.entries) _ _ _ _ _ _ (sym c.has_clauses_alone.ensures ∙ c.if-not-has_clauses_alone.false) c.in_ok-filter.ensures c.in_ok-minimum.ensures c.in_err-must.ensures)
+
+pub read_bool-returns-in_err-must_not : goal.read_bool-returns-in_err-must_not
+read_bool-returns-in_err-must_not t c =
+    let p = err_from_is_err_and c.from_residual-in_err-must_not.result c.from_residual-in_err-must_not.ensures.1 in
+    rw (p.1, p.2)
+    (fails_at_must_not c.in_err-must_not.field-0.0 (path_text c.args.path.now) (members_view c.args.members.now.entries) _ _ _ _ _ _ _ (sym c.has_clauses_alone.ensures ∙ c.if-not-has_clauses_alone.false) c.in_ok-filter.ensures c.in_ok-minimum.ensures c.in_ok-must.ensures c.in_err-must_not.ensures)
+
+pub read_bool-returns-in_err-should : goal.read_bool-returns-in_err-should
+read_bool-returns-in_err-should t c =
+    let p = err_from_is_err_and c.from_residual-in_err-should.result c.from_residual-in_err-should.ensures.1 in
+    rw (p.1, p.2)
+    (fails_at_should c.in_err-should.field-0.0 (path_text c.args.path.now) (members_view c.args.members.now.entries) _ _ _ _ _ _ _ _ (sym c.has_clauses_alone.ensures ∙ c.if-not-has_clauses_alone.false) c.in_ok-filter.ensures c.in_ok-minimum.ensures c.in_ok-must.ensures c.in_ok-must_not.ensures c.in_err-should.ensures)
 
 pub read_bool-returns : goal.read_bool-returns
 unfolding bool_of
 read_bool-returns t c =
     let ms = members_view c.args.members.now.entries in
-    let known : list_all is_clause_name (member_keys ms) ≡ true = search rules in
+    let known : list_all is_clause_name (member_keys ms) ≡ true = sym c.has_clauses_alone.ensures ∙ c.if-not-has_clauses_alone.false in
     let least : c.least_of-least.result ≡ least_of c.in_ok-minimum.minimum (queries_view c.in_ok-must.must.items) (queries_view c.in_ok-filter.filter.items) (queries_view c.in_ok-should.should.items) =
     rw (← c.deref.ensures.value, ← c.deref-2.ensures.value, ← c.deref-3.ensures.value) c.least_of-least.ensures in
     rw (known, c.in_ok-filter.ensures, c.in_ok-minimum.ensures, c.in_ok-must.ensures, c.in_ok-must_not.ensures, c.in_ok-should.ensures, least)
