@@ -18,4 +18,4 @@ pub returns : goal.returns
 returns c =
     view-Array c.loop-shard.values
     ∙ ap (λ (told : List Data). array (items_of told))
-      (c.loop-shard.invariant ∙ ap (map failed_shard) (take_all c.loop-shard.shard-index c.args.failed.now c.loop-shard-test.false))
+    (c.loop-shard.invariant ∙ ap (map failed_shard) (take_all c.loop-shard.shard-index c.args.failed.now c.loop-shard-test.false))

@@ -21,7 +21,7 @@ loop-turn-preserved c =
     let i = c.loop-turn.turn-index in
     c.in_ok-later.ensures (flat_map (λ turn. turn.now) (drop (i + 1) turns))
     ∙ ap (λ events. c.loop-turn.out.items ++ items_text c.loop-turn.later (items_of (map (λ event. string (told c.args.script.now event)) events)))
-      (turns_from turns i c.turn-item.result c.loop-turn-test.true c.turn-item.is)
+    (turns_from turns i c.turn-item.result c.loop-turn-test.true c.turn-item.is)
     ∙ c.loop-turn.invariant
 
 pub returns : goal.returns
