@@ -33,6 +33,7 @@ pub mod NextChild
 pub mod NodeTables
 pub mod Numbered
 pub mod OpenListings
+pub mod Outcomes
 pub mod Parts
 pub mod PlainEnds
 pub mod PossibleHits

@@ -115,6 +115,5 @@ pub fn deliver_answer(state: &mut State<'_>, nth: usize) -> Result<(), Stop>
             parent,
             ask: receipt.ask(),
         },
-    )?;
-    Ok(())
+    )
 }

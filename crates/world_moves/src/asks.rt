@@ -101,6 +101,5 @@ pub fn ask(state: &mut State<'_>, task: TaskId, request: Request) -> Result<(), 
             to,
             request,
         },
-    )?;
-    Ok(())
+    )
 }

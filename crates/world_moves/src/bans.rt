@@ -51,8 +51,7 @@ fn deliver_ban(
             parent,
             cancel,
         },
-    )?;
-    Ok(())
+    )
 }
 
 /// An acknowledgement reaches the node of its task. The answers follow that come due with it, and where the task has ended
@@ -82,8 +81,7 @@ fn deliver_ack(state: &mut State<'_>, nth: usize, parent: TaskId, node: u32) -> 
         &mut state.history,
         parent.node,
         acts.as_slice(),
-    )?;
-    Ok(())
+    )
 }
 
 /// An unban reaches its node, where the ban is taken away.
@@ -101,8 +99,7 @@ fn deliver_unban(state: &mut State<'_>, nth: usize, parent: TaskId, node: u32) -
     let unban = state.flight.take(nth);
     drop(unban);
     let _stood = state.bans[node as usize - 1].remove(parent);
-    append(&mut state.history, Event::BanGone { node, parent })?;
-    Ok(())
+    append(&mut state.history, Event::BanGone { node, parent })
 }
 
 /// The message about bans of this place among those in flight, counted from 0, is delivered.

@@ -72,15 +72,15 @@ pub fn finish(state: &mut State<'_>, task: TaskId, reply: Reply) -> Result<(), S
         unreachable!()
     };
     let receipt = end_in(&mut state.tables[task.node as usize - 1], running);
-    match tell_parent(&mut state.flight, receipt, state.history.len()) {
+    let at = state.history.len();
+    match tell_parent(&mut state.flight, receipt, at) {
         Ok(()) => {}
         Err(stop) => {
             drop(reply);
             return Err(stop);
         }
     }
-    append(&mut state.history, Event::End { task, reply })?;
-    Ok(())
+    append(&mut state.history, Event::End { task, reply })
 }
 
 /// A cancelled task ends, or a child is refused, with this event. The task that asked for it is told. Where a cancellation of
@@ -104,7 +104,8 @@ fn leave(state: &mut State<'_>, task: TaskId, event: Event) -> Result<(), Stop>
         unreachable!()
     };
     let receipt = end_in(&mut state.tables[place], running);
-    match tell_parent(&mut state.flight, receipt, state.history.len()) {
+    let at = state.history.len();
+    match tell_parent(&mut state.flight, receipt, at) {
         Ok(()) => {}
         Err(stop) => {
             drop(event);
@@ -124,8 +125,7 @@ fn leave(state: &mut State<'_>, task: TaskId, event: Event) -> Result<(), Stop>
         &mut state.history,
         task.node,
         acts.as_slice(),
-    )?;
-    Ok(())
+    )
 }
 
 /// A child that has not passed is refused with the number of the ban of its parent on its node.

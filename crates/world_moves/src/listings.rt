@@ -78,8 +78,7 @@ fn end_listing(state: &mut State<'_>, listing: Listing) -> Result<(), Stop>
             node: listing.node,
             parent,
         },
-    )?;
-    Ok(())
+    )
 }
 
 /// An open listing makes its next step.

@@ -57,6 +57,5 @@ pub fn mark(
         &mut state.history,
         task.node,
         acts.as_slice(),
-    )?;
-    Ok(())
+    )
 }

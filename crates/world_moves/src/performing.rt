@@ -26,20 +26,17 @@ fn perform_one(flight: &mut Flight, history: &mut History, node: u32, act: &Act)
         Act::SendAck { to: _, parent } => Notice::Ack { parent, from: node },
         Act::SendUnban { to, parent } => Notice::Unban { parent, to },
         Act::AnswerPlaced { cancel, task: _ } => {
-            append(history, Event::AnswerPlaced { cancel })?;
-            return Ok(());
+            return append(history, Event::AnswerPlaced { cancel });
         }
         Act::AnswerDone {
             cancel,
             task: _,
             receipt: _,
         } => {
-            append(history, Event::AnswerDone { cancel })?;
-            return Ok(());
+            return append(history, Event::AnswerDone { cancel });
         }
     };
-    send(flight, Sent::Notice(notice))?;
-    Ok(())
+    send(flight, Sent::Notice(notice))
 }
 
 /// Does the acts of a node in their order: messages are sent, and answers are noted.

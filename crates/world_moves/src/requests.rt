@@ -56,15 +56,12 @@ fn reject(
     ensures numbers { result ≡ Err Stop.NumbersSpent → ⊥ }
     ensures room { OnOk result (length history.new ≤ MAX_EVENTS) }
 {
-    let event = Event::Reject {
-        node,
-        parent: token.parent(),
-        ask: token.ask(),
-    };
+    let parent = token.parent();
+    let ask = token.ask();
     let at = history.len();
     let receipt = token.reject();
     send(flight, Sent::Answer { receipt, at })?;
-    append(history, event)
+    append(history, Event::Reject { node, parent, ask })
 }
 
 /// A request reaches its node. Where a slot is free there, its child takes it and is to pass; where none is, the
@@ -86,21 +83,20 @@ pub fn deliver_request(state: &mut State<'_>, nth: usize) -> Result<(), Stop>
     ensures room { OnOk result (length state.new.history ≤ MAX_EVENTS) }
 {
     let (token, to, at) = take_request(&mut state.flight, nth);
-    let (parent, ask) = (token.parent(), token.ask());
-    let request = request_at(&state.history, at);
-    let child = new_task(state.alloc, request, Some(parent));
+    let parent = token.parent();
+    let ask = token.ask();
+    let child = new_task(state.alloc, request_at(&state.history, at), Some(parent));
     match put_on(&mut state.tables, to, child, Some(token)) {
         Ok(ticket) => {
             let task = ticket.id();
+            let request = request_at(&state.history, at);
             let running = with_work(state.alloc, ticket, request, &state.cluster, true)?;
             let event = Event::Put { task, parent, ask };
-            keep(&mut state.history, &mut state.tasks, running, event)?;
-            Ok(())
+            keep(&mut state.history, &mut state.tasks, running, event)
         }
         Err(PutError::Full(token)) => {
             let Some(token) = token else { unreachable!() };
-            reject(&mut state.history, &mut state.flight, to, token)?;
-            Ok(())
+            reject(&mut state.history, &mut state.flight, to, token)
         }
         Err(PutError::NumbersSpent(token)) => {
             spend(token);

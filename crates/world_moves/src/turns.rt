@@ -57,6 +57,5 @@ pub fn turn(state: &mut State<'_>, task: TaskId) -> Result<(), Stop>
     let Ok(()) = running.work.turn(shard) else {
         return Err(Stop::Memory);
     };
-    append(&mut state.history, Event::Work { task })?;
-    Ok(())
+    append(&mut state.history, Event::Work { task })
 }

@@ -11,7 +11,7 @@ use Rattle.world_moves.specs.Moves.{Delivers}
 use Rattle.world_moves.proofs.AcksAfter.{ack_high, ack_core, ack_entry, ack_awaited, tied_after, noted_after, ack_happened, delivers_ack, partly_ack, part_laws}
 use Rattle.world_moves.proofs.AnswersCome.{answers_await}
 use Rattle.world_moves.proofs.CoresAfter.{has_core}
-use Rattle.world_moves.proofs.MarksAfter.{on_error}
+use Rattle.world_moves.proofs.Outcomes.{then_ok, both_ok, then_err}
 use Rattle.world_moves.proofs.bans.deliver_ack.Goals as goal
 
 pub index_mut-requires : goal.index_mut-requires
@@ -31,29 +31,29 @@ acked-requires c =
     let has = ack_awaited s.cluster s.corpus.now s.script.now s.history _ _ s.flight c.requires.tied.ties c.requires.tied.awaits c.args.nth c.args.parent c.args.node c.requires.there e.0 e.2 in
     subst (λ (k : Cancellation). Contains k.awaited c.args.node) (sym entry) has
 
-pub returns-in_err-perform-clause-part : goal.returns-in_err-perform-clause-part
-returns-in_err-perform-clause-part c =
+pub returns-clause-part : goal.returns-clause-part
+returns-clause-part c =
     let s = c.args.state.now in
     let on = ack_core s.cluster s.corpus.now s.script.now s.history _ _ s.flight c.requires.tied.ties c.requires.tied.awaits c.args.nth c.args.parent c.args.node c.requires.there s.cores.items c.requires.tied.cancels.cores_are in
     let is = c.index_mut.ensures.value ∙ get_or_from_slice_get s.cores.items _ on.0 _ on.1 in
     let e = ack_entry s.cluster s.corpus.now s.script.now s.history _ _ s.flight c.requires.tied.ties c.requires.tied.awaits c.args.nth c.args.parent c.args.node c.requires.there s.cores.items c.requires.tied.cancels.cores_are c.index_mut.result.now (on.1 ∙ ap Some (sym is)) in
     let entry = ap (λ o. unwrap_or o (opened 0 [])) e.1 in
     let acts = c.as_slice.ensures.value ∙ c.in-Ok.ensures.acts ∙ ap (λ k. due_acts c.args.parent (with_ack k c.args.node)) entry in
-    on_error c.from_residual-in_err-perform.result _
-    (partly_ack s.cluster s.corpus.now s.script.now s.history _ _ s.flight c.requires.tied.ties c.requires.tied.awaits c.args.nth c.args.parent c.args.node c.requires.there e.0 e.2 c.requires.tied.cancels.one_task
-    c.append.new.history c.perform.new.history _ c.in_ok-append.ensures.ok acts c.in_err-perform.ensures.part)
+    then_err c.perform.result _ _ (λ performed.
+    partly_ack s.cluster s.corpus.now s.script.now s.history _ _ s.flight c.requires.tied.ties c.requires.tied.awaits c.args.nth c.args.parent c.args.node c.requires.there e.0 e.2 c.requires.tied.cancels.one_task
+    c.append.new.history c.perform.new.history _ c.in_ok-append.ensures.ok acts performed) c.perform.ensures.part
 
-pub returns-in_err-perform-clause-laws : goal.returns-in_err-perform-clause-laws
-returns-in_err-perform-clause-laws c =
+pub returns-clause-laws : goal.returns-clause-laws
+returns-clause-laws c =
     let s = c.args.state.now in
     let on = ack_core s.cluster s.corpus.now s.script.now s.history _ _ s.flight c.requires.tied.ties c.requires.tied.awaits c.args.nth c.args.parent c.args.node c.requires.there s.cores.items c.requires.tied.cancels.cores_are in
     let is = c.index_mut.ensures.value ∙ get_or_from_slice_get s.cores.items _ on.0 _ on.1 in
     let e = ack_entry s.cluster s.corpus.now s.script.now s.history _ _ s.flight c.requires.tied.ties c.requires.tied.awaits c.args.nth c.args.parent c.args.node c.requires.there s.cores.items c.requires.tied.cancels.cores_are c.index_mut.result.now (on.1 ∙ ap Some (sym is)) in
     let entry = ap (λ o. unwrap_or o (opened 0 [])) e.1 in
     let acts = c.as_slice.ensures.value ∙ c.in-Ok.ensures.acts ∙ ap (λ k. due_acts c.args.parent (with_ack k c.args.node)) entry in
-    let laws = part_laws s.cluster s.corpus.now s.script.now s.history _ _ s.flight c.requires.tied.ties c.requires.tied.awaits c.args.nth c.args.parent c.args.node c.requires.there e.0 e.2 c.requires.tied.cancels.one_task
-    c.append.new.history c.perform.new.history _ c.in_ok-append.ensures.ok acts c.in_err-perform.ensures.part in
-    on_error c.from_residual-in_err-perform.result _ (record { lawful = laws.0; plain = laws.1 })
+    then_err c.perform.result _ _ (λ performed. (let laws = part_laws s.cluster s.corpus.now s.script.now s.history _ _ s.flight c.requires.tied.ties c.requires.tied.awaits c.args.nth c.args.parent c.args.node c.requires.there e.0 e.2 c.requires.tied.cancels.one_task
+    c.append.new.history c.perform.new.history _ c.in_ok-append.ensures.ok acts performed in
+    record { lawful = laws.0; plain = laws.1 })) c.perform.ensures.part
 
 pub returns-clause-delivered : goal.returns-clause-delivered
 returns-clause-delivered c =
@@ -63,10 +63,10 @@ returns-clause-delivered c =
     let e = ack_entry s.cluster s.corpus.now s.script.now s.history _ _ s.flight c.requires.tied.ties c.requires.tied.awaits c.args.nth c.args.parent c.args.node c.requires.there s.cores.items c.requires.tied.cancels.cores_are c.index_mut.result.now (on.1 ∙ ap Some (sym is)) in
     let entry = ap (λ o. unwrap_or o (opened 0 [])) e.1 in
     let acts = c.as_slice.ensures.value ∙ c.in-Ok.ensures.acts ∙ ap (λ k. due_acts c.args.parent (with_ack k c.args.node)) entry in
-    let happened = ack_happened s.cluster s.corpus.now s.script.now s.history _ _ s.flight c.requires.tied.ties c.requires.tied.awaits c.args.nth c.args.parent c.args.node c.requires.there e.0 e.2 c.requires.tied.cancels.one_task
-    c.append.new.history c.perform.new.history _ c.in_ok-append.ensures.ok acts c.in_ok-perform.ensures.answered in
+    then_ok c.perform.result _ _ (λ answered. (let happened = ack_happened s.cluster s.corpus.now s.script.now s.history _ _ s.flight c.requires.tied.ties c.requires.tied.awaits c.args.nth c.args.parent c.args.node c.requires.there e.0 e.2 c.requires.tied.cancels.one_task
+    c.append.new.history c.perform.new.history _ c.in_ok-append.ensures.ok acts answered in
     subst (λ h. Delivers s.cluster s.history c.args.nth h) (sym happened)
-    (delivers_ack s.cluster s.corpus.now s.script.now s.history _ _ s.flight c.requires.tied.ties c.requires.tied.awaits c.args.nth c.args.parent c.args.node c.requires.there e.0 e.2 c.requires.tied.cancels.one_task)
+    (delivers_ack s.cluster s.corpus.now s.script.now s.history _ _ s.flight c.requires.tied.ties c.requires.tied.awaits c.args.nth c.args.parent c.args.node c.requires.there e.0 e.2 c.requires.tied.cancels.one_task))) c.perform.ensures.answered
 
 pub returns-clause-tied : goal.returns-clause-tied
 returns-clause-tied c =
@@ -80,14 +80,14 @@ returns-clause-tied c =
     let e = ack_entry s.cluster s.corpus.now s.script.now s.history _ _ s.flight c.requires.tied.ties c.requires.tied.awaits c.args.nth c.args.parent c.args.node c.requires.there s.cores.items c.requires.tied.cancels.cores_are c.index_mut.result.now here in
     let entry = ap (λ o. unwrap_or o (opened 0 [])) e.1 in
     let acts = c.as_slice.ensures.value ∙ c.in-Ok.ensures.acts ∙ ap (λ k. due_acts p (with_ack k n)) entry in
-    let happened = ack_happened s.cluster s.corpus.now s.script.now s.history _ _ s.flight c.requires.tied.ties c.requires.tied.awaits c.args.nth c.args.parent c.args.node c.requires.there e.0 e.2 c.requires.tied.cancels.one_task
-    c.append.new.history c.perform.new.history _ c.in_ok-append.ensures.ok acts c.in_ok-perform.ensures.answered in
     let rest = rw (c.take-ack.ensures.taken ∙ c.requires.there) at c.take-ack.ensures.rest in
-    let sent = c.in_ok-perform.ensures.sent ∙ ap (λ queue. queue ++ messages_in p.node c.as_slice.result.now) rest ∙ ap (λ xs. remove s.flight c.args.nth ++ messages_in p.node xs) acts in
     let core = c.in-Ok.ensures.acked ∙ ap (λ k. with_entry c.index_mut.result.now p (rest_of (with_ack k n))) entry in
+    both_ok c.perform.result _ _ _ (λ answered queued. (let happened = ack_happened s.cluster s.corpus.now s.script.now s.history _ _ s.flight c.requires.tied.ties c.requires.tied.awaits c.args.nth c.args.parent c.args.node c.requires.there e.0 e.2 c.requires.tied.cancels.one_task
+    c.append.new.history c.perform.new.history _ c.in_ok-append.ensures.ok acts answered in
+    let sent = queued ∙ ap (λ queue. queue ++ messages_in p.node c.as_slice.result.now) rest ∙ ap (λ xs. remove s.flight c.args.nth ++ messages_in p.node xs) acts in
     record {
       ties = rw (happened, sent) (tied_after s.cluster s.corpus.now s.script.now s.history _ _ s.flight c.requires.tied.ties c.requires.tied.awaits c.args.nth c.args.parent c.args.node c.requires.there e.0 e.2 c.requires.tied.cancels.one_task);
       cancels = rw (happened, core) (noted_after s.cluster s.corpus.now s.script.now s.history _ _ s.flight c.requires.tied.ties c.requires.tied.awaits c.args.nth c.args.parent c.args.node c.requires.there e.0 e.2 c.requires.tied.cancels.one_task
           _ _ s.cores.items _ c.requires.tied.cancels high c.index_mut.result.now here);
       awaits = rw happened (answers_await s.cluster p (Acked p n ∷ s.history) tt);
-    }
+    })) c.perform.ensures.answered c.perform.ensures.sent

@@ -4,6 +4,7 @@ use Rattle.task_events.specs.declared.event.Event.TheVariants.{BanPut}
 use Rattle.task_events.specs.Messages.Message.{Ban}
 use Rattle.world_moves.proofs.BansAfter.{bans_on, has_bans, bans_tell, tied_put, noted_put}
 use Rattle.world_moves.proofs.BansCome.{ban_here, ban_number, ban_in, ban_free}
+use Rattle.world_moves.proofs.Outcomes.{then_ok}
 use Rattle.world_moves.proofs.bans.deliver_ban.Goals as goal
 
 pub overflow_sub-node : goal.overflow_sub-node
@@ -39,7 +40,7 @@ pub returns-clause-delivered : goal.returns-clause-delivered
 returns-clause-delivered c =
     let s = c.args.state.now in
     let here = ban_here s.cluster s.corpus.now s.script.now s.history _ _ s.flight c.requires.tied.ties c.args.nth c.args.parent c.args.cancel c.args.node c.requires.there in
-    (Ban c.args.parent c.args.cancel c.args.node, BanPut c.args.node c.args.parent c.args.cancel, here, (refl, refl, refl), c.in_ok-append.ensures.ok)
+    then_ok c.append.result _ _ (λ happened. (Ban c.args.parent c.args.cancel c.args.node, BanPut c.args.node c.args.parent c.args.cancel, here, (refl, refl, refl), happened)) c.append.ensures.ok
 
 pub returns-clause-tied : goal.returns-clause-tied
 returns-clause-tied c =
@@ -50,9 +51,8 @@ returns-clause-tied c =
     let here = on.1 ∙ ap Some (sym is) in
     let put = c.put.ensures.put (c.in-Ok-Put.is ∙ ap Ok c.in-Ok-Put.field-0-is) in
     let rest = rw (c.take-ban.ensures.taken ∙ c.requires.there) at c.take-ban.ensures.rest in
-    let happened = c.in_ok-append.ensures.ok in
-    record {
+    then_ok c.append.result _ _ (λ happened. record {
       ties = rw (happened, rest) (tied_put s.cluster s.corpus.now s.script.now s.history _ _ s.flight c.requires.tied.ties c.requires.tied.awaits c.args.nth c.args.parent c.args.cancel c.args.node c.requires.there);
       cancels = rw (happened, put) (noted_put s.cluster s.history _ _ s.bans.items _ _ c.requires.tied.cancels c.args.node node.0 node.1 c.args.parent c.index_mut.result.now here c.args.cancel c.insert.new.self c.in-Ok.ensures.updates.0);
       awaits = rw happened tt;
-    }
+    }) c.append.ensures.ok

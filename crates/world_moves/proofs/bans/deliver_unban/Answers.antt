@@ -4,6 +4,7 @@ use Rattle.task_events.specs.declared.event.Event.TheVariants.{BanGone}
 use Rattle.task_events.specs.Messages.Message.{Unban}
 use Rattle.world_moves.proofs.BansAfter.{bans_on, has_bans, tied_gone, noted_gone}
 use Rattle.world_moves.proofs.BansCome.{unban_here, unban_in}
+use Rattle.world_moves.proofs.Outcomes.{then_ok}
 use Rattle.world_moves.proofs.bans.deliver_unban.Goals as goal
 
 pub overflow_sub-node : goal.overflow_sub-node
@@ -22,7 +23,7 @@ pub returns-clause-delivered : goal.returns-clause-delivered
 returns-clause-delivered c =
     let s = c.args.state.now in
     let here = unban_here s.cluster s.corpus.now s.script.now s.history _ _ s.flight c.requires.tied.ties c.args.nth c.args.parent c.args.node c.requires.there in
-    (Unban c.args.parent c.args.node, BanGone c.args.node c.args.parent, here, (refl, refl), c.in_ok-append.ensures.ok)
+    then_ok c.append.result _ _ (λ happened. (Unban c.args.parent c.args.node, BanGone c.args.node c.args.parent, here, (refl, refl), happened)) c.append.ensures.ok
 
 pub returns-clause-tied : goal.returns-clause-tied
 returns-clause-tied c =
@@ -32,9 +33,8 @@ returns-clause-tied c =
     let is = c.index_mut.ensures.value ∙ get_or_from_slice_get s.bans.items _ on.0 _ on.1 in
     let here = on.1 ∙ ap Some (sym is) in
     let rest = rw (c.take-unban.ensures.taken ∙ c.requires.there) at c.take-unban.ensures.rest in
-    let happened = c.in_ok-append.ensures.ok in
-    record {
+    then_ok c.append.result _ _ (λ happened. record {
       ties = rw (happened, rest) (tied_gone s.cluster s.corpus.now s.script.now s.history _ _ s.flight c.requires.tied.ties c.requires.tied.awaits c.args.nth c.args.parent c.args.node c.requires.there);
       cancels = rw (happened, c.remove-stood.ensures.removed) (noted_gone s.cluster s.history _ _ s.bans.items _ _ c.requires.tied.cancels c.args.node node.0 node.1 c.args.parent c.index_mut.result.now here);
       awaits = rw happened tt;
-    }
+    }) c.append.ensures.ok

@@ -10,6 +10,7 @@ use Rattle.world_moves.proofs.StepsAfter.{is_kept}
 use Rattle.world_moves.proofs.EndsAfter.{after_finish, all_come}
 use Rattle.world_moves.proofs.LeftNotes.{noted_unmarked}
 use Rattle.world_moves.proofs.Leaving.{nothing_open, own_track, has_table, table_is, stands, runs}
+use Rattle.world_moves.proofs.Outcomes.{then_ok}
 use Rattle.world_moves.proofs.ends.finish.Goals as goal
 
 pub unreachable-requires : goal.unreachable-requires
@@ -55,14 +56,14 @@ returns-clause-tied c =
     let its = table_is s.cluster s.corpus.now s.script.now s.history _ _ _ c.requires.tied.ties c.args.task c.requires.live c.index_mut.result.now c.index_mut.ensures.value in
     let changed = c.remove.ensures.updates.0 in
     let row = c.end_in-receipt.ensures.row ∙ ap (λ id. without_task c.index_mut.result.now id.number) (runs s.cluster s.corpus.now s.script.now s.history _ _ _ c.requires.tied.ties c.args.task c.requires.live r was).id in
-    record {
+    then_ok c.append.result _ _ (λ happened. record {
       ties =
-          same_ties s.cluster s.corpus.now s.script.now _ _ _ _ _ _ _ c.in_ok-append.ensures.ok (ap (slice_set s.tables.items (c.args.task.node - 1)) row)
-          (c.in-Ok.ensures.ok ∙ ap (λ at. s.flight ++ told_parent c.end_in-receipt.result at) c.len.ensures)
+          same_ties s.cluster s.corpus.now s.script.now _ _ _ _ _ _ _ happened (ap (slice_set s.tables.items (c.args.task.node - 1)) row)
+          (c.in-Ok.ensures.ok ∙ ap (λ at. s.flight ++ told_parent c.end_in-receipt.result at) c.len-at.ensures)
           (after_finish s.cluster s.corpus.now s.script.now s.history _ _ _ c.requires.tied.ties c.requires.shards.few c.args.task r c.args.reply c.requires.live c.requires.passed c.requires.unmarked was next c.requires.tied.awaits
           c.index_mut.result.now c.end_in-receipt.result _ its c.end_in-receipt.ensures.receipt (at_changed c.args.task None (task_at s.tasks) _ changed) (off_changed c.args.task None (task_at s.tasks) _ changed));
       cancels =
-          rw (c.in_ok-append.ensures.ok, row) (noted_unmarked c.args.task s.history (End c.args.task c.args.reply) refl c.requires.unmarked s.cluster s.tables.items _ s.bans.items s.cores.items s.listings
+          rw (happened, row) (noted_unmarked c.args.task s.history (End c.args.task c.args.reply) refl c.requires.unmarked s.cluster s.tables.items _ s.bans.items s.cores.items s.listings
           c.index_mut.result.now its c.requires.tied.cancels);
-      awaits = rw c.in_ok-append.ensures.ok tt;
-    }
+      awaits = rw happened tt;
+    }) c.append.ensures.ok

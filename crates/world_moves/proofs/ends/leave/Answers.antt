@@ -15,6 +15,7 @@ use Rattle.world_moves.proofs.CancelledEnds.{leaves_so, leaver_lives, awaits_non
 use Rattle.world_moves.proofs.LeftEntries.{core_is, known_there, no_receipt, unmarked_there, nobody_there, answered_then, sent_then, part_then, answers_plain, set_again, on_err}
 use Rattle.world_moves.proofs.LeftNotes.{noted_unmarked, noted_ended, nothing_due, core_there, one_task_left}
 use Rattle.world_moves.proofs.Leaving.{own_track, has_table, in_cluster, table_is, stands, runs}
+use Rattle.world_moves.proofs.Outcomes.{then_ok, both_ok, then_err}
 use Rattle.world_moves.proofs.Parts.{part_lawful, part_plain, later_part}
 use Rattle.world_moves.proofs.ends.leave.Goals as goal
 
@@ -97,7 +98,7 @@ returns-then-not-has-clause-tied c =
     record {
       ties =
           same_ties s.cluster s.corpus.now s.script.now _ _ _ _ _ _ _ c.in_ok-append.ensures.ok (ap (slice_set s.tables.items (c.args.task.node - 1)) row)
-          (c.in-Ok.ensures.ok ∙ ap (λ at. s.flight ++ told_parent c.end_in-receipt.result at) c.len.ensures)
+          (c.in-Ok.ensures.ok ∙ ap (λ at. s.flight ++ told_parent c.end_in-receipt.result at) c.len-at.ensures)
           (after_unmarked s.cluster s.corpus.now s.script.now s.history _ _ _ c.requires.tied.ties c.args.task e c.requires.leaves r was c.requires.tied.awaits unmarked
           c.index_mut.result.now c.end_in-receipt.result _ its c.end_in-receipt.ensures.receipt (at_changed c.args.task None (task_at s.tasks) _ changed) (off_changed c.args.task None (task_at s.tasks) _ changed));
       cancels =
@@ -126,19 +127,19 @@ returns-in_default-ended-clause-part c =
     let h = c.args.state.now.history in
     rw c.in_ok-append.ensures.ok (first_part h (reverse (due_answers c.args.task (c.args.event ∷ h))) c.args.event)
 
-pub returns-in_err-perform-clause-part : goal.returns-in_err-perform-clause-part
-returns-in_err-perform-clause-part c =
+pub returns-clause-part : goal.returns-clause-part
+returns-clause-part c =
     let s = c.args.state.now in
     let live = leaver_lives c.args.task s.history c.args.event c.requires.leaves in
     let core = c.index_mut-core.result.now in
     let known = known_there s.cluster s.history s.tables.items _ s.bans.items s.cores.items s.listings c.requires.tied.cancels c.requires.tied.ties.lawful c.args.task live core c.index_mut-core.ensures.value
     (sym c.has.ensures ∙ c.if-not-has.false) in
-    let part = part_then c.args.task c.args.event s.history (leaves_so c.args.task s.history c.args.event c.requires.leaves) (entry_of core c.args.task) c.end_in-receipt.result known c.as_slice.result.now
-    (c.as_slice.ensures.value ∙ c.in-Ok-ended.ensures.acts) c.append.new.history c.perform.new.history c.in_ok-append.ensures.ok c.in_err-perform.ensures.part in
-    on_err c.from_residual-in_err-perform.result _ (later_part c.args.event s.history c.perform.new.history _ part)
+    then_err c.perform.result _ _ (λ performed. (let part = part_then c.args.task c.args.event s.history (leaves_so c.args.task s.history c.args.event c.requires.leaves) (entry_of core c.args.task) c.end_in-receipt.result known c.as_slice.result.now
+    (c.as_slice.ensures.value ∙ c.in-Ok-ended.ensures.acts) c.append.new.history c.perform.new.history c.in_ok-append.ensures.ok performed in
+    later_part c.args.event s.history c.perform.new.history _ part)) c.perform.ensures.part
 
-pub returns-in_err-perform-clause-laws : goal.returns-in_err-perform-clause-laws
-returns-in_err-perform-clause-laws c =
+pub returns-clause-laws : goal.returns-clause-laws
+returns-clause-laws c =
     let s = c.args.state.now in
     let e = c.args.event in
     let m = c.requires.leaves in
@@ -147,15 +148,15 @@ returns-in_err-perform-clause-laws c =
     let leaves = leaves_so c.args.task s.history e m in
     let known = known_there s.cluster s.history s.tables.items _ s.bans.items s.cores.items s.listings c.requires.tied.cancels c.requires.tied.ties.lawful c.args.task live core c.index_mut-core.ensures.value
     (sym c.has.ensures ∙ c.if-not-has.false) in
-    let part = part_then c.args.task e s.history leaves (entry_of core c.args.task) c.end_in-receipt.result known c.as_slice.result.now
-    (c.as_slice.ensures.value ∙ c.in-Ok-ended.ensures.acts) c.append.new.history c.perform.new.history c.in_ok-append.ensures.ok c.in_err-perform.ensures.part in
-    on_err c.from_residual-in_err-perform.result _ (record {
+    then_err c.perform.result _ _ (λ performed. (let part = part_then c.args.task e s.history leaves (entry_of core c.args.task) c.end_in-receipt.result known c.as_slice.result.now
+    (c.as_slice.ensures.value ∙ c.in-Ok-ended.ensures.acts) c.append.new.history c.perform.new.history c.in_ok-append.ensures.ok performed in
+    record {
       lawful = part_lawful s.cluster s.corpus.now s.script.now (e ∷ s.history) c.perform.new.history _ part
           (answers_lawful s.cluster c.args.task (e ∷ s.history) (left_lawful c.args.task s.history s.cluster c.requires.tied.ties.lawful c.requires.tied.awaits e m) (awaits_none c.args.task s.history e m)
           (one_task_left c.args.task s.history e leaves c.requires.tied.cancels.one_task));
       plain = part_plain s.cluster s.corpus.now s.script.now (e ∷ s.history) c.perform.new.history _ part
           (answers_plain s.cluster s.corpus.now s.script.now c.args.task (e ∷ s.history) (left_plain c.args.task s.history s.cluster s.corpus.now s.script.now e m c.requires.tied.ties.plain));
-    })
+    })) c.perform.ensures.part
 
 pub returns-clause-happened : goal.returns-clause-happened
 returns-clause-happened c =
@@ -164,9 +165,9 @@ returns-clause-happened c =
     let core = c.index_mut-core.result.now in
     let known = known_there s.cluster s.history s.tables.items _ s.bans.items s.cores.items s.listings c.requires.tied.cancels c.requires.tied.ties.lawful c.args.task live core c.index_mut-core.ensures.value
     (sym c.has.ensures ∙ c.if-not-has.false) in
-    c.in_ok-perform.ensures.answered ∙ ap (λ past. answers_in c.as_slice.result.now ++ past) c.in_ok-append.ensures.ok
+    then_ok c.perform.result _ _ (λ answered. answered ∙ ap (λ past. answers_in c.as_slice.result.now ++ past) c.in_ok-append.ensures.ok
     ∙ answered_then c.args.task c.args.event s.history (leaves_so c.args.task s.history c.args.event c.requires.leaves) (entry_of core c.args.task) c.end_in-receipt.result known c.as_slice.result.now
-    (c.as_slice.ensures.value ∙ c.in-Ok-ended.ensures.acts)
+    (c.as_slice.ensures.value ∙ c.in-Ok-ended.ensures.acts)) c.perform.ensures.answered
 
 pub returns-clause-tied : goal.returns-clause-tied
 returns-clause-tied c =
@@ -189,11 +190,10 @@ returns-clause-tied c =
     let row = c.end_in-receipt.ensures.row ∙ ap (λ id. without_task c.index_mut.result.now id.number) (runs s.cluster s.corpus.now s.script.now s.history _ _ _ c.requires.tied.ties c.args.task live r was).id in
     let sent = sent_then c.args.task e s.history leaves (entry_of core c.args.task) receipt known acts (c.as_slice.ensures.value ∙ c.in-Ok-ended.ensures.acts) c.args.task.node in
     let one = one_task_left c.args.task s.history e leaves c.requires.tied.cancels.one_task in
-    let happened = returns-clause-happened c in
-    record {
+    both_ok c.perform.result _ _ _ (λ happened queued. record {
       ties =
           same_ties s.cluster s.corpus.now s.script.now _ _ _ _ _ _ _ happened (ap (slice_set s.tables.items (c.args.task.node - 1)) row)
-          (c.in_ok-perform.ensures.sent ∙ ap (λ queue. queue ++ messages_in c.args.task.node acts) (c.in-Ok.ensures.ok ∙ ap (λ at. s.flight ++ told_parent receipt at) c.len.ensures))
+          (queued ∙ ap (λ queue. queue ++ messages_in c.args.task.node acts) (c.in-Ok.ensures.ok ∙ ap (λ at. s.flight ++ told_parent receipt at) c.len-at.ensures))
           (answers_tied s.cluster c.args.task (e ∷ s.history) s.corpus.now s.script.now _ _ _
           (after_cancelled s.cluster s.corpus.now s.script.now s.history _ _ _ c.requires.tied.ties c.args.task e m r was c.requires.tied.awaits
           c.index_mut.result.now receipt _ (messages_in c.args.task.node acts) its c.end_in-receipt.ensures.receipt (at_changed c.args.task None (task_at s.tasks) _ changed) (off_changed c.args.task None (task_at s.tasks) _ changed) sent) awaits one);
@@ -202,4 +202,4 @@ returns-clause-tied c =
           (answers_noted s.cluster c.args.task (e ∷ s.history) _ _ _ _ _ (left_lawful c.args.task s.history s.cluster c.requires.tied.ties.lawful c.requires.tied.awaits e m)
           (noted_ended c.args.task s.history e leaves s.cluster s.tables.items _ s.bans.items s.cores.items s.listings c.index_mut.result.now core (entry_of core c.args.task) receipt its at_core known c.requires.tied.cancels));
       awaits = rw happened (answers_await s.cluster c.args.task (e ∷ s.history) awaits);
-    }
+    }) (returns-clause-happened c) c.perform.ensures.sent

@@ -9,6 +9,7 @@ use Rattle.world_moves.proofs.LiveRows.{read_at}
 use Rattle.world_moves.proofs.NextChild.{open_in}
 use Rattle.world_moves.proofs.NodeTables.{core_at, same_cancels}
 use Rattle.world_moves.proofs.SameTies.{same_ties}
+use Rattle.world_moves.proofs.Outcomes.{then_ok}
 use Rattle.world_moves.proofs.listings.end_listing.Goals as goal
 
 pub overflow_sub-listing : goal.overflow_sub-listing
@@ -35,11 +36,10 @@ returns-clause-tied c =
     let here = read_at s.cores.items (n - 1) c.index_mut.result.now within c.index_mut.ensures.value in
     let act = sym c.in-SendAck.is ∙ c.ban_listed-act.ensures.act in
     let parent : c.in-SendAck.parent ≡ p = cc in
-    let happened = c.in_ok-append.ensures.ok ∙ ap (λ q. Listed n q ∷ s.history) parent in
     let flight = c.in_ok-send.ensures.ok ∙ ap (λ q. s.flight ++ Notice (Ack q n) ∷ []) parent in
     let cores = ap (slice_set s.cores.items (n - 1)) c.ban_listed-act.ensures.same in
-    record {
+    then_ok c.append.result _ _ (λ listed. (let happened = listed ∙ ap (λ q. Listed n q ∷ s.history) parent in record {
       ties = same_ties s.cluster s.corpus.now s.script.now _ _ _ _ _ _ _ happened refl flight (after_listed s.cluster s.history n p s.corpus.now s.script.now _ _ s.flight c.requires.tied.ties c.requires.tied.awaits c.requires.opened c.requires.marked);
       cancels = same_cancels s.cluster _ _ _ _ _ _ _ _ _ happened refl cores (cancels_after_listed s.cluster s.history n p _ _ s.bans.items s.cores.items s.listings c.index_mut.result.now _ c.requires.tied.cancels here c.remove-was_open.ensures.updates.0);
       awaits = rw happened tt;
-    }
+    })) c.append.ensures.ok

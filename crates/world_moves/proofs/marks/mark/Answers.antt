@@ -20,6 +20,7 @@ use Rattle.world_moves.proofs.Kept.{some_of, at_changed, off_changed}
 use Rattle.world_moves.proofs.LiveRows.{read_at}
 use Rattle.world_moves.proofs.MarksAfter.{marks_row, after_mark, cancels_after_mark, mark_happened, mark_queue, nothing_yet, on_error}
 use Rattle.world_moves.proofs.NodeTables.{core_at, fresh, same_cancels}
+use Rattle.world_moves.proofs.Outcomes.{then_ok, both_ok, then_err}
 use Rattle.world_moves.proofs.Parts.{part_lawful, part_plain, later_part}
 use Rattle.world_moves.proofs.SameTies.{same_ties}
 use Rattle.world_moves.proofs.StepsAfter.{is_kept, kept_running}
@@ -71,8 +72,8 @@ returns-in_err-append-clause-part c =
     let t = c.args.task in
     on_error c.from_residual.result _ (nothing_yet (reverse (due_answers t (Mark t c.args.cancel ∷ s.history))) (Mark t c.args.cancel) s.history c.append.new.history c.in_err-append.ensures.err)
 
-pub returns-in_err-perform-clause-part : goal.returns-in_err-perform-clause-part
-returns-in_err-perform-clause-part c =
+pub returns-clause-part : goal.returns-clause-part
+returns-clause-part c =
     let s = c.args.state.now in
     let t = c.args.task in
     let r = c.in-Some.running.now in
@@ -82,12 +83,12 @@ returns-in_err-perform-clause-part c =
     let past = c.in_ok-append.ensures.ok in
     let acts = c.as_slice.ensures.value ∙ c.in-Ok.ensures.acts in
     let whole = mark_happened s.cluster t c.args.cancel s.history c.requires.lawful (nodes_of c.close-asked.result) c.as_slice.result.now c.append.new.history _ c.args.waiter nodes acts past refl c.requires.waiting c.requires.wait in
-    let part = subst (λ w. IsPartOf c.append.new.history c.perform.new.history w) whole c.in_err-perform.ensures.part in
+    then_err c.perform.result _ _ (λ performed. (let part = subst (λ w. IsPartOf c.append.new.history c.perform.new.history w) whole performed in
     let first = subst (λ p. IsPartOf p c.perform.new.history (with_answers t (Mark t c.args.cancel ∷ s.history))) past part in
-    on_error c.from_residual-in_err-perform.result _ (later_part (Mark t c.args.cancel) s.history _ _ first)
+    later_part (Mark t c.args.cancel) s.history _ _ first)) c.perform.ensures.part
 
-pub returns-in_err-perform-clause-laws : goal.returns-in_err-perform-clause-laws
-returns-in_err-perform-clause-laws c =
+pub returns-clause-laws : goal.returns-clause-laws
+returns-clause-laws c =
     let s = c.args.state.now in
     let t = c.args.task in
     let r = c.in-Some.running.now in
@@ -101,8 +102,6 @@ returns-in_err-perform-clause-laws c =
     let core = core_at s.cluster _ s.history _ _ _ _ _ c.requires.cancels t.node low high in
     let within = slice_get_within s.cores.items (t.node - 1) core.0 core.1 in
     let whole = mark_happened s.cluster t c.args.cancel s.history c.requires.lawful (nodes_of c.close-asked.result) c.as_slice.result.now c.append.new.history _ c.args.waiter nodes acts past refl c.requires.waiting c.requires.wait in
-    let part = subst (λ w. IsPartOf c.append.new.history c.perform.new.history w) whole c.in_err-perform.ensures.part in
-    let first = subst (λ p. IsPartOf p c.perform.new.history (with_answers t (Mark t c.args.cancel ∷ s.history))) past part in
     let h = Mark t c.args.cancel ∷ s.history in
     let w = record r { track = c.close-asked.new.self } in
     let changed = ((c.get_mut.follows.holds w).3 (some_of _ _ was)).0 in
@@ -114,10 +113,12 @@ returns-in_err-perform-clause-laws c =
     let ties = after_mark s.cluster t c.args.cancel s.history c.requires.lawful s.corpus.now s.script.now (task_at s.tasks) _ s.tables.items c.index_mut.result.now s.flight (messages_in t.node c.as_slice.result.now) r
     c.requires.ties was here others row queue c.requires.number in
     let answered = answers_tied s.cluster t h s.corpus.now s.script.now _ _ _ ties tt c.requires.cancels.one_task in
-    on_error c.from_residual-in_err-perform.result _ (record {
+    then_err c.perform.result _ _ (λ performed. (let part = subst (λ w. IsPartOf c.append.new.history c.perform.new.history w) whole performed in
+    let first = subst (λ p. IsPartOf p c.perform.new.history (with_answers t (Mark t c.args.cancel ∷ s.history))) past part in
+    record {
       lawful = part_lawful s.cluster s.corpus.now s.script.now h _ _ first answered.lawful;
       plain = part_plain s.cluster s.corpus.now s.script.now h _ _ first answered.plain;
-    })
+    })) c.perform.ensures.part
 
 pub returns-clause-happened : goal.returns-clause-happened
 returns-clause-happened c =
@@ -129,7 +130,7 @@ returns-clause-happened c =
     let nodes = asked_nodes s.cluster t s.history c.requires.ties.lawful c.close-asked.result r.track c.close-asked.ensures.nodes (ap (λ track. track.asks) track) in
     let past = c.in_ok-append.ensures.ok in
     let acts = c.as_slice.ensures.value ∙ c.in-Ok.ensures.acts in
-    mark_happened s.cluster t c.args.cancel s.history c.requires.lawful (nodes_of c.close-asked.result) c.as_slice.result.now c.append.new.history c.perform.new.history c.args.waiter nodes acts past c.in_ok-perform.ensures.answered c.requires.waiting c.requires.wait
+    then_ok c.perform.result _ _ (λ answered. mark_happened s.cluster t c.args.cancel s.history c.requires.lawful (nodes_of c.close-asked.result) c.as_slice.result.now c.append.new.history c.perform.new.history c.args.waiter nodes acts past answered c.requires.waiting c.requires.wait) c.perform.ensures.answered
 
 pub returns-clause-tied : goal.returns-clause-tied
 returns-clause-tied c =
@@ -156,7 +157,6 @@ returns-clause-tied c =
     let ties = after_mark s.cluster t c.args.cancel s.history c.requires.lawful s.corpus.now s.script.now (task_at s.tasks) _ s.tables.items c.index_mut.result.now s.flight (messages_in t.node c.as_slice.result.now) r
     c.requires.ties was here others row queue c.requires.number in
     let answered = answers_tied s.cluster t h s.corpus.now s.script.now _ _ _ ties tt c.requires.cancels.one_task in
-    let happened = mark_happened s.cluster t c.args.cancel s.history c.requires.lawful (nodes_of c.close-asked.result) c.as_slice.result.now c.append.new.history c.perform.new.history c.args.waiter nodes acts past c.in_ok-perform.ensures.answered c.requires.waiting c.requires.wait in
     let node : (t.node - 1) + 1 ≡ t.node = omega (arith, low) in
     let fits = subst (IsTableAt s.cluster (t.node - 1) s.history) row (c.requires.ties.listed (t.node - 1)) in
     let rows = subst (HasRows s.history) row (c.requires.cancels.rows_are (t.node - 1)) in
@@ -167,8 +167,9 @@ returns-clause-tied c =
     let cores = ap (slice_set s.cores.items (t.node - 1)) (c.in-Ok.ensures.begun ∙ ap (λ ns. with_entry c.index_mut-2.result.now t (Some (begun c.args.cancel ns c.args.waiter))) nodes) in
     let noted = cancels_after_mark s.cluster t c.args.cancel s.history c.requires.lawful s.tables.items c.index_mut.result.now _ s.bans.items s.cores.items c.index_mut-2.result.now s.listings c.args.waiter
     c.requires.cancels c.requires.ties.listed row its_core c.requires.waiting c.requires.wait in
+    both_ok c.perform.result _ _ _ (λ noted_answers sent. (let happened = mark_happened s.cluster t c.args.cancel s.history c.requires.lawful (nodes_of c.close-asked.result) c.as_slice.result.now c.append.new.history c.perform.new.history c.args.waiter nodes acts past noted_answers c.requires.waiting c.requires.wait in
     record {
-      ties = same_ties s.cluster s.corpus.now s.script.now _ _ _ _ _ _ _ happened tables c.in_ok-perform.ensures.sent answered;
+      ties = same_ties s.cluster s.corpus.now s.script.now _ _ _ _ _ _ _ happened tables sent answered;
       cancels = same_cancels s.cluster _ _ _ _ _ _ _ _ _ happened tables cores (answers_noted s.cluster t h _ _ _ _ _ c.requires.lawful noted);
       awaits = subst AwaitsNoMark (sym happened) (answers_await s.cluster t h tt);
-    }
+    })) c.perform.ensures.answered c.perform.ensures.sent
