@@ -41,8 +41,8 @@ take_reply-requires-clause-takes c =
 pub returns-clause-delivered : goal.returns-clause-delivered
 returns-clause-delivered c =
     let s = c.args.state.now in
-    then_ok c.append.result _ _ (λ happened. rw (happened, c.ask.ensures)
-    (delivers s.cluster s.corpus.now s.script.now s.history _ _ _ c.requires.tied.ties c.args.nth c.take_answer-receipt.result.0 c.take_answer-receipt.result.1 c.take_answer-receipt.ensures.taken c.in-Some.parent (sym c.parent.ensures ∙ c.in-Some.is) c.in_ok-reply.reply c.in_ok-reply.ensures.reply)) c.append.ensures.ok
+    then_ok c.append.result _ _ c.append.ensures.ok (λ happened. rw (happened, c.ask.ensures)
+    (delivers s.cluster s.corpus.now s.script.now s.history _ _ _ c.requires.tied.ties c.args.nth c.take_answer-receipt.result.0 c.take_answer-receipt.result.1 c.take_answer-receipt.ensures.taken c.in-Some.parent (sym c.parent.ensures ∙ c.in-Some.is) c.in_ok-reply.reply c.in_ok-reply.ensures.reply))
 
 pub returns-clause-tied : goal.returns-clause-tied
 returns-clause-tied c =
@@ -52,11 +52,11 @@ returns-clause-tied c =
     let changed = ((c.get_mut.follows.holds w).3 (some_of _ _ was)).0 in
     let here = at_changed c.in-Some.parent (Some w) (task_at s.tasks) _ changed ∙ ap Some c.in_ok-take_reply.ensures.taken in
     let others = off_changed c.in-Some.parent (Some w) (task_at s.tasks) _ changed in
-    then_ok c.append.result _ _ (λ happened. rw (happened, c.ask.ensures, c.take_answer-receipt.ensures.rest) (record {
+    then_ok c.append.result _ _ c.append.ensures.ok (λ happened. rw (happened, c.ask.ensures, c.take_answer-receipt.ensures.rest) (record {
       ties = after_answer s.cluster s.corpus.now s.script.now s.history _ _ _ c.requires.tied.ties c.args.nth c.take_answer-receipt.result.0 c.take_answer-receipt.result.1 c.take_answer-receipt.ensures.taken c.in-Some.parent (sym c.parent.ensures ∙ c.in-Some.is) c.in_ok-reply.reply c.in_ok-reply.ensures.reply c.in-Some-get_mut.running.now was c.requires.tied.awaits _ here others;
       cancels = noted s.cluster (λ t. waiting_for t s.history) s.history _ _ _ _ _ c.requires.tied.cancels (Answered c.in-Some.parent c.take_answer-receipt.result.0.ask) refl refl;
       awaits = tt;
-    })) c.append.ensures.ok
+    }))
 
 pub returns-clause-room : goal.returns-clause-room
 returns-clause-room c = c.append.ensures.room

@@ -41,7 +41,7 @@ returns-clause-happened c =
     let planned : PlansToAsk (Some r) c.args.request = rw was at c.requires.planned in
     let next = number_is s.cluster s.corpus.now s.script.now s.history _ _ _ c.requires.tied.ties c.args.task c.args.request c.requires.live r was planned in
     let number : c.ask-number.result ≡ last_ask c.args.task s.history + 1 = c.ask-number.ensures ∙ ap (λ t. t.ask) c.in-Ok.ensures.token ∙ next in
-    then_ok c.append.result _ _ (λ happened. happened ∙ (λ i. Ask c.args.task (number i) (c.node_to_ask-to.ensures i) c.args.request ∷ s.history)) c.append.ensures.ok
+    then_ok c.append.result _ _ c.append.ensures.ok (λ happened. happened ∙ (λ i. Ask c.args.task (number i) (c.node_to_ask-to.ensures i) c.args.request ∷ s.history))
 
 pub returns-clause-tied : goal.returns-clause-tied
 returns-clause-tied c =
@@ -59,11 +59,11 @@ returns-clause-tied c =
     let changed = ((c.get_mut.follows.holds w).3 (some_of _ _ was)).0 in
     let here = at_changed c.args.task (Some w) (task_at s.tasks) _ changed ∙ ap Some c.in-Ok.ensures.asked in
     let others = off_changed c.args.task (Some w) (task_at s.tasks) _ changed in
-    then_ok c.append.result _ _ (λ happened. rw (happened, number, flight) (record {
+    then_ok c.append.result _ _ c.append.ensures.ok (λ happened. rw (happened, number, flight) (record {
       ties = after_ask s.cluster s.corpus.now s.script.now s.history _ _ _ c.requires.tied.ties c.args.task c.args.request c.requires.live r was planned _ c.node_to_ask-to.result c.in-Ok.token c.requires.tied.awaits c.requires.unmarked c.requires.passed c.node_to_ask-to.ensures token here others;
       cancels = noted s.cluster (λ t. waiting_for t s.history) s.history _ _ _ _ _ c.requires.tied.cancels (Ask c.args.task (last_ask c.args.task s.history + 1) c.node_to_ask-to.result c.args.request) refl refl;
       awaits = tt;
-    })) c.append.ensures.ok
+    }))
 
 pub returns-clause-room : goal.returns-clause-room
 returns-clause-room c = c.append.ensures.room

@@ -39,9 +39,9 @@ returns-clause-part c =
     let e = ack_entry s.cluster s.corpus.now s.script.now s.history _ _ s.flight c.requires.tied.ties c.requires.tied.awaits c.args.nth c.args.parent c.args.node c.requires.there s.cores.items c.requires.tied.cancels.cores_are c.index_mut.result.now (on.1 ∙ ap Some (sym is)) in
     let entry = ap (λ o. unwrap_or o (opened 0 [])) e.1 in
     let acts = c.as_slice.ensures.value ∙ c.in-Ok.ensures.acts ∙ ap (λ k. due_acts c.args.parent (with_ack k c.args.node)) entry in
-    then_err c.perform.result _ _ (λ performed.
+    then_err c.perform.result _ _ c.perform.ensures.part (λ performed.
     partly_ack s.cluster s.corpus.now s.script.now s.history _ _ s.flight c.requires.tied.ties c.requires.tied.awaits c.args.nth c.args.parent c.args.node c.requires.there e.0 e.2 c.requires.tied.cancels.one_task
-    c.append.new.history c.perform.new.history _ c.in_ok-append.ensures.ok acts performed) c.perform.ensures.part
+    c.append.new.history c.perform.new.history _ c.in_ok-append.ensures.ok acts performed)
 
 pub returns-clause-laws : goal.returns-clause-laws
 returns-clause-laws c =
@@ -51,9 +51,9 @@ returns-clause-laws c =
     let e = ack_entry s.cluster s.corpus.now s.script.now s.history _ _ s.flight c.requires.tied.ties c.requires.tied.awaits c.args.nth c.args.parent c.args.node c.requires.there s.cores.items c.requires.tied.cancels.cores_are c.index_mut.result.now (on.1 ∙ ap Some (sym is)) in
     let entry = ap (λ o. unwrap_or o (opened 0 [])) e.1 in
     let acts = c.as_slice.ensures.value ∙ c.in-Ok.ensures.acts ∙ ap (λ k. due_acts c.args.parent (with_ack k c.args.node)) entry in
-    then_err c.perform.result _ _ (λ performed. (let laws = part_laws s.cluster s.corpus.now s.script.now s.history _ _ s.flight c.requires.tied.ties c.requires.tied.awaits c.args.nth c.args.parent c.args.node c.requires.there e.0 e.2 c.requires.tied.cancels.one_task
+    then_err c.perform.result _ _ c.perform.ensures.part (λ performed. (let laws = part_laws s.cluster s.corpus.now s.script.now s.history _ _ s.flight c.requires.tied.ties c.requires.tied.awaits c.args.nth c.args.parent c.args.node c.requires.there e.0 e.2 c.requires.tied.cancels.one_task
     c.append.new.history c.perform.new.history _ c.in_ok-append.ensures.ok acts performed in
-    record { lawful = laws.0; plain = laws.1 })) c.perform.ensures.part
+    record { lawful = laws.0; plain = laws.1 }))
 
 pub returns-clause-delivered : goal.returns-clause-delivered
 returns-clause-delivered c =
@@ -63,10 +63,10 @@ returns-clause-delivered c =
     let e = ack_entry s.cluster s.corpus.now s.script.now s.history _ _ s.flight c.requires.tied.ties c.requires.tied.awaits c.args.nth c.args.parent c.args.node c.requires.there s.cores.items c.requires.tied.cancels.cores_are c.index_mut.result.now (on.1 ∙ ap Some (sym is)) in
     let entry = ap (λ o. unwrap_or o (opened 0 [])) e.1 in
     let acts = c.as_slice.ensures.value ∙ c.in-Ok.ensures.acts ∙ ap (λ k. due_acts c.args.parent (with_ack k c.args.node)) entry in
-    then_ok c.perform.result _ _ (λ answered. (let happened = ack_happened s.cluster s.corpus.now s.script.now s.history _ _ s.flight c.requires.tied.ties c.requires.tied.awaits c.args.nth c.args.parent c.args.node c.requires.there e.0 e.2 c.requires.tied.cancels.one_task
+    then_ok c.perform.result _ _ c.perform.ensures.answered (λ answered. (let happened = ack_happened s.cluster s.corpus.now s.script.now s.history _ _ s.flight c.requires.tied.ties c.requires.tied.awaits c.args.nth c.args.parent c.args.node c.requires.there e.0 e.2 c.requires.tied.cancels.one_task
     c.append.new.history c.perform.new.history _ c.in_ok-append.ensures.ok acts answered in
     subst (λ h. Delivers s.cluster s.history c.args.nth h) (sym happened)
-    (delivers_ack s.cluster s.corpus.now s.script.now s.history _ _ s.flight c.requires.tied.ties c.requires.tied.awaits c.args.nth c.args.parent c.args.node c.requires.there e.0 e.2 c.requires.tied.cancels.one_task))) c.perform.ensures.answered
+    (delivers_ack s.cluster s.corpus.now s.script.now s.history _ _ s.flight c.requires.tied.ties c.requires.tied.awaits c.args.nth c.args.parent c.args.node c.requires.there e.0 e.2 c.requires.tied.cancels.one_task)))
 
 pub returns-clause-tied : goal.returns-clause-tied
 returns-clause-tied c =
@@ -82,7 +82,7 @@ returns-clause-tied c =
     let acts = c.as_slice.ensures.value ∙ c.in-Ok.ensures.acts ∙ ap (λ k. due_acts p (with_ack k n)) entry in
     let rest = rw (c.take-ack.ensures.taken ∙ c.requires.there) at c.take-ack.ensures.rest in
     let core = c.in-Ok.ensures.acked ∙ ap (λ k. with_entry c.index_mut.result.now p (rest_of (with_ack k n))) entry in
-    both_ok c.perform.result _ _ _ (λ answered queued. (let happened = ack_happened s.cluster s.corpus.now s.script.now s.history _ _ s.flight c.requires.tied.ties c.requires.tied.awaits c.args.nth c.args.parent c.args.node c.requires.there e.0 e.2 c.requires.tied.cancels.one_task
+    both_ok c.perform.result _ _ _ c.perform.ensures.answered c.perform.ensures.sent (λ answered queued. (let happened = ack_happened s.cluster s.corpus.now s.script.now s.history _ _ s.flight c.requires.tied.ties c.requires.tied.awaits c.args.nth c.args.parent c.args.node c.requires.there e.0 e.2 c.requires.tied.cancels.one_task
     c.append.new.history c.perform.new.history _ c.in_ok-append.ensures.ok acts answered in
     let sent = queued ∙ ap (λ queue. queue ++ messages_in p.node c.as_slice.result.now) rest ∙ ap (λ xs. remove s.flight c.args.nth ++ messages_in p.node xs) acts in
     record {
@@ -90,4 +90,4 @@ returns-clause-tied c =
       cancels = rw (happened, core) (noted_after s.cluster s.corpus.now s.script.now s.history _ _ s.flight c.requires.tied.ties c.requires.tied.awaits c.args.nth c.args.parent c.args.node c.requires.there e.0 e.2 c.requires.tied.cancels.one_task
           _ _ s.cores.items _ c.requires.tied.cancels high c.index_mut.result.now here);
       awaits = rw happened (answers_await s.cluster p (Acked p n ∷ s.history) tt);
-    })) c.perform.ensures.answered c.perform.ensures.sent
+    }))

@@ -40,7 +40,7 @@ pub returns-clause-delivered : goal.returns-clause-delivered
 returns-clause-delivered c =
     let s = c.args.state.now in
     let here = ban_here s.cluster s.corpus.now s.script.now s.history _ _ s.flight c.requires.tied.ties c.args.nth c.args.parent c.args.cancel c.args.node c.requires.there in
-    then_ok c.append.result _ _ (λ happened. (Ban c.args.parent c.args.cancel c.args.node, BanPut c.args.node c.args.parent c.args.cancel, here, (refl, refl, refl), happened)) c.append.ensures.ok
+    then_ok c.append.result _ _ c.append.ensures.ok (λ happened. (Ban c.args.parent c.args.cancel c.args.node, BanPut c.args.node c.args.parent c.args.cancel, here, (refl, refl, refl), happened))
 
 pub returns-clause-tied : goal.returns-clause-tied
 returns-clause-tied c =
@@ -51,8 +51,8 @@ returns-clause-tied c =
     let here = on.1 ∙ ap Some (sym is) in
     let put = c.put.ensures.put (c.in-Ok-Put.is ∙ ap Ok c.in-Ok-Put.field-0-is) in
     let rest = rw (c.take-ban.ensures.taken ∙ c.requires.there) at c.take-ban.ensures.rest in
-    then_ok c.append.result _ _ (λ happened. record {
+    then_ok c.append.result _ _ c.append.ensures.ok (λ happened. record {
       ties = rw (happened, rest) (tied_put s.cluster s.corpus.now s.script.now s.history _ _ s.flight c.requires.tied.ties c.requires.tied.awaits c.args.nth c.args.parent c.args.cancel c.args.node c.requires.there);
       cancels = rw (happened, put) (noted_put s.cluster s.history _ _ s.bans.items _ _ c.requires.tied.cancels c.args.node node.0 node.1 c.args.parent c.index_mut.result.now here c.args.cancel c.insert.new.self c.in-Ok.ensures.updates.0);
       awaits = rw happened tt;
-    }) c.append.ensures.ok
+    })

@@ -23,7 +23,7 @@ pub returns-clause-delivered : goal.returns-clause-delivered
 returns-clause-delivered c =
     let s = c.args.state.now in
     let here = unban_here s.cluster s.corpus.now s.script.now s.history _ _ s.flight c.requires.tied.ties c.args.nth c.args.parent c.args.node c.requires.there in
-    then_ok c.append.result _ _ (λ happened. (Unban c.args.parent c.args.node, BanGone c.args.node c.args.parent, here, (refl, refl), happened)) c.append.ensures.ok
+    then_ok c.append.result _ _ c.append.ensures.ok (λ happened. (Unban c.args.parent c.args.node, BanGone c.args.node c.args.parent, here, (refl, refl), happened))
 
 pub returns-clause-tied : goal.returns-clause-tied
 returns-clause-tied c =
@@ -33,8 +33,8 @@ returns-clause-tied c =
     let is = c.index_mut.ensures.value ∙ get_or_from_slice_get s.bans.items _ on.0 _ on.1 in
     let here = on.1 ∙ ap Some (sym is) in
     let rest = rw (c.take-unban.ensures.taken ∙ c.requires.there) at c.take-unban.ensures.rest in
-    then_ok c.append.result _ _ (λ happened. record {
+    then_ok c.append.result _ _ c.append.ensures.ok (λ happened. record {
       ties = rw (happened, rest) (tied_gone s.cluster s.corpus.now s.script.now s.history _ _ s.flight c.requires.tied.ties c.requires.tied.awaits c.args.nth c.args.parent c.args.node c.requires.there);
       cancels = rw (happened, c.remove-stood.ensures.removed) (noted_gone s.cluster s.history _ _ s.bans.items _ _ c.requires.tied.cancels c.args.node node.0 node.1 c.args.parent c.index_mut.result.now here);
       awaits = rw happened tt;
-    }) c.append.ensures.ok
+    })

@@ -56,7 +56,7 @@ returns-clause-tied c =
     let its = table_is s.cluster s.corpus.now s.script.now s.history _ _ _ c.requires.tied.ties c.args.task c.requires.live c.index_mut.result.now c.index_mut.ensures.value in
     let changed = c.remove.ensures.updates.0 in
     let row = c.end_in-receipt.ensures.row ∙ ap (λ id. without_task c.index_mut.result.now id.number) (runs s.cluster s.corpus.now s.script.now s.history _ _ _ c.requires.tied.ties c.args.task c.requires.live r was).id in
-    then_ok c.append.result _ _ (λ happened. record {
+    then_ok c.append.result _ _ c.append.ensures.ok (λ happened. record {
       ties =
           same_ties s.cluster s.corpus.now s.script.now _ _ _ _ _ _ _ happened (ap (slice_set s.tables.items (c.args.task.node - 1)) row)
           (c.in-Ok.ensures.ok ∙ ap (λ at. s.flight ++ told_parent c.end_in-receipt.result at) c.len-at.ensures)
@@ -66,4 +66,4 @@ returns-clause-tied c =
           rw (happened, row) (noted_unmarked c.args.task s.history (End c.args.task c.args.reply) refl c.requires.unmarked s.cluster s.tables.items _ s.bans.items s.cores.items s.listings
           c.index_mut.result.now its c.requires.tied.cancels);
       awaits = rw happened tt;
-    }) c.append.ensures.ok
+    })

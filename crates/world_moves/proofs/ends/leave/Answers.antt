@@ -134,9 +134,9 @@ returns-clause-part c =
     let core = c.index_mut-core.result.now in
     let known = known_there s.cluster s.history s.tables.items _ s.bans.items s.cores.items s.listings c.requires.tied.cancels c.requires.tied.ties.lawful c.args.task live core c.index_mut-core.ensures.value
     (sym c.has.ensures ∙ c.if-not-has.false) in
-    then_err c.perform.result _ _ (λ performed. (let part = part_then c.args.task c.args.event s.history (leaves_so c.args.task s.history c.args.event c.requires.leaves) (entry_of core c.args.task) c.end_in-receipt.result known c.as_slice.result.now
+    then_err c.perform.result _ _ c.perform.ensures.part (λ performed. (let part = part_then c.args.task c.args.event s.history (leaves_so c.args.task s.history c.args.event c.requires.leaves) (entry_of core c.args.task) c.end_in-receipt.result known c.as_slice.result.now
     (c.as_slice.ensures.value ∙ c.in-Ok-ended.ensures.acts) c.append.new.history c.perform.new.history c.in_ok-append.ensures.ok performed in
-    later_part c.args.event s.history c.perform.new.history _ part)) c.perform.ensures.part
+    later_part c.args.event s.history c.perform.new.history _ part))
 
 pub returns-clause-laws : goal.returns-clause-laws
 returns-clause-laws c =
@@ -148,7 +148,7 @@ returns-clause-laws c =
     let leaves = leaves_so c.args.task s.history e m in
     let known = known_there s.cluster s.history s.tables.items _ s.bans.items s.cores.items s.listings c.requires.tied.cancels c.requires.tied.ties.lawful c.args.task live core c.index_mut-core.ensures.value
     (sym c.has.ensures ∙ c.if-not-has.false) in
-    then_err c.perform.result _ _ (λ performed. (let part = part_then c.args.task e s.history leaves (entry_of core c.args.task) c.end_in-receipt.result known c.as_slice.result.now
+    then_err c.perform.result _ _ c.perform.ensures.part (λ performed. (let part = part_then c.args.task e s.history leaves (entry_of core c.args.task) c.end_in-receipt.result known c.as_slice.result.now
     (c.as_slice.ensures.value ∙ c.in-Ok-ended.ensures.acts) c.append.new.history c.perform.new.history c.in_ok-append.ensures.ok performed in
     record {
       lawful = part_lawful s.cluster s.corpus.now s.script.now (e ∷ s.history) c.perform.new.history _ part
@@ -156,7 +156,7 @@ returns-clause-laws c =
           (one_task_left c.args.task s.history e leaves c.requires.tied.cancels.one_task));
       plain = part_plain s.cluster s.corpus.now s.script.now (e ∷ s.history) c.perform.new.history _ part
           (answers_plain s.cluster s.corpus.now s.script.now c.args.task (e ∷ s.history) (left_plain c.args.task s.history s.cluster s.corpus.now s.script.now e m c.requires.tied.ties.plain));
-    })) c.perform.ensures.part
+    }))
 
 pub returns-clause-happened : goal.returns-clause-happened
 returns-clause-happened c =
@@ -165,9 +165,9 @@ returns-clause-happened c =
     let core = c.index_mut-core.result.now in
     let known = known_there s.cluster s.history s.tables.items _ s.bans.items s.cores.items s.listings c.requires.tied.cancels c.requires.tied.ties.lawful c.args.task live core c.index_mut-core.ensures.value
     (sym c.has.ensures ∙ c.if-not-has.false) in
-    then_ok c.perform.result _ _ (λ answered. answered ∙ ap (λ past. answers_in c.as_slice.result.now ++ past) c.in_ok-append.ensures.ok
+    then_ok c.perform.result _ _ c.perform.ensures.answered (λ answered. answered ∙ ap (λ past. answers_in c.as_slice.result.now ++ past) c.in_ok-append.ensures.ok
     ∙ answered_then c.args.task c.args.event s.history (leaves_so c.args.task s.history c.args.event c.requires.leaves) (entry_of core c.args.task) c.end_in-receipt.result known c.as_slice.result.now
-    (c.as_slice.ensures.value ∙ c.in-Ok-ended.ensures.acts)) c.perform.ensures.answered
+    (c.as_slice.ensures.value ∙ c.in-Ok-ended.ensures.acts))
 
 pub returns-clause-tied : goal.returns-clause-tied
 returns-clause-tied c =
@@ -190,7 +190,7 @@ returns-clause-tied c =
     let row = c.end_in-receipt.ensures.row ∙ ap (λ id. without_task c.index_mut.result.now id.number) (runs s.cluster s.corpus.now s.script.now s.history _ _ _ c.requires.tied.ties c.args.task live r was).id in
     let sent = sent_then c.args.task e s.history leaves (entry_of core c.args.task) receipt known acts (c.as_slice.ensures.value ∙ c.in-Ok-ended.ensures.acts) c.args.task.node in
     let one = one_task_left c.args.task s.history e leaves c.requires.tied.cancels.one_task in
-    both_ok c.perform.result _ _ _ (λ happened queued. record {
+    both_ok c.perform.result _ _ _ (returns-clause-happened c) c.perform.ensures.sent (λ happened queued. record {
       ties =
           same_ties s.cluster s.corpus.now s.script.now _ _ _ _ _ _ _ happened (ap (slice_set s.tables.items (c.args.task.node - 1)) row)
           (queued ∙ ap (λ queue. queue ++ messages_in c.args.task.node acts) (c.in-Ok.ensures.ok ∙ ap (λ at. s.flight ++ told_parent receipt at) c.len-at.ensures))
@@ -202,4 +202,4 @@ returns-clause-tied c =
           (answers_noted s.cluster c.args.task (e ∷ s.history) _ _ _ _ _ (left_lawful c.args.task s.history s.cluster c.requires.tied.ties.lawful c.requires.tied.awaits e m)
           (noted_ended c.args.task s.history e leaves s.cluster s.tables.items _ s.bans.items s.cores.items s.listings c.index_mut.result.now core (entry_of core c.args.task) receipt its at_core known c.requires.tied.cancels));
       awaits = rw happened (answers_await s.cluster c.args.task (e ∷ s.history) awaits);
-    }) (returns-clause-happened c) c.perform.ensures.sent
+    })

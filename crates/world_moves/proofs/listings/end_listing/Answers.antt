@@ -38,8 +38,8 @@ returns-clause-tied c =
     let parent : c.in-SendAck.parent ≡ p = cc in
     let flight = c.in_ok-send.ensures.ok ∙ ap (λ q. s.flight ++ Notice (Ack q n) ∷ []) parent in
     let cores = ap (slice_set s.cores.items (n - 1)) c.ban_listed-act.ensures.same in
-    then_ok c.append.result _ _ (λ listed. (let happened = listed ∙ ap (λ q. Listed n q ∷ s.history) parent in record {
+    then_ok c.append.result _ _ c.append.ensures.ok (λ listed. (let happened = listed ∙ ap (λ q. Listed n q ∷ s.history) parent in record {
       ties = same_ties s.cluster s.corpus.now s.script.now _ _ _ _ _ _ _ happened refl flight (after_listed s.cluster s.history n p s.corpus.now s.script.now _ _ s.flight c.requires.tied.ties c.requires.tied.awaits c.requires.opened c.requires.marked);
       cancels = same_cancels s.cluster _ _ _ _ _ _ _ _ _ happened refl cores (cancels_after_listed s.cluster s.history n p _ _ s.bans.items s.cores.items s.listings c.index_mut.result.now _ c.requires.tied.cancels here c.remove-was_open.ensures.updates.0);
       awaits = rw happened tt;
-    })) c.append.ensures.ok
+    }))

@@ -83,9 +83,9 @@ returns-clause-part c =
     let past = c.in_ok-append.ensures.ok in
     let acts = c.as_slice.ensures.value ∙ c.in-Ok.ensures.acts in
     let whole = mark_happened s.cluster t c.args.cancel s.history c.requires.lawful (nodes_of c.close-asked.result) c.as_slice.result.now c.append.new.history _ c.args.waiter nodes acts past refl c.requires.waiting c.requires.wait in
-    then_err c.perform.result _ _ (λ performed. (let part = subst (λ w. IsPartOf c.append.new.history c.perform.new.history w) whole performed in
+    then_err c.perform.result _ _ c.perform.ensures.part (λ performed. (let part = subst (λ w. IsPartOf c.append.new.history c.perform.new.history w) whole performed in
     let first = subst (λ p. IsPartOf p c.perform.new.history (with_answers t (Mark t c.args.cancel ∷ s.history))) past part in
-    later_part (Mark t c.args.cancel) s.history _ _ first)) c.perform.ensures.part
+    later_part (Mark t c.args.cancel) s.history _ _ first))
 
 pub returns-clause-laws : goal.returns-clause-laws
 returns-clause-laws c =
@@ -113,12 +113,12 @@ returns-clause-laws c =
     let ties = after_mark s.cluster t c.args.cancel s.history c.requires.lawful s.corpus.now s.script.now (task_at s.tasks) _ s.tables.items c.index_mut.result.now s.flight (messages_in t.node c.as_slice.result.now) r
     c.requires.ties was here others row queue c.requires.number in
     let answered = answers_tied s.cluster t h s.corpus.now s.script.now _ _ _ ties tt c.requires.cancels.one_task in
-    then_err c.perform.result _ _ (λ performed. (let part = subst (λ w. IsPartOf c.append.new.history c.perform.new.history w) whole performed in
+    then_err c.perform.result _ _ c.perform.ensures.part (λ performed. (let part = subst (λ w. IsPartOf c.append.new.history c.perform.new.history w) whole performed in
     let first = subst (λ p. IsPartOf p c.perform.new.history (with_answers t (Mark t c.args.cancel ∷ s.history))) past part in
     record {
       lawful = part_lawful s.cluster s.corpus.now s.script.now h _ _ first answered.lawful;
       plain = part_plain s.cluster s.corpus.now s.script.now h _ _ first answered.plain;
-    })) c.perform.ensures.part
+    }))
 
 pub returns-clause-happened : goal.returns-clause-happened
 returns-clause-happened c =
@@ -130,7 +130,7 @@ returns-clause-happened c =
     let nodes = asked_nodes s.cluster t s.history c.requires.ties.lawful c.close-asked.result r.track c.close-asked.ensures.nodes (ap (λ track. track.asks) track) in
     let past = c.in_ok-append.ensures.ok in
     let acts = c.as_slice.ensures.value ∙ c.in-Ok.ensures.acts in
-    then_ok c.perform.result _ _ (λ answered. mark_happened s.cluster t c.args.cancel s.history c.requires.lawful (nodes_of c.close-asked.result) c.as_slice.result.now c.append.new.history c.perform.new.history c.args.waiter nodes acts past answered c.requires.waiting c.requires.wait) c.perform.ensures.answered
+    then_ok c.perform.result _ _ c.perform.ensures.answered (λ answered. mark_happened s.cluster t c.args.cancel s.history c.requires.lawful (nodes_of c.close-asked.result) c.as_slice.result.now c.append.new.history c.perform.new.history c.args.waiter nodes acts past answered c.requires.waiting c.requires.wait)
 
 pub returns-clause-tied : goal.returns-clause-tied
 returns-clause-tied c =
@@ -167,9 +167,9 @@ returns-clause-tied c =
     let cores = ap (slice_set s.cores.items (t.node - 1)) (c.in-Ok.ensures.begun ∙ ap (λ ns. with_entry c.index_mut-2.result.now t (Some (begun c.args.cancel ns c.args.waiter))) nodes) in
     let noted = cancels_after_mark s.cluster t c.args.cancel s.history c.requires.lawful s.tables.items c.index_mut.result.now _ s.bans.items s.cores.items c.index_mut-2.result.now s.listings c.args.waiter
     c.requires.cancels c.requires.ties.listed row its_core c.requires.waiting c.requires.wait in
-    both_ok c.perform.result _ _ _ (λ noted_answers sent. (let happened = mark_happened s.cluster t c.args.cancel s.history c.requires.lawful (nodes_of c.close-asked.result) c.as_slice.result.now c.append.new.history c.perform.new.history c.args.waiter nodes acts past noted_answers c.requires.waiting c.requires.wait in
+    both_ok c.perform.result _ _ _ c.perform.ensures.answered c.perform.ensures.sent (λ noted_answers sent. (let happened = mark_happened s.cluster t c.args.cancel s.history c.requires.lawful (nodes_of c.close-asked.result) c.as_slice.result.now c.append.new.history c.perform.new.history c.args.waiter nodes acts past noted_answers c.requires.waiting c.requires.wait in
     record {
       ties = same_ties s.cluster s.corpus.now s.script.now _ _ _ _ _ _ _ happened tables sent answered;
       cancels = same_cancels s.cluster _ _ _ _ _ _ _ _ _ happened tables cores (answers_noted s.cluster t h _ _ _ _ _ c.requires.lawful noted);
       awaits = subst AwaitsNoMark (sym happened) (answers_await s.cluster t h tt);
-    })) c.perform.ensures.answered c.perform.ensures.sent
+    }))

@@ -55,9 +55,9 @@ returns-in_ok-running-in-Ok-clause-delivered c =
     let a = arrives s.cluster s.corpus.now s.script.now s.history _ _ s.flight c.requires.tied.ties c.args.nth _ _ _ c.take_request-token.ensures.taken in
     let t = c.in-Ok.ticket.id in
     let put : IsPutOn s.tables.items c.take_request-token.result.1 t c.new_task-child.result c.put_on.new.tables.items = record { id = c.in-Ok.ensures.id; row = c.in-Ok.ensures.row; free = c.in-Ok.ensures.free } in
-    then_ok c.keep.result _ _ (λ kept. (let happened : c.keep.new.history ≡ Put t token.parent token.ask ∷ s.history = cc (kept, c.id-task.ensures, c.parent-parent.ensures, c.ask-ask.ensures) in
+    then_ok c.keep.result _ _ c.keep.ensures.happened (λ kept. (let happened : c.keep.new.history ≡ Put t token.parent token.ask ∷ s.history = cc (kept, c.id-task.ensures, c.parent-parent.ensures, c.ask-ask.ensures) in
     subst (λ h. Delivers s.cluster s.history c.args.nth h) (sym happened)
-    (delivers_put s.cluster s.corpus.now s.script.now s.history (task_at s.tasks) s.tables.items s.flight c.requires.tied.ties c.requires.tied.awaits c.args.nth token c.take_request-token.result.1 _ a t _ _ put))) c.keep.ensures.happened
+    (delivers_put s.cluster s.corpus.now s.script.now s.history (task_at s.tasks) s.tables.items s.flight c.requires.tied.ties c.requires.tied.awaits c.args.nth token c.take_request-token.result.1 _ a t _ _ put)))
 
 pub returns-in_ok-running-in-Ok-clause-tied : goal.returns-in_ok-running-in-Ok-clause-tied
 returns-in_ok-running-in-Ok-clause-tied c =
@@ -70,7 +70,7 @@ returns-in_ok-running-in-Ok-clause-tied c =
     let asked : c.request_at-request.result.now ≡ a.asked = cc (c.request_at-request.ensures, a.stands) in
     let is : running ≡ first t (Some token) true a.asked s.cluster.shards = c.in_ok-running-in-Ok.ensures.running
     ∙ ap (λ (o : Option Token). first t o true c.request_at-request.result.now s.cluster.shards) c.in-Ok.ensures.token ∙ ap (λ (r : Request). first t (Some token) true r s.cluster.shards) asked in
-    both_ok c.keep.result _ _ _ (λ event kept. (let happened : c.keep.new.history ≡ Put t token.parent token.ask ∷ s.history = cc (event, c.id-task.ensures, c.parent-parent.ensures, c.ask-ask.ensures) in
+    both_ok c.keep.result _ _ _ c.keep.ensures.happened c.keep.ensures.kept (λ event kept. (let happened : c.keep.new.history ≡ Put t token.parent token.ask ∷ s.history = cc (event, c.id-task.ensures, c.parent-parent.ensures, c.ask-ask.ensures) in
     let changed = subst (λ (k : TaskId). (q : TaskId) → task_at c.keep.new.tasks q ≡ cond (is_at (task_id_cmp k) q) (Some running) (task_at s.tasks q)) (ap (λ (r : Running). r.ticket.id) is) kept in
     record {
       ties = same_ties s.cluster s.corpus.now s.script.now (task_at c.keep.new.tasks) _ _ _ _ _ _ happened refl c.take_request-token.ensures.rest
@@ -79,7 +79,7 @@ returns-in_ok-running-in-Ok-clause-tied c =
       cancels = same_cancels s.cluster _ _ _ _ _ _ _ _ happened refl
           (noted_put s.cluster s.history s.tables.items c.requires.tied.ties.listed c.take_request-token.result.1 a.low a.high t _ _ put c.requires.tied.ties.lawful (λ t. waiting_for t s.history) _ _ _ _ c.requires.tied.cancels token.parent token.ask (c.new_task-child.ensures.parent ∙ ap Some c.parent-parent.ensures));
       awaits = subst AwaitsNoMark (sym happened) tt;
-    })) c.keep.ensures.happened c.keep.ensures.kept
+    }))
 
 pub returns-in-Some-clause-delivered : goal.returns-in-Some-clause-delivered
 returns-in-Some-clause-delivered c =
@@ -90,9 +90,9 @@ returns-in-Some-clause-delivered c =
     let back = ap refused_token (sym c.in-Err-Full.field-0-is) ∙ c.in-Err-Full.ensures.given_back in
     let same : c.in-Some.token ≡ token = cc (back, c.in-Some.is) in
     let full = no_slot s.cluster s.history s.tables.items c.requires.tied.ties.listed to a.low a.high c.requires.tied.ties.lawful (λ table e. c.in-Err-Full.ensures.full table e (ap Err (c.in-Err-Full.field-0-is ∙ ap Full back))) in
-    then_ok c.reject.result _ _ (λ rejects. (let happened : c.reject.new.history ≡ Reject to token.parent token.ask ∷ s.history = cc (rejects, same) in
+    then_ok c.reject.result _ _ c.reject.ensures.happened (λ rejects. (let happened : c.reject.new.history ≡ Reject to token.parent token.ask ∷ s.history = cc (rejects, same) in
     subst (λ h. Delivers s.cluster s.history c.args.nth h) (sym happened)
-    (delivers_reject s.cluster s.corpus.now s.script.now s.history (task_at s.tasks) s.tables.items s.flight c.requires.tied.ties c.requires.tied.awaits c.args.nth token to _ a full))) c.reject.ensures.happened
+    (delivers_reject s.cluster s.corpus.now s.script.now s.history (task_at s.tasks) s.tables.items s.flight c.requires.tied.ties c.requires.tied.awaits c.args.nth token to _ a full)))
 
 pub returns-in-Some-clause-tied : goal.returns-in-Some-clause-tied
 returns-in-Some-clause-tied c =
@@ -103,7 +103,7 @@ returns-in-Some-clause-tied c =
     let back = ap refused_token (sym c.in-Err-Full.field-0-is) ∙ c.in-Err-Full.ensures.given_back in
     let same : c.in-Some.token ≡ token = cc (back, c.in-Some.is) in
     let full = no_slot s.cluster s.history s.tables.items c.requires.tied.ties.listed to a.low a.high c.requires.tied.ties.lawful (λ table e. c.in-Err-Full.ensures.full table e (ap Err (c.in-Err-Full.field-0-is ∙ ap Full back))) in
-    both_ok c.reject.result _ _ _ (λ rejects sends. (let happened : c.reject.new.history ≡ Reject to token.parent token.ask ∷ s.history = cc (rejects, same) in
+    both_ok c.reject.result _ _ _ c.reject.ensures.happened c.reject.ensures.answered (λ rejects sends. (let happened : c.reject.new.history ≡ Reject to token.parent token.ask ∷ s.history = cc (rejects, same) in
     let answered = sends ∙ ap (λ (queue : List Sent). queue ++ rejected c.in-Some.token (length s.history) ∷ []) c.take_request-token.ensures.rest
     ∙ ap (λ (k : Token). remove s.flight c.args.nth ++ rejected k (length s.history) ∷ []) same in
     record {
@@ -111,7 +111,7 @@ returns-in-Some-clause-tied c =
           (after_reject s.cluster s.corpus.now s.script.now s.history (task_at s.tasks) s.tables.items s.flight c.requires.tied.ties c.requires.tied.awaits c.args.nth token to _ a full);
       cancels = same_cancels s.cluster _ _ _ _ _ _ _ _ happened c.in-Err-Full.ensures.err (noted s.cluster (λ t. waiting_for t s.history) s.history _ _ _ _ _ c.requires.tied.cancels (Reject to token.parent token.ask) refl refl);
       awaits = subst AwaitsNoMark (sym happened) tt;
-    })) c.reject.ensures.happened c.reject.ensures.answered
+    }))
 
 pub returns-in-Err-NumbersSpent-clause-spent : goal.returns-in-Err-NumbersSpent-clause-spent
 returns-in-Err-NumbersSpent-clause-spent c = λ _.
