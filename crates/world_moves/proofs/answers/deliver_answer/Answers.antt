@@ -1,11 +1,14 @@
-use Rattle.std.proofs.Common.{◌∙◌, Some, refl, sym, ap}
+use Rattle.std.proofs.Common.{◌∙◌, ◌∷◌, Some, refl, sym, ap, subst}
 use Rattle.std.specs.Option.{option_copied_mut}
 use Rattle.task_events.specs.declared.event.Event.TheVariants.{Answered}
+use Rattle.task_events.specs.Lawful.{AwaitsNoMark}
 use Rattle.world_moves.specs.Cancels.{waiting_for}
+use Rattle.world_moves.specs.Moves.{Delivers}
 use Rattle.world_moves.specs.Ties.{task_at}
 use Rattle.world_moves.proofs.Kept.{some_of, at_changed, off_changed}
 use Rattle.world_moves.proofs.StepsAfter.{is_kept}
 use Rattle.world_moves.proofs.AnswersAfter.{has_parent, has_reply, asker_live, own, takes_reply, delivers, after_answer}
+use Rattle.world_moves.proofs.SameTies.{same_ties, same_cancels}
 use Rattle.world_moves.proofs.Uninvolved.{noted}
 use Rattle.world_moves.proofs.Outcomes.{then_ok}
 use Rattle.world_moves.proofs.answers.deliver_answer.Goals as goal
@@ -41,7 +44,8 @@ take_reply-requires-clause-takes c =
 pub returns-clause-delivered : goal.returns-clause-delivered
 returns-clause-delivered c =
     let s = c.args.state.now in
-    then_ok c.append.result _ _ c.append.ensures.ok (λ happened. rw (happened, c.ask.ensures)
+    then_ok c.append.result _ _ c.append.ensures.ok (λ came.
+    subst (λ h. Delivers s.cluster s.history c.args.nth h) (sym (came ∙ ap (λ k. Answered c.in-Some.parent k ∷ s.history) c.ask.ensures))
     (delivers s.cluster s.corpus.now s.script.now s.history _ _ _ c.requires.tied.ties c.args.nth c.take_answer-receipt.result.0 c.take_answer-receipt.result.1 c.take_answer-receipt.ensures.taken c.in-Some.parent (sym c.parent.ensures ∙ c.in-Some.is) c.in_ok-reply.reply c.in_ok-reply.ensures.reply))
 
 pub returns-clause-tied : goal.returns-clause-tied
@@ -52,10 +56,12 @@ returns-clause-tied c =
     let changed = ((c.get_mut.follows.holds w).3 (some_of _ _ was)).0 in
     let here = at_changed c.in-Some.parent (Some w) (task_at s.tasks) _ changed ∙ ap Some c.in_ok-take_reply.ensures.taken in
     let others = off_changed c.in-Some.parent (Some w) (task_at s.tasks) _ changed in
-    then_ok c.append.result _ _ c.append.ensures.ok (λ happened. rw (happened, c.ask.ensures, c.take_answer-receipt.ensures.rest) (record {
-      ties = after_answer s.cluster s.corpus.now s.script.now s.history _ _ _ c.requires.tied.ties c.args.nth c.take_answer-receipt.result.0 c.take_answer-receipt.result.1 c.take_answer-receipt.ensures.taken c.in-Some.parent (sym c.parent.ensures ∙ c.in-Some.is) c.in_ok-reply.reply c.in_ok-reply.ensures.reply c.in-Some-get_mut.running.now was c.requires.tied.awaits _ here others;
-      cancels = noted s.cluster (λ t. waiting_for t s.history) s.history _ _ _ _ _ c.requires.tied.cancels (Answered c.in-Some.parent c.take_answer-receipt.result.0.ask) refl refl;
-      awaits = tt;
+    then_ok c.append.result _ _ c.append.ensures.ok (λ came. (let happened = came ∙ ap (λ k. Answered c.in-Some.parent k ∷ s.history) c.ask.ensures in record {
+      ties = same_ties s.cluster s.corpus.now s.script.now _ _ _ _ _ _ _ happened refl c.take_answer-receipt.ensures.rest
+          (after_answer s.cluster s.corpus.now s.script.now s.history _ _ _ c.requires.tied.ties c.args.nth c.take_answer-receipt.result.0 c.take_answer-receipt.result.1 c.take_answer-receipt.ensures.taken c.in-Some.parent (sym c.parent.ensures ∙ c.in-Some.is) c.in_ok-reply.reply c.in_ok-reply.ensures.reply c.in-Some-get_mut.running.now was c.requires.tied.awaits _ here others);
+      cancels = same_cancels s.cluster _ _ _ _ _ _ _ _ happened refl
+          (noted s.cluster (λ t. waiting_for t s.history) s.history _ _ _ _ _ c.requires.tied.cancels (Answered c.in-Some.parent c.take_answer-receipt.result.0.ask) refl refl);
+      awaits = subst AwaitsNoMark (sym happened) tt;
     }))
 
 pub returns-clause-room : goal.returns-clause-room

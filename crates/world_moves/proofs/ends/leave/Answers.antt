@@ -1,4 +1,4 @@
-use Rattle.std.proofs.Common.{◌∙◌, ◌∷◌, ◌++◌, ◌-◌, reverse, None, Some, ap, sym, arith}
+use Rattle.std.proofs.Common.{◌∙◌, ◌∷◌, ◌++◌, ◌-◌, reverse, None, Some, refl, ap, sym, arith}
 use Rattle.std.specs.Prelude.{slice_set}
 use Rattle.std.proofs.lemmas.Option.{slice_get_within}
 use Rattle.task_table.specs.Table.{without_task}
@@ -203,3 +203,18 @@ returns-clause-tied c =
           (noted_ended c.args.task s.history e leaves s.cluster s.tables.items _ s.bans.items s.cores.items s.listings c.index_mut.result.now core (entry_of core c.args.task) receipt its at_core known c.requires.tied.cancels));
       awaits = rw happened (answers_await s.cluster c.args.task (e ∷ s.history) awaits);
     })
+
+pub returns-clause-keeps : goal.returns-clause-keeps
+returns-clause-keeps c = record { cluster = refl; corpus = refl; shards = refl; script = refl }
+
+pub returns-then-not-has-clause-keeps : goal.returns-then-not-has-clause-keeps
+returns-then-not-has-clause-keeps c = record { cluster = refl; corpus = refl; shards = refl; script = refl }
+
+pub returns-in_default-ended-clause-keeps : goal.returns-in_default-ended-clause-keeps
+returns-in_default-ended-clause-keeps c = record { cluster = refl; corpus = refl; shards = refl; script = refl }
+
+pub returns-in_err-append-clause-keeps : goal.returns-in_err-append-clause-keeps
+returns-in_err-append-clause-keeps c = record { cluster = refl; corpus = refl; shards = refl; script = refl }
+
+pub returns-in-Err-clause-keeps : goal.returns-in-Err-clause-keeps
+returns-in-Err-clause-keeps c = record { cluster = refl; corpus = refl; shards = refl; script = refl }
