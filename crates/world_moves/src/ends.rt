@@ -143,10 +143,7 @@ pub fn refuse(state: &mut State<'_>, task: TaskId, cancel: u32) -> Result<(), St
     ensures laws { OnErr result (KeepsLaws state.new) }
     ensures stop { IfErr result (λ stop. StopsMove state.new.history stop) }
 {
-    match leave(state, task, Event::Refuse { task, cancel }) {
-        Ok(()) => Ok(()),
-        Err(stop) => Err(stop),
-    }
+    leave(state, task, Event::Refuse { task, cancel })
 }
 
 /// A marked task whose asks are all answered ends as cancelled, with the number of its mark.
@@ -168,8 +165,5 @@ pub fn finish_cancelled(state: &mut State<'_>, task: TaskId, cancel: u32) -> Res
     ensures stop { IfErr result (λ stop. StopsMove state.new.history stop) }
 {
     let reply = Reply::cancelled(task, cancel);
-    match leave(state, task, Event::End { task, reply }) {
-        Ok(()) => Ok(()),
-        Err(stop) => Err(stop),
-    }
+    leave(state, task, Event::End { task, reply })
 }

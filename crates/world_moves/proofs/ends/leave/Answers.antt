@@ -1,4 +1,4 @@
-use Rattle.std.proofs.Common.{◌∙◌, ◌∷◌, ◌++◌, ◌-◌, reverse, None, Some, refl, ap, sym, arith}
+use Rattle.std.proofs.Common.{◌∙◌, ◌∷◌, ◌++◌, ◌-◌, reverse, None, Some, refl, ap, sym, subst, arith}
 use Rattle.std.specs.Prelude.{slice_set}
 use Rattle.std.proofs.lemmas.Option.{slice_get_within}
 use Rattle.task_table.specs.Table.{without_task}
@@ -6,6 +6,8 @@ use Rattle.cancel_core.specs.Cancellations.{entry_of}
 use Rattle.world_moves.specs.Acts.{messages_in, answers_in}
 use Rattle.world_moves.specs.Cancels.{due_answers}
 use Rattle.world_moves.specs.Flights.{told_parent}
+use Rattle.task_events.specs.Lawful.{Lawful}
+use Rattle.world_moves.specs.Plain.{AnswersPlainly}
 use Rattle.world_moves.specs.Ties.{task_at}
 use Rattle.world_moves.proofs.Kept.{at_changed, off_changed}
 use Rattle.world_moves.proofs.SameTies.{same_ties}
@@ -218,3 +220,13 @@ returns-in_err-append-clause-keeps c = record { cluster = refl; corpus = refl; s
 
 pub returns-in-Err-clause-keeps : goal.returns-in-Err-clause-keeps
 returns-in-Err-clause-keeps c = record { cluster = refl; corpus = refl; shards = refl; script = refl }
+
+pub returns-in_default-ended-clause-laws : goal.returns-in_default-ended-clause-laws
+returns-in_default-ended-clause-laws c =
+    let s = c.args.state.now in
+    let e = c.args.event in
+    let m = c.requires.leaves in
+    record {
+      lawful = subst (Lawful s.cluster) (sym c.in_ok-append.ensures.ok) (left_lawful c.args.task s.history s.cluster c.requires.tied.ties.lawful c.requires.tied.awaits e m);
+      plain = subst (AnswersPlainly s.cluster s.corpus.now s.script.now) (sym c.in_ok-append.ensures.ok) (left_plain c.args.task s.history s.cluster s.corpus.now s.script.now e m c.requires.tied.ties.plain);
+    }
