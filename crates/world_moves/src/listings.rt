@@ -71,7 +71,10 @@ fn end_listing(state: &mut State<'_>, listing: Listing) -> Result<(), Stop>
         parent,
         from: listing.node,
     };
-    send(&mut state.flight, Sent::Notice(ack))?;
+    match send(&mut state.flight, Sent::Notice(ack)) {
+        Ok(()) => {}
+        Err(stop) => return Err(stop),
+    }
     append(
         &mut state.history,
         Event::Listed {

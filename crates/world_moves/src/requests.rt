@@ -60,7 +60,10 @@ fn reject(
     let ask = token.ask();
     let at = history.len();
     let receipt = token.reject();
-    send(flight, Sent::Answer { receipt, at })?;
+    match send(flight, Sent::Answer { receipt, at }) {
+        Ok(()) => {}
+        Err(stop) => return Err(stop),
+    }
     append(history, Event::Reject { node, parent, ask })
 }
 

@@ -2,7 +2,7 @@ use Rattle.std.proofs.Common.{◌≡◌, ℕ, List, [], length, ap, sym, subst, 
 use Rattle.std.specs.Option.{option_copied_mut}
 use Rattle.std.specs.Vec.{with_item}
 use Rattle.std.specs.Str.{bytes_eq}
-use Rattle.std.specs.Prelude.{Result, Ok, Err, OnOk, cond}
+use Rattle.std.specs.Prelude.{cond}
 use Rattle.world_moves.proofs.Kept.{some_of}
 use Rattle.std.specs.HashMap.{get_by_text}
 use Rattle.std.proofs.lemmas.Map.Text.{hash_map_updates_text}
@@ -10,6 +10,7 @@ use Rattle.std.proofs.lemmas.List.FromFn.{length-map-range_with_len}
 use Rattle.task_ids.specs.declared.doc.Doc.{Doc}
 use Rattle.task_ids.specs.Placing.{shard_of}
 use Rattle.world_moves.specs.Stored.{AreShards}
+use Rattle.world_moves.proofs.Outcomes.{both_ok}
 use Rattle.world_moves.proofs.StoredShards.{found_shards, none_found, empty_at, after_write}
 use Rattle.world_moves.proofs.shards.place.Goals as goal
 
@@ -25,11 +26,6 @@ index_mut-requires-2 c =
     let number : c.shard_of-shard.result ≡ shard_of c.args.line.now.doc.id c.args.count = c.shard_of-shard.ensures ∙ ap (λ i. shard_of i c.args.count) (c.as_bytes.ensures.value ∙ c.as_str.ensures) in
     omega (arith, number, ap length c.in_ok-shards.ensures, length-map-range_with_len {X = List Doc} (λ _. []) 0 c.args.count)
 
--- what holds where the writing went well
-both_ok : {A E : Type 0} (r : Result A E) {P Q R : Type 0} → (P → Q → R) → OnOk r P → OnOk r Q → OnOk r R
-both_ok (Ok x) f p q = f p q
-both_ok (Err e) f p q = tt
-
 pub returns-in-Some : goal.returns-in-Some
 returns-in-Some c = λ lines are.
     let index = c.args.line.now.index in
@@ -42,10 +38,9 @@ returns-in-Some c = λ lines are.
     let updates = (c.get_mut.follows.holds w).3 (some_of _ _ read) in
     let changed = subst (λ (i : List ℕ). (q : List ℕ) → get_by_text (c.get_mut.follows.lender w) q ≡ cond (bytes_eq i q) (Some w) (get_by_text table q)) c.as_str-2.ensures
     (hash_map_updates_text c.as_str-2.result.now table (c.get_mut.follows.lender w) (Some w) updates) in
-    both_ok c.write_copy.result
+    both_ok c.write_copy.result _ _ _ c.write_copy.ensures.ok c.write_copy.ensures.few
     (λ ok few. after_write lines c.args.line.now c.args.count table (c.get_mut.follows.lender w) w list.items c.shard_of-shard.result c.index_mut.result.now c.write_copy.new.shard are changed
     (found_shards lines c.args.count table index list are was) number c.index_mut.ensures.value ok few refl)
-    c.write_copy.ensures.ok c.write_copy.ensures.few
 
 pub returns : goal.returns
 returns c = λ lines are.
