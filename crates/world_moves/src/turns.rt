@@ -57,5 +57,6 @@ pub fn turn(state: &mut State<'_>, task: TaskId) -> Result<(), Stop>
     let Ok(()) = running.work.turn(shard) else {
         return Err(Stop::Memory);
     };
-    append(&mut state.history, Event::Work { task })
+    append(&mut state.history, Event::Work { task })?;
+    Ok(())
 }

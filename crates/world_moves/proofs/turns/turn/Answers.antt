@@ -8,7 +8,6 @@ use Rattle.world_moves.proofs.Kept.{some_of, at_changed, off_changed}
 use Rattle.world_moves.proofs.StepsAfter.{is_kept, kept_running}
 use Rattle.world_moves.proofs.TurnsAfter.{is_on, after_turn}
 use Rattle.world_moves.proofs.Uninvolved.{noted}
-use Rattle.world_moves.proofs.Outcomes.{then_ok}
 use Rattle.world_moves.proofs.turns.turn.Goals as goal
 
 pub unreachable-requires : goal.unreachable-requires
@@ -43,10 +42,10 @@ returns-clause-tied c =
     let runs = kept_running s.cluster s.corpus.now s.script.now s.history _ _ _ c.requires.tied.ties c.args.task c.requires.live r was in
     let next = rw was at c.requires.next in
     let shard = c.shard_of_work-shard.ensures ∙ ap (λ stored. looked_at stored r.work) c.requires.shards.shards_are in
-    then_ok c.append.result _ _ c.append.ensures.ok (λ happened. rw happened (record {
+    rw c.in_ok-append.ensures.ok (record {
       ties = after_turn s.cluster s.corpus.now s.script.now s.history _ _ _ c.requires.tied.ties c.args.task r c.turn.new.self _ c.requires.tied.awaits c.requires.live c.requires.passed c.requires.unmarked was
           (next _ (is_on s.cluster s.corpus.now c.args.task _ _ _ _ _ r.work runs.works)) (c.in-Ok.ensures.ok ∙ ap (with_turn r.work) shard) (subst (λ writes. IsWorkOn c.turn.new.self writes) shard c.in-Ok.ensures.holds_on)
           (at_changed c.args.task (Some w) (task_at s.tasks) _ changed) (off_changed c.args.task (Some w) (task_at s.tasks) _ changed);
       cancels = noted s.cluster (λ t. waiting_for t s.history) s.history _ _ _ _ _ c.requires.tied.cancels (Work c.args.task) refl refl;
       awaits = tt;
-    }))
+    })
