@@ -11,9 +11,10 @@ ghost use Rattle.line_print.specs.Lines.{reason_of, reason_for, told, told_all};
 
 use crate::print::{push, push_comma, push_quoted};
 use crate::write::push_start;
+use event_text::write_event;
 use script_lang::Command;
 use std::alloc::{AllocError, Global};
-use task_events::{Event, write_event};
+use task_events::Event;
 
 /// The reason of the cancellation of this number, which is that of its command.
 pub(crate) fn reason_of(script: &[Command], cancel: u32) -> &str

@@ -1,7 +1,8 @@
 //! The text of one event, into bytes, and a copy of a request, which no command makes yet.
 
+use event_text::print_event;
 use std::alloc::{AllocError, Global};
-use task_events::{Event, FetchAsk, Request, print_event};
+use task_events::{Event, FetchAsk, Request};
 use task_ids::{Boxed, Items, TaskId, Text};
 
 /// Whether this text is told of a refusal.

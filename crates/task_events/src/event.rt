@@ -1,5 +1,6 @@
 use crate::reply::Reply;
 use crate::request::Request;
+use std::fmt;
 use task_ids::{TaskId, Text};
 
 /// What happened, one atomic step at a time. A task that was put stands on the node of its id.
@@ -129,4 +130,18 @@ pub enum Outcome {
     Created,
     /// The document of that id was replaced.
     Updated,
+}
+
+impl fmt::Display for Outcome {
+    ghost use Rattle.std.specs.Prelude.{Some};
+    ghost use Rattle.task_events.specs.Texts.{outcome_name};
+
+    ghost output = { λ outcome. Some (outcome_name outcome) };
+
+    fn fmt<W: fmt::Write>(&self, f: &mut fmt::Formatter<W>) -> fmt::Result {
+        f.write_str(match self {
+            Outcome::Created => "created",
+            Outcome::Updated => "updated",
+        })
+    }
 }

@@ -4,7 +4,6 @@
 mod copying;
 mod event;
 mod history;
-mod print;
 mod reply;
 mod request;
 mod step;
@@ -13,7 +12,6 @@ mod stop;
 pub use copying::copy_hits;
 pub use event::{Event, Outcome};
 pub use history::{History, MAX_EVENTS, PushError};
-pub use print::{print_event, write_event};
 pub use reply::{Counts, FailedShard, Hit, Reply, SearchReply, ShardCount, ShardFailure, ShardTop};
 pub use request::{FetchAsk, HitKey, Request, SearchAsk, ShardAsk, SlicePick};
 pub use step::{Asked, Do};

@@ -1,15 +1,15 @@
 //! The texts of events, as a script's output tells them.
+#![tactic(auto)]
 
 ghost use Rattle.std.specs.Prelude.{◌≡◌, ◌++◌, [], ◌∷◌, OnOk, OnErr, Some, codes, decimal, string_bytes};
 ghost use Rattle.std.specs.List.{join_with_byte};
 ghost use Rattle.task_ids.specs.TaskId.{task_id_text};
 ghost use Rattle.task_events.specs.declared.event.Event.TheVariants.{Acked, Cancel, End, Put, Refuse, RootRejected, Write};
-ghost use Rattle.task_events.specs.Texts.{event_text, node_name, outcome_name};
+ghost use Rattle.task_events.specs.Texts.{event_text, node_name};
 
-use crate::event::{Event, Outcome};
-use crate::reply::Reply;
 use std::alloc::AllocError;
 use std::fmt;
+use task_events::{Event, Outcome, Reply};
 use task_ids::{TaskId, Text};
 
 /// A task id as it is written.
@@ -21,17 +21,6 @@ impl fmt::Display for Id {
 
     fn fmt<W: fmt::Write>(&self, f: &mut fmt::Formatter<W>) -> fmt::Result {
         write!(f, "n{}:{}", self.0.node, self.0.number)
-    }
-}
-
-impl fmt::Display for Outcome {
-    ghost output = { λ outcome. Some (outcome_name outcome) };
-
-    fn fmt<W: fmt::Write>(&self, f: &mut fmt::Formatter<W>) -> fmt::Result {
-        f.write_str(match self {
-            Outcome::Created => "created",
-            Outcome::Updated => "updated",
-        })
     }
 }
 
