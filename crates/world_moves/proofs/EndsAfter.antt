@@ -26,7 +26,7 @@ use Rattle.task_laws.proofs.Asks.{ask_facts, child_unanswered, parent_live}
 use Rattle.script_lang.specs.declared.command.Script.{Script}
 use Rattle.world_moves.specs.declared.flight.Sent.{Sent}
 use Rattle.world_moves.specs.declared.running.Running.{Running}
-use Rattle.world_moves.specs.Stored.{AreFew}
+use Rattle.corpus_shards.specs.Stored.{AreFew}
 use Rattle.world_moves.specs.Facts.{awaited_by, requested_by, none_awaited}
 use Rattle.world_moves.specs.Flights.{told_parent}
 use Rattle.world_moves.specs.Plain.{EndsPlainly}

@@ -25,7 +25,7 @@ use Rattle.task_events.specs.declared.step.Do.TheVariants.{Finish}
 use Rattle.task_events.specs.Allowed.{cancellation_in, is_rejection}
 use Rattle.task_events.specs.Answers.{shard_top, fetched}
 use Rattle.task_events.specs.Searches.{ask_or_end, work_or_end, are_answered, search_reply, failed_in, requests_of, query_of, fetches_of, tops_in, has_queried}
-use Rattle.world_moves.specs.Stored.{Stored, AreFew}
+use Rattle.corpus_shards.specs.Stored.{Stored, AreFew}
 use Rattle.world_moves.specs.Ties.{WorksFor, IsGoodReply, written, looked_at}
 use Rattle.world_moves.specs.Facts.{none_awaited}
 use Rattle.world_moves.proofs.Answered.{all_answered}

@@ -1,6 +1,5 @@
 -- What is kept of each task after an event about one of them.
 use Rattle.std.proofs.Common.{◌≡◌, ◌≢◌, ◌⊎◌, ℕ, Bool, true, false, cond, List, ◌∷◌, Option, Some, None, refl, sym, ap, subst, ◌∙◌, inl, inr, arith}
-use Rattle.std.specs.Prelude.{IsSome}
 use Rattle.std.specs.BTreeMap.{is_at}
 use Rattle.std.specs.declared.cmp.Ordering.{Ordering}
 use Rattle.std.specs.declared.cmp.Ordering.TheVariants.{Less, Equal, Greater}
@@ -60,9 +59,6 @@ at_changed t o tasks after changed = changed t ∙ ap (λ b. cond b o (tasks t))
 
 pub off_changed : (t : TaskId) (o : Option Running) (tasks after : TaskId → Option Running) → ((q : TaskId) → after q ≡ cond (is_at (task_id_cmp t) q) o (tasks q)) → (q : TaskId) → same_task t q ≡ false → after q ≡ tasks q
 off_changed t o tasks after changed q differs = changed q ∙ ap (λ b. cond b o (tasks q)) (is_at_task t q ∙ differs)
-
-pub some_of : {A : Type 0} (o : Option A) (a : A) → o ≡ Some a → IsSome o
-some_of o a e = subst (λ x. IsSome x) (sym e) refl
 
 -- a set that was changed at one id, and has what is wanted there
 pub known_at : (t : TaskId) (b : Bool) (old new want : TaskId → Bool) → ((q : TaskId) → new q ≡ cond (is_at (task_id_cmp t) q) b (old q)) → want t ≡ b

@@ -44,7 +44,6 @@ pub mod SameTies
 pub mod Started
 pub mod StartsNoted
 pub mod StepsAfter
-pub mod StoredShards
 pub mod Tables
 pub mod TurnsAfter
 pub mod Unborn

@@ -25,7 +25,7 @@ use Rattle.task_events.specs.Tasks.{is_live, is_new}
 use Rattle.script_lang.specs.declared.command.Script.{Script}
 use Rattle.world_moves.specs.declared.flight.Sent.{Sent}
 use Rattle.world_moves.specs.declared.running.Running.{Running}
-use Rattle.world_moves.specs.Stored.{Stored}
+use Rattle.corpus_shards.specs.Stored.{Stored}
 use Rattle.world_moves.specs.Facts.{facts_of}
 use Rattle.world_moves.specs.Roots.{root_request}
 use Rattle.world_moves.specs.Ties.{Ties, Runs, WorksFor, written, looked_at}

@@ -8,5 +8,4 @@ pub mod Listings
 pub mod Moves
 pub mod Plain
 pub mod Roots
-pub mod Stored
 pub mod Ties

@@ -18,7 +18,7 @@ use Rattle.search_phase.specs.Searching.{Searching, EachAnswer, IsHonest, does_w
 use Rattle.task_work.specs.Works.{IsWorkOn, next_of}
 use Rattle.task_events.specs.declared.step.Do.{Do}
 use Rattle.child_track.specs.Track.{unanswered}
-use Rattle.world_moves.specs.Stored.{Stored, AreFew}
+use Rattle.corpus_shards.specs.Stored.{Stored, AreFew}
 use Rattle.script_lang.specs.declared.command.Script.{Script}
 use Rattle.task_events.specs.declared.request.Request.{Request}
 use Rattle.task_events.specs.declared.request.Request.TheVariants.{Search, Query, Fetch}

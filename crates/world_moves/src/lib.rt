@@ -16,7 +16,6 @@ pub mod performing;
 pub mod requests;
 pub mod running;
 mod sending;
-pub mod shards;
 pub mod starting;
 pub mod state;
 pub mod steps;

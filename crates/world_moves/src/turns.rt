@@ -7,8 +7,8 @@ ghost use Rattle.task_events.specs.Tasks.{is_live, is_new};
 ghost use Rattle.world_moves.specs.Ties.{IsTied, Keeps, HasShards, DoesNext, task_at, looked_at};
 
 use crate::append::append;
-use crate::shards::Shards;
 use crate::state::State;
+use corpus_shards::Shards;
 use shard_docs::Shard;
 use task_events::{Do, Event, Stop};
 use task_ids::TaskId;

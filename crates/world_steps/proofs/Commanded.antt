@@ -17,7 +17,7 @@ use Rattle.script_lang.specs.declared.command.Command.{Command}
 use Rattle.script_lang.specs.declared.command.Command.TheVariants.{Search, Cancel, Deliver, Step, ListStep, Settle, History}
 use Rattle.script_lang.specs.declared.command.Script.{Script}
 use Rattle.world_moves.specs.Moves.{Starts, NodeLacksNumber, LacksNumber, StopsDelivery, StopsMove}
-use Rattle.world_moves.specs.Stored.{has_index}
+use Rattle.corpus_shards.specs.Stored.{has_index}
 use Rattle.world_moves.specs.Roots.{body_or_none, command_at}
 use Rattle.world_steps.specs.Scripts.{CanDo, CanRun, can_start, StartsWhere, PartlyDoes, PartlyCommands, StopsRun}
 

@@ -12,7 +12,7 @@ use Rattle.world_steps.specs.Runs.{FirstMoves, Passes, PartlySettles}
 use Rattle.std.specs.BTreeSet.{BTreeSet}
 use Rattle.task_ids.specs.declared.task_id.TaskId.{TaskId}
 use Rattle.world_moves.specs.declared.state.State.{State}
-use Rattle.world_moves.specs.Stored.{AreFew}
+use Rattle.corpus_shards.specs.Stored.{AreFew}
 use Rattle.world_moves.specs.Ties.{IsTied, Keeps}
 use Rattle.world_steps.specs.World.{HasReady, HasSettled}
 

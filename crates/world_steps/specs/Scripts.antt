@@ -21,7 +21,7 @@ use Rattle.world_moves.specs.Cancels.{after_cancel}
 use Rattle.world_moves.specs.Listings.{is_open, ListSteps}
 use Rattle.world_moves.specs.Moves.{Delivers, Starts, NodeLacksNumber, IsPartly}
 use Rattle.world_moves.specs.Roots.{body_or_none, command_at}
-use Rattle.world_moves.specs.Stored.{has_index}
+use Rattle.corpus_shards.specs.Stored.{has_index}
 use Rattle.world_steps.specs.Runs.{AnswersStep, Settles, PartlySettles}
 
 -- A command has begun, and some events came since, with none of which another began.

@@ -18,6 +18,7 @@ use crate::acting::Stepped;
 use crate::{commands, moving};
 use ban_table::BanTable;
 use cancel_core::CancelCore;
+use corpus_shards::Shards;
 use script_lang::Script;
 use std::alloc::{AllocError, Global};
 use std::collections::{BTreeMap, BTreeSet};
@@ -28,7 +29,6 @@ use task_table::TaskTable;
 use world_moves::flight::Flight;
 use world_moves::listing::Listing;
 use world_moves::listings::ListStep;
-use world_moves::shards::Shards;
 use world_moves::state::State;
 
 /// The serial world: a cluster of nodes that runs a script, one event at a time.

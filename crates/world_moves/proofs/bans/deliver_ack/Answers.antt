@@ -11,7 +11,7 @@ use Rattle.world_moves.specs.Moves.{Delivers}
 use Rattle.world_moves.proofs.AcksAfter.{ack_high, ack_core, ack_entry, ack_awaited, tied_after, noted_after, ack_happened, delivers_ack, partly_ack, part_laws}
 use Rattle.world_moves.proofs.AnswersCome.{answers_await}
 use Rattle.world_moves.proofs.CoresAfter.{has_core}
-use Rattle.world_moves.proofs.Outcomes.{then_ok, both_ok, then_err}
+use Rattle.corpus_shards.proofs.Cases.{then_ok, both_ok, then_err}
 use Rattle.world_moves.proofs.bans.deliver_ack.Goals as goal
 
 pub index_mut-requires : goal.index_mut-requires

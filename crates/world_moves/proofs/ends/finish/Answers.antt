@@ -10,7 +10,7 @@ use Rattle.world_moves.proofs.StepsAfter.{is_kept}
 use Rattle.world_moves.proofs.EndsAfter.{after_finish, all_come}
 use Rattle.world_moves.proofs.LeftNotes.{noted_unmarked}
 use Rattle.world_moves.proofs.Leaving.{nothing_open, own_track, has_table, table_is, stands, runs}
-use Rattle.world_moves.proofs.Outcomes.{then_ok}
+use Rattle.corpus_shards.proofs.Cases.{then_ok}
 use Rattle.world_moves.proofs.ends.finish.Goals as goal
 
 pub unreachable-requires : goal.unreachable-requires

@@ -9,7 +9,7 @@ use Rattle.world_moves.proofs.LiveRows.{read_at}
 use Rattle.world_moves.proofs.NextChild.{open_in}
 use Rattle.world_moves.proofs.NodeTables.{core_at, same_cancels}
 use Rattle.world_moves.proofs.SameTies.{same_ties}
-use Rattle.world_moves.proofs.Outcomes.{then_ok}
+use Rattle.corpus_shards.proofs.Cases.{then_ok}
 use Rattle.world_moves.proofs.listings.end_listing.Goals as goal
 
 pub overflow_sub-listing : goal.overflow_sub-listing

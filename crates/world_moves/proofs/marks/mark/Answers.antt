@@ -16,11 +16,11 @@ use Rattle.world_moves.specs.Cancelling.{HasRows}
 use Rattle.world_moves.specs.Ties.{task_at, IsTableAt}
 use Rattle.world_moves.proofs.AnswersCome.{answers_await, answers_tied, answers_noted}
 use Rattle.world_moves.proofs.AskedNodes.{asked_nodes}
-use Rattle.world_moves.proofs.Kept.{some_of, at_changed, off_changed}
+use Rattle.world_moves.proofs.Kept.{at_changed, off_changed}
 use Rattle.world_moves.proofs.LiveRows.{read_at}
 use Rattle.world_moves.proofs.MarksAfter.{marks_row, after_mark, cancels_after_mark, mark_happened, mark_queue, nothing_yet, on_error}
 use Rattle.world_moves.proofs.NodeTables.{core_at, fresh, same_cancels}
-use Rattle.world_moves.proofs.Outcomes.{then_ok, both_ok, then_err}
+use Rattle.corpus_shards.proofs.Cases.{some_of, then_ok, both_ok, then_err}
 use Rattle.world_moves.proofs.Parts.{part_lawful, part_plain, later_part}
 use Rattle.world_moves.proofs.SameTies.{same_ties}
 use Rattle.world_moves.proofs.StepsAfter.{is_kept, kept_running}

@@ -15,9 +15,9 @@ use Rattle.task_events.specs.Lawful.{AwaitsNoMark}
 use Rattle.world_moves.specs.Cancels.{waiting_for}
 use Rattle.world_moves.specs.Ties.{task_at}
 use Rattle.world_moves.proofs.Arrivals.{arrives}
-use Rattle.world_moves.proofs.Kept.{some_of, at_changed, off_changed}
+use Rattle.world_moves.proofs.Kept.{at_changed, off_changed}
 use Rattle.world_moves.proofs.SameTies.{same_ties, same_cancels}
-use Rattle.world_moves.proofs.Outcomes.{then_ok, both_ok}
+use Rattle.corpus_shards.proofs.Cases.{some_of, then_ok, both_ok}
 use Rattle.world_moves.proofs.RequestsAfter.{rejected, delivers_put, after_put, delivers_reject, after_reject}
 use Rattle.world_moves.proofs.Started.{first}
 use Rattle.world_moves.proofs.StartsNoted.{noted_put}

@@ -3,7 +3,8 @@ use Rattle.std.specs.Option.{option_copied_mut}
 use Rattle.task_events.specs.declared.event.Event.TheVariants.{Pass}
 use Rattle.world_moves.specs.Cancels.{waiting_for}
 use Rattle.world_moves.specs.Ties.{task_at}
-use Rattle.world_moves.proofs.Kept.{some_of, at_changed, off_changed}
+use Rattle.corpus_shards.proofs.Cases.{some_of}
+use Rattle.world_moves.proofs.Kept.{at_changed, off_changed}
 use Rattle.world_moves.proofs.StepsAfter.{is_kept, after_pass}
 use Rattle.world_moves.proofs.Uninvolved.{noted}
 use Rattle.world_moves.proofs.steps.pass.Goals as goal

@@ -1,5 +1,5 @@
 use Rattle.std.proofs.Common.{◌∙◌, ap, sym}
-use Rattle.world_moves.specs.Stored.{has_index}
+use Rattle.corpus_shards.specs.Stored.{has_index}
 use Rattle.world_steps.specs.Scripts.{can_start, StartsWhere}
 use Rattle.world_steps.proofs.Commanded.{unknown_index, comes}
 use Rattle.world_steps.proofs.HadBefore.{had_ready, not_past, wholly}

@@ -3,8 +3,8 @@ use Rattle.std.specs.Option.{option_copied}
 use Rattle.std.proofs.lemmas.Bool.{ltb-false}
 use Rattle.std.proofs.lemmas.List.FromFn.{get_or-map-range_with_len, length-map-range_with_len}
 use Rattle.task_events.specs.Documents.{writes_of}
-use Rattle.world_moves.proofs.StoredShards.{unknown_index, past_shards, found_shards, none_found}
-use Rattle.world_moves.proofs.shards.Shards.get.Goals as goal
+use Rattle.corpus_shards.proofs.StoredShards.{unknown_index, past_shards, found_shards, none_found}
+use Rattle.corpus_shards.proofs.Shards.get.Goals as goal
 
 pub returns-in_default : goal.returns-in_default
 returns-in_default c =

@@ -3,16 +3,15 @@ use Rattle.std.specs.Option.{option_copied_mut}
 use Rattle.std.specs.Vec.{with_item}
 use Rattle.std.specs.Str.{bytes_eq}
 use Rattle.std.specs.Prelude.{cond}
-use Rattle.world_moves.proofs.Kept.{some_of}
 use Rattle.std.specs.HashMap.{get_by_text}
 use Rattle.std.proofs.lemmas.Map.Text.{hash_map_updates_text}
 use Rattle.std.proofs.lemmas.List.FromFn.{length-map-range_with_len}
 use Rattle.task_ids.specs.declared.doc.Doc.{Doc}
 use Rattle.task_ids.specs.Placing.{shard_of}
-use Rattle.world_moves.specs.Stored.{AreShards}
-use Rattle.world_moves.proofs.Outcomes.{both_ok}
-use Rattle.world_moves.proofs.StoredShards.{found_shards, none_found, empty_at, after_write}
-use Rattle.world_moves.proofs.shards.place.Goals as goal
+use Rattle.corpus_shards.specs.Stored.{AreShards}
+use Rattle.corpus_shards.proofs.Cases.{some_of, both_ok}
+use Rattle.corpus_shards.proofs.StoredShards.{found_shards, none_found, empty_at, after_write}
+use Rattle.corpus_shards.proofs.place.Goals as goal
 
 pub index_mut-requires : goal.index_mut-requires
 index_mut-requires c =

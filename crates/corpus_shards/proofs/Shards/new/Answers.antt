@@ -1,8 +1,8 @@
 use Rattle.std.proofs.Common.{take, subst, ◌∙◌, sym, ap, ◌++◌, ◌∷◌, []}
 use Rattle.std.proofs.lemmas.List.{take_more, take_all}
-use Rattle.world_moves.specs.Stored.{AreShards, AreFew}
-use Rattle.world_moves.proofs.StoredShards.{no_lines, as_many_shards}
-use Rattle.world_moves.proofs.shards.Shards.new.Goals as goal
+use Rattle.corpus_shards.specs.Stored.{AreShards, AreFew}
+use Rattle.corpus_shards.proofs.StoredShards.{no_lines, as_many_shards}
+use Rattle.corpus_shards.proofs.Shards.new.Goals as goal
 
 pub loop-line-init : goal.loop-line-init
 loop-line-init c = no_lines c.args.count c.new-by_index.result c.requires c.new-by_index.ensures.empty

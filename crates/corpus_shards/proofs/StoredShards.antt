@@ -20,7 +20,7 @@ use Rattle.task_ids.specs.declared.doc.Doc.{Doc}
 use Rattle.task_ids.specs.Placing.{shard_of}
 use Rattle.task_events.specs.Documents.{writes_of}
 use Rattle.shard_docs.proofs.Ids.{same_or_other}
-use Rattle.world_moves.specs.Stored.{has_index, shards_of, shards_among, AreShards}
+use Rattle.corpus_shards.specs.Stored.{has_index, shards_of, shards_among, AreShards}
 
 -- the writes of a shard, where these are the lines
 abbrev written_by : List CorpusLine → ℕ → List ℕ → ℕ → List Doc

@@ -1,6 +1,6 @@
 use Rattle.std.proofs.Common.{◌≡◌, [], map}
 use Rattle.std.specs.List.{range_with_len}
-use Rattle.world_moves.proofs.shards.empty_shards.Given as goal
+use Rattle.corpus_shards.proofs.empty_shards.Given as goal
 
 abbrev pub invariant-loop : goal.invariant-loop
 invariant-loop l = l.shards.items ≡ map (λ _. []) (range_with_len 0 l.counter)

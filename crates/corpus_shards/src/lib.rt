@@ -1,11 +1,12 @@
-//! The shards of the corpus.
+//! The shards of a corpus: where each of its documents lies.
+#![tactic(auto)]
 
 ghost use Rattle.std.specs.Prelude.{◌≡◌, ℕ, List, ◌++◌, ◌∷◌, [], ◌<◌, ◌^◌, length, map, IfOk, IfSome, OnOk};
 ghost use Rattle.std.specs.List.{range_with_len};
 ghost use Rattle.std.specs.HashMap.{get_by_text};
 ghost use Rattle.task_ids.specs.declared.corpus.CorpusLine.{CorpusLine};
 ghost use Rattle.task_events.specs.Documents.{writes_of};
-ghost use Rattle.world_moves.specs.Stored.{AreFew, AreShards, has_index};
+ghost use Rattle.corpus_shards.specs.Stored.{AreFew, AreShards, has_index};
 
 use shard_docs::{Shard, shard_of};
 use std::alloc::{AllocError, Global};
@@ -24,7 +25,7 @@ pub struct Shards<'a> {
 }
 
 impl<'a> Model for Shards<'a> {
-    ghost use Rattle.world_moves.specs.Stored.{Stored, AreShards};
+    ghost use Rattle.corpus_shards.specs.Stored.{Stored, AreShards};
     ghost use Rattle.std.specs.Prelude.{◌≡◌, []};
     ghost use Rattle.std.specs.Coded.{codes};
     ghost use Rattle.task_ids.specs.contracts.corpus.Corpus as corpus_row;
@@ -83,7 +84,7 @@ fn place(
 
 impl<'a> Shards<'a> {
     /// A shard without a document.
-    pub(crate) fn empty(&self) -> &Shard
+    pub fn empty(&self) -> &Shard
         ensures { result.now ≡ [] }
     {
         &self.empty
@@ -97,7 +98,7 @@ impl<'a> Shards<'a> {
     }
 
     /// The shard of an index, from 0: the documents of the index that it has. It is empty where there is no such.
-    pub(crate) fn get(&self, index: &str, shard: u32) -> &Shard
+    pub fn get(&self, index: &str, shard: u32) -> &Shard
         ensures { result.now ≡ writes_of self.now.corpus self.now.shards index.now shard }
     {
         let Some(shards) = self.by_index.get(index) else {

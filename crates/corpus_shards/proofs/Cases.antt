@@ -1,0 +1,18 @@
+-- What follows where something is found, where a call succeeds, and where it fails.
+use Rattle.std.proofs.Common.{◌≡◌, Option, Some, sym, subst, refl}
+use Rattle.std.specs.Prelude.{Result, Ok, Err, OnOk, OnErr, IsSome}
+
+pub some_of : {A : Type 0} (o : Option A) (a : A) → o ≡ Some a → IsSome o
+some_of o a e = subst (λ x. IsSome x) (sym e) refl
+
+pub then_ok : {T E : Type 0} (r : Result T E) (P Q : Type 0) → OnOk r P → (P → Q) → OnOk r Q
+then_ok (Ok x) P Q p f = f p
+then_ok (Err e) P Q p f = tt
+
+pub both_ok : {T E : Type 0} (r : Result T E) (P Q R : Type 0) → OnOk r P → OnOk r Q → (P → Q → R) → OnOk r R
+both_ok (Ok x) P Q R p q f = f p q
+both_ok (Err e) P Q R p q f = tt
+
+pub then_err : {T E : Type 0} (r : Result T E) (P Q : Type 0) → OnErr r P → (P → Q) → OnErr r Q
+then_err (Ok x) P Q p f = tt
+then_err (Err e) P Q p f = f p
