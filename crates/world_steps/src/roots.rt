@@ -1,16 +1,23 @@
 //! Commands begin, and their roots come to their nodes.
 
-ghost use Rattle.std.specs.Prelude.{◌≡◌, ◌∷◌, ◌+◌, ◌≤◌, ◌<◌, length, Err, Some, IfOk, OnOk, OnErr};
+ghost use Rattle.std.specs.Prelude.{◌≡◌, ◌∷◌, ℕ, ◌+◌, ◌≤◌, length, cond, Err, Some, IfOk, IfErr, OnOk, OnErr};
+ghost use Rattle.std.specs.BTreeMap.{is_at, get};
+ghost use Rattle.std.specs.Ordering.{nat_cmp};
+ghost use Rattle.task_ids.specs.TaskIdOrder.{task_id_cmp};
+ghost use Rattle.task_table.specs.Answer.{refused_token};
 ghost use Rattle.task_events.specs.declared.history.TheConstants.{MAX_EVENTS};
 ghost use Rattle.task_events.specs.Cancels.{beginning, last_command};
 ghost use Rattle.world_moves.specs.Moves.{Starts, NodeLacksNumber};
 ghost use Rattle.world_moves.specs.Roots.{root_request};
-ghost use Rattle.world_moves.specs.Ties.{IsTied, Keeps};
+ghost use Rattle.world_moves.specs.Ties.{IsTied, Keeps, task_at};
 
-use task_events::{Event, Request, SearchAsk, Stop};
-use task_ids::Boxed;
+use std::alloc::Global;
+use std::collections::BTreeMap;
+use task_events::{Event, History, Request, SearchAsk, Stop};
+use task_ids::{Boxed, TaskId};
 use task_table::PutError;
 use world_moves::append::append;
+use world_moves::running::Running;
 use world_moves::starting::{keep, new_task, put_on, spend, with_work};
 use world_moves::state::State;
 
@@ -28,6 +35,64 @@ pub(crate) fn begin(state: &mut State<'_>, command: u32) -> Result<(), Stop>
 {
     append(&mut state.history, Event::Begin { command })?;
     Ok(())
+}
+
+/// Keeps the task of a root, and notes of which command it is and that it starts.
+fn keep_root(
+    history: &mut History,
+    tasks: &mut BTreeMap<TaskId, Running>,
+    roots: &mut BTreeMap<u32, TaskId>,
+    command: u32,
+    running: Running,
+) -> Result<(), Stop>
+    ensures happened { OnOk result (history.new ≡ Event.Root command running.ticket.id ∷ history.old) }
+    ensures kept { OnOk result ((q : TaskId) → task_at tasks.new q
+        ≡ cond (is_at (task_id_cmp running.ticket.id) q) (Some running) (task_at tasks.old q)) }
+    ensures noted { OnOk result ((k : ℕ) → get nat_cmp roots.new k
+        ≡ cond (is_at (nat_cmp command) k) (Some running.ticket.id) (get nat_cmp roots.old k)) }
+    ensures err { OnErr result (history.new ≡ history.old) }
+    ensures full { result ≡ Err Stop.HistoryFull → length history.old ≡ MAX_EVENTS }
+    ensures numbers { result ≡ Err Stop.NumbersSpent → ⊥ }
+    ensures room { OnOk result (length history.new ≤ MAX_EVENTS) }
+{
+    let task = running.ticket.id();
+    match roots.insert(command, task) {
+        Ok(_) => keep(history, tasks, running, Event::Root { command, task }),
+        Err(_) => {
+            drop(running);
+            Err(Stop::Memory)
+        }
+    }
+}
+
+/// A root is rejected where its node has no free slot. Where its task was refused for another reason, that is the answer.
+fn reject_root(
+    history: &mut History,
+    command: u32,
+    node: u32,
+    refused: PutError,
+) -> Result<(), Stop>
+    ensures happened { OnOk result (history.new ≡ Event.RootRejected command node ∷ history.old) }
+    ensures no_slot { OnOk result (refused ≡ PutError.Full (refused_token refused)) }
+    ensures err { OnErr result (history.new ≡ history.old) }
+    ensures full { result ≡ Err Stop.HistoryFull → length history.old ≡ MAX_EVENTS }
+    ensures spent { result ≡ Err Stop.NumbersSpent → refused ≡ PutError.NumbersSpent (refused_token refused) }
+    ensures room { OnOk result (length history.new ≤ MAX_EVENTS) }
+{
+    match refused {
+        PutError::Full(token) => {
+            spend(token);
+            append(history, Event::RootRejected { command, node })
+        }
+        PutError::NumbersSpent(token) => {
+            spend(token);
+            Err(Stop::NumbersSpent)
+        }
+        PutError::Memory(token) => {
+            spend(token);
+            Err(Stop::Memory)
+        }
+    }
 }
 
 /// The request of a command that has begun comes to its node. It starts where a slot is free there, and is rejected
@@ -58,26 +123,32 @@ fn start_with(
     let root = new_task(state.alloc, request, None);
     match put_on(&mut state.tables, node, root, None) {
         Ok(ticket) => {
-            let task = ticket.id();
             let running = with_work(state.alloc, ticket, request, &state.cluster, false)?;
-            let event = Event::Root { command, task };
-            let Ok(_) = state.roots.insert(command, task) else {
-                return Err(Stop::Memory);
-            };
-            keep(&mut state.history, &mut state.tasks, running, event)?;
+            keep_root(
+                &mut state.history,
+                &mut state.tasks,
+                &mut state.roots,
+                command,
+                running,
+            )?;
             Ok(true)
         }
-        Err(PutError::Full(token)) => {
-            spend(token);
-            append(&mut state.history, Event::RootRejected { command, node })?;
-            Ok(false)
-        }
-        Err(PutError::NumbersSpent(token)) => {
-            spend(token);
-            Err(Stop::NumbersSpent)
-        }
-        Err(PutError::Memory(token)) => {
-            spend(token);
+        Err(refused) => match reject_root(&mut state.history, command, node, refused) {
+            Ok(()) => Ok(false),
+            Err(stop) => Err(stop),
+        },
+    }
+}
+
+/// The request of a search.
+fn search_request(alloc: Global, ask: SearchAsk) -> Result<Request, Stop>
+    ensures request { IfOk result (λ request. request ≡ Request.Search ask) }
+    ensures memory { IfErr result (λ stop. stop ≡ Stop.Memory) }
+{
+    match Boxed::new(alloc, ask) {
+        Ok(search) => Ok(Request::Search(search)),
+        Err(refused) => {
+            drop(refused);
             Err(Stop::Memory)
         }
     }
@@ -108,10 +179,7 @@ pub(crate) fn start(
         → NodeLacksNumber state.old.cluster state.old.history node }
     ensures room { OnOk result (length state.new.history ≤ MAX_EVENTS) }
 {
-    let Ok(search) = Boxed::new(state.alloc, ask) else {
-        return Err(Stop::Memory);
-    };
-    let request = Request::Search(search);
+    let request = search_request(state.alloc, ask)?;
     let started = start_with(state, command, node, &request);
     drop(request);
     started
