@@ -64,14 +64,14 @@ fn work_on(state: &mut State<'_>, task: TaskId, next: Do) -> Result<Stepped, Sto
 }
 
 /// A child that has not passed makes its first step: it goes on, or is refused where a ban of its parent stands on its node.
-fn first_step(state: &mut State<'_>, task: TaskId) -> Result<(), Stop>
+fn first_step(state: &mut State<'_>, task: TaskId) -> Result<Stepped, Stop>
     requires tied { IsTied state.old }
     requires live { is_live task state.old.history ≡ true }
     requires first { is_new task state.old.history ≡ true }
-    ensures stepped { OnOk result (Steps state.old.cluster state.old.corpus.now state.old.script.now task state.old.history state.new.history) }
+    ensures stepped { IfOk result (λ stepped. AnswersStep state.old.cluster state.old.corpus.now state.old.script.now task state.old.history stepped state.new.history) }
     ensures tied { OnOk result (IsTied state.new) }
     ensures keeps { Keeps state.old state.new }
-    ensures room { OnOk result (length state.new.history ≤ MAX_EVENTS) }
+    ensures room { IfOk result (λ stepped. HasRoom stepped state.new.history) }
     ensures part { OnErr result (IsPartly (Steps state.old.cluster state.old.corpus.now state.old.script.now task) state.old.history state.new.history) }
     ensures laws { OnErr result (KeepsLaws state.new) }
     ensures stop { IfErr result (λ stop. StopsMove state.new.history stop) }
@@ -81,7 +81,7 @@ fn first_step(state: &mut State<'_>, task: TaskId) -> Result<(), Stop>
         None => pass(state, task),
     };
     match stepped {
-        Ok(()) => Ok(()),
+        Ok(()) => Ok(Stepped::Done),
         Err(stop) => Err(stop),
     }
 }
@@ -131,20 +131,17 @@ pub(crate) fn act(state: &mut State<'_>, task: TaskId) -> Result<Stepped, Stop>
         return Ok(Stepped::NotRunning);
     };
     if running.is_new {
-        return match first_step(state, task) {
-            Ok(()) => Ok(Stepped::Done),
-            Err(stop) => Err(stop),
-        };
+        return first_step(state, task);
     }
     if let Some(cancel) = running.track.closed() {
         let waits = running.track.unanswered() > 0;
         return leave_or_wait(state, task, cancel, waits);
     }
-    let Ok(next) = running.work.next(0) else {
-        return Err(Stop::Memory);
-    };
-    match work_on(state, task, next) {
-        Ok(stepped) => Ok(stepped),
-        Err(stop) => Err(stop),
+    match running.work.next(0) {
+        Ok(next) => match work_on(state, task, next) {
+            Ok(stepped) => Ok(stepped),
+            Err(stop) => Err(stop),
+        },
+        Err(_) => Err(Stop::Memory),
     }
 }

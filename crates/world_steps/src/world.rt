@@ -145,10 +145,22 @@ impl<'a> World<'a> {
         requires few { length script.now.commands ≤ 65535 }
         ensures { IfOk result (λ world. world ≡ record { cluster = cluster; corpus = corpus.now; script = script.now; past = []; stopped = None }) }
     {
-        let shards = Shards::new(alloc, corpus, cluster.shards)?;
         let tables = new_tables(alloc, &cluster)?;
-        let bans = new_bans(alloc, cluster.nodes)?;
-        let cores = new_cores(alloc, cluster.nodes)?;
+        let Ok(bans) = new_bans(alloc, cluster.nodes) else {
+            drop(tables);
+            return Err(AllocError);
+        };
+        let Ok(cores) = new_cores(alloc, cluster.nodes) else {
+            drop(tables);
+            drop(bans);
+            return Err(AllocError);
+        };
+        let Ok(shards) = Shards::new(alloc, corpus, cluster.shards) else {
+            drop(tables);
+            drop(bans);
+            drop(cores);
+            return Err(AllocError);
+        };
         let state = State {
             alloc,
             cluster,

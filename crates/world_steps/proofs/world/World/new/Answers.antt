@@ -13,11 +13,11 @@ pub invariant_of-result : goal.invariant_of-result
 invariant_of-result c = record {
   tied = record {
     ties = rw c.new-2.ensures (rw c.new-4.ensures (nothing_yet c.args.cluster c.args.corpus.now c.args.script.now (task_at c.new-3.result) c.in_ok-tables.tables.items (λ t. ap (lookup (is_at (task_id_cmp t))) c.new-3.ensures.empty) c.in_ok-tables.ensures));
-    cancels = rw c.new-2.ensures (nothing_cancelled c.args.cluster c.in_ok-tables.tables.items _ c.in_ok-bans.bans.items c.in_ok-cores.cores.items c.new-6.result c.in_ok-tables.ensures
-        (λ k. ap (lookup (is_at (nat_cmp k))) c.new-5.ensures.empty) c.in_ok-bans.ensures c.in_ok-cores.ensures (λ l. ap (list_any (is_at (listing_cmp l))) c.new-6.ensures.empty));
+    cancels = rw c.new-2.ensures (nothing_cancelled c.args.cluster c.in_ok-tables.tables.items _ c.in-Ok.bans.items c.in-Ok-new_cores.cores.items c.new-6.result c.in_ok-tables.ensures
+        (λ k. ap (lookup (is_at (nat_cmp k))) c.new-5.ensures.empty) c.in-Ok.ensures c.in-Ok-new_cores.ensures (λ l. ap (list_any (is_at (listing_cmp l))) c.new-6.ensures.empty));
     awaits = rw c.new-2.ensures tt;
   };
-  shards = record { shards_are = c.in_ok-shards.ensures.ok; few = c.in_ok-shards.ensures.few };
+  shards = record { shards_are = c.in-Ok-new.ensures.ok; few = c.in-Ok-new.ensures.few };
   ready_known = λ t. rw c.new-2.ensures (ap (list_any (is_at (task_id_cmp t))) c.new-7.ensures.empty);
   can_run = c.requires.can;
   few = c.requires.few;
