@@ -16,10 +16,10 @@ use Rattle.task_events.specs.Messages.Message.{Request, Answer, Ban, Ack, Unban}
 use Rattle.script_lang.specs.declared.command.Command.{Command}
 use Rattle.script_lang.specs.declared.command.Command.TheVariants.{Search, Cancel, Deliver, Step, ListStep, Settle, History}
 use Rattle.script_lang.specs.declared.command.Script.{Script}
-use Rattle.world_moves.specs.Moves.{Starts, NodeLacksNumber, LacksNumber, StopsDelivery, StopsMove}
+use Rattle.world_moves.specs.Moves.{Delivers, IsPartly, Starts, NodeLacksNumber, LacksNumber, StopsDelivery, StopsMove}
 use Rattle.corpus_shards.specs.Stored.{has_index}
 use Rattle.world_moves.specs.Roots.{body_or_none, command_at}
-use Rattle.world_steps.specs.Scripts.{CanDo, CanRun, can_start, StartsWhere, PartlyDoes, PartlyCommands, StopsRun}
+use Rattle.world_steps.specs.Scripts.{CanDo, CanRun, can_start, DeliversWhere, StartsWhere, PartlyDoes, PartlyCommands, StopsRun}
 
 lacking : (cluster : Cluster) (h : List Event) (m : Message) → LacksNumber cluster h m → (node : ℕ) × NodeLacksNumber cluster h node
 lacking cluster h (Request p k n r) l = (n, l)
@@ -38,6 +38,11 @@ pub move_stops : (cluster : Cluster) (new : List Event) (stop : Stop) → StopsM
 move_stops cluster new HistoryFull full = full
 move_stops cluster new NumbersSpent never = absurd never
 move_stops cluster new Memory any = tt
+
+-- a part of a delivery is one of a delivery where there is a message
+pub partly_where : (cluster : Cluster) (nth : ℕ) (h new : List Event) → IsPartly (λ g made. Delivers cluster g nth made) h new → IsPartly (DeliversWhere cluster nth) h new
+partly_where cluster nth h new (inl same) = inl same
+partly_where cluster nth h new (inr made) = inr (made.0, inl made.1, made.2)
 
 -- each command of a script that can run can be done
 pub can_do : (nodes : ℕ) (commands : List Command) → CanRun nodes commands → (place : ℕ) (command : Command) → slice_get commands place ≡ Some command → CanDo nodes command
