@@ -1,5 +1,5 @@
 -- Why commands come to an early end, and what they can do.
-use Rattle.std.proofs.Common.{◌≡◌, ◌⊎◌, ◌≤◌, ◌<◌, ◌-◌, ℕ, zero, suc, Bool, true, false, List, [], ◌∷◌, length, get_or, Option, Some, None, refl, sym, ap, subst, inl, inr, arith}
+use Rattle.std.proofs.Common.{◌≡◌, ◌⊎◌, ◌≤◌, ◌<◌, ◌-◌, ℕ, zero, suc, Bool, true, false, List, [], ◌∷◌, length, get_or, Option, Some, None, refl, sym, ap, subst, inl, inr, ◌∙◌, arith}
 use Rattle.std.specs.Prelude.{slice_get, is_some, ◌&&◌}
 use Rattle.serde_json.specs.Data.{Data}
 use Rattle.query_match.specs.declared.body.SearchBody.{SearchBody}
@@ -17,8 +17,11 @@ use Rattle.script_lang.specs.declared.command.Command.{Command}
 use Rattle.script_lang.specs.declared.command.Command.TheVariants.{Search, Cancel, Deliver, Step, ListStep, Settle, History}
 use Rattle.script_lang.specs.declared.command.Script.{Script}
 use Rattle.world_moves.specs.Moves.{Delivers, IsPartly, Starts, NodeLacksNumber, LacksNumber, StopsDelivery, StopsMove}
+use Rattle.world_moves.specs.declared.state.State.{State}
 use Rattle.corpus_shards.specs.Stored.{has_index}
 use Rattle.world_moves.specs.Roots.{body_or_none, command_at}
+use Rattle.world_moves.specs.Ties.{Keeps}
+use Rattle.world_steps.specs.Runs.{FirstMoves}
 use Rattle.world_steps.specs.Scripts.{CanDo, CanRun, can_start, DeliversWhere, StartsWhere, PartlyDoes, PartlyCommands, StopsRun}
 
 lacking : (cluster : Cluster) (h : List Event) (m : Message) → LacksNumber cluster h m → (node : ℕ) × NodeLacksNumber cluster h node
@@ -43,6 +46,17 @@ move_stops cluster new Memory any = tt
 pub partly_where : (cluster : Cluster) (nth : ℕ) (h new : List Event) → IsPartly (λ g made. Delivers cluster g nth made) h new → IsPartly (DeliversWhere cluster nth) h new
 partly_where cluster nth h new (inl same) = inl same
 partly_where cluster nth h new (inr made) = inr (made.0, inl made.1, made.2)
+
+-- why a move comes to an early end that needs no number is why a delivery does
+pub move_stops_delivery : (cluster : Cluster) (h new : List Event) (nth : ℕ) (stop : Stop) → StopsMove new stop → StopsDelivery cluster h nth new stop
+move_stops_delivery cluster h new nth HistoryFull full = full
+move_stops_delivery cluster h new nth NumbersSpent never = absurd never
+move_stops_delivery cluster h new nth Memory any = tt
+
+-- a part of the delivery of the oldest message is one of a first move
+pub partly_first : (cluster : Cluster) (corpus : Corpus) (script : Script) (h new : List Event) → IsPartly (λ g made. Delivers cluster g 0 made) h new → IsPartly (FirstMoves cluster corpus script) h new
+partly_first cluster corpus script h new (inl same) = inl same
+partly_first cluster corpus script h new (inr made) = inr (made.0, inl made.1, made.2)
 
 -- each command of a script that can run can be done
 pub can_do : (nodes : ℕ) (commands : List Command) → CanRun nodes commands → (place : ℕ) (command : Command) → slice_get commands place ≡ Some command → CanDo nodes command
@@ -116,3 +130,12 @@ from_get_or (first ∷ more) (suc place) command low e = from_get_or more place 
 
 pub carried : (P : Cluster → Corpus → Script → List Event → Type 0) (c d : Cluster) (x y : Corpus) (s t : Script) (h g : List Event) → c ≡ d → x ≡ y → s ≡ t → h ≡ g → P c x s h → P d y t g
 carried P c d x y s t h g cs xs ss hs p = subst (λ a. P a y t g) cs (subst (λ a. P c a t g) xs (subst (λ a. P c x a g) ss (subst (λ a. P c x s a) hs p)))
+
+-- what two parts of a command keep, one after the other
+pub keeps_on : {old now new : State} → Keeps old now → Keeps now new → Keeps old new
+keeps_on first then = record {
+  cluster = then.cluster ∙ first.cluster;
+  corpus = then.corpus ∙ first.corpus;
+  shards = then.shards ∙ first.shards;
+  script = then.script ∙ first.script;
+}

@@ -1,20 +1,43 @@
-use Rattle.std.proofs.Common.{◌≡◌, ◌∙◌, ◌+◌, List, ◌∷◌, length, ap, inr}
+use Rattle.std.proofs.Common.{◌≡◌, ◌∙◌, ◌+◌, List, ◌∷◌, length, ap, subst, inr}
 use Rattle.task_events.specs.declared.event.Event.TheVariants.{Begin}
 use Rattle.script_lang.specs.declared.command.Command.{Command}
-use Rattle.world_steps.specs.Runs.{PartlySettles}
-use Rattle.world_steps.specs.Scripts.{closing}
-use Rattle.world_steps.proofs.Commanded.{carried}
+use Rattle.world_steps.specs.Runs.{Settles, PartlySettles}
+use Rattle.world_steps.specs.Scripts.{closing, StopsRun}
+use Rattle.world_steps.proofs.Commanded.{carried, keeps_on}
 use Rattle.world_steps.proofs.AllAnswered.{all_answered}
 use Rattle.world_steps.proofs.commands.drain.Goals as goal
 
-pub returns-in-Err-settle-clause-part : goal.returns-in-Err-settle-clause-part
-returns-in-Err-settle-clause-part c =
+pub returns-in-Ok-settle : goal.returns-in-Ok-settle
+returns-in-Ok-settle c =
     let s = c.args.state.now in
     let begun : c.begin_there.new.state.history ≡ Begin (closing s.script.now) ∷ s.history = c.in-Ok.ensures.happened ∙ ap (λ (commands : List Command). Begin (length commands + 1) ∷ s.history) c.as_slice.ensures in
-    inr (carried (λ cluster corpus script h. PartlySettles cluster corpus script h c.settle.new.state.history) _ _ _ _ _ _ _ _ c.in-Ok.ensures.keeps.cluster c.in-Ok.ensures.keeps.corpus c.in-Ok.ensures.keeps.script begun c.in-Err-settle.ensures.part)
-
-pub returns-in-Ok-settle-clause-answered : goal.returns-in-Ok-settle-clause-answered
-returns-in-Ok-settle-clause-answered c =
-    let s = c.settle.new.state in
+    let now = c.settle.new.state in
     let tied = c.in-Ok-settle.ensures.tied in
-    all_answered s.cluster s.history _ _ _ _ _ tied.ties.lawful tied.cancels tied.awaits (c.drained_bans.ensures.all s.cluster s.history tied.ties.lawful c.in-Ok-settle.ensures.over).1
+    let over = c.in-Ok-settle.ensures.over in
+    record {
+      drained = carried (λ cluster corpus script h. Settles cluster corpus script h now.history) _ _ _ _ _ _ _ _ c.in-Ok.ensures.keeps.cluster c.in-Ok.ensures.keeps.corpus c.in-Ok.ensures.keeps.script begun c.in-Ok-settle.ensures.settled;
+      over = over;
+      answered = all_answered now.cluster now.history _ _ _ _ _ tied.ties.lawful tied.cancels tied.awaits (c.drained_bans.ensures.all now.cluster now.history tied.ties.lawful over).1;
+      tied = tied;
+      known = c.in-Ok-settle.ensures.known;
+      keeps = keeps_on c.in-Ok.ensures.keeps c.in-Ok-settle.ensures.keeps;
+      part = tt;
+      laws = c.in-Ok-settle.ensures.laws;
+      stop = tt;
+    }
+
+pub returns-in-Err-settle : goal.returns-in-Err-settle
+returns-in-Err-settle c =
+    let s = c.args.state.now in
+    let begun : c.begin_there.new.state.history ≡ Begin (closing s.script.now) ∷ s.history = c.in-Ok.ensures.happened ∙ ap (λ (commands : List Command). Begin (length commands + 1) ∷ s.history) c.as_slice.ensures in
+    record {
+      drained = tt;
+      over = tt;
+      answered = tt;
+      tied = tt;
+      known = tt;
+      keeps = keeps_on c.in-Ok.ensures.keeps c.in-Err-settle.ensures.keeps;
+      part = inr (carried (λ cluster corpus script h. PartlySettles cluster corpus script h c.settle.new.state.history) _ _ _ _ _ _ _ _ c.in-Ok.ensures.keeps.cluster c.in-Ok.ensures.keeps.corpus c.in-Ok.ensures.keeps.script begun c.in-Err-settle.ensures.part);
+      laws = c.in-Err-settle.ensures.laws;
+      stop = subst (λ cluster. StopsRun cluster c.settle.new.state.history c.in-Err-settle.stop) c.in-Ok.ensures.keeps.cluster c.in-Err-settle.ensures.stop;
+    }

@@ -1,44 +1,110 @@
-use Rattle.std.proofs.Common.{Ok, ap, ◌≡◌, rules}
+use Rattle.std.proofs.Common.{◌≡◌, Bool, true, false, Result, Ok, Err, refl, ap, rules, inl}
 use Rattle.std.specs.BTreeSet.{btree_set_len}
+use Rattle.task_events.specs.declared.stop.Stop.{Stop}
+use Rattle.world_steps.proofs.Commanded.{move_stops_delivery, partly_first}
 use Rattle.world_steps.proofs.FirstListing.{listing_moves, listing_done, listing_partly, none_open}
 use Rattle.world_steps.proofs.FirstReady.{nothing_in_flight, first_move, first_part, first_has_room}
 use Rattle.world_steps.proofs.moving.move_first.Goals as goal
 
-pub returns-in-Ok-list_there-clause-moved : goal.returns-in-Ok-list_there-clause-moved
-returns-in-Ok-list_there-clause-moved c = λ _.
+moves : (r : Result Bool Stop) → r ≡ Ok true → r ≡ Ok false → ⊥
+moves r made rests = cc
+
+fails : (stop : Stop) (moved : Bool) → Err stop ≡ Ok moved → ⊥
+fails stop moved e = cc
+
+pub returns-in-Ok : goal.returns-in-Ok
+returns-in-Ok c =
+    record {
+      moved = λ _. inl c.in-Ok.ensures.delivered;
+      room = λ _. c.in-Ok.ensures.room;
+      rests = λ e. absurd (moves _ refl e);
+      tied = c.in-Ok.ensures.tied;
+      known = c.in-Ok.ensures.known;
+      keeps = c.in-Ok.ensures.keeps;
+      part = tt;
+      laws = c.in-Ok.ensures.laws;
+      stop = tt;
+    }
+
+pub returns-in-Err : goal.returns-in-Err
+returns-in-Err c =
+    let s = c.args.state.now in
+    record {
+      moved = λ e. absurd (fails _ _ e);
+      room = λ e. absurd (fails _ _ e);
+      rests = λ e. absurd (fails _ _ e);
+      tied = tt;
+      known = tt;
+      keeps = c.in-Err.ensures.keeps;
+      part = partly_first s.cluster s.corpus.now s.script.now s.history c.deliver_there.new.state.history c.in-Err.ensures.part;
+      laws = c.in-Err.ensures.laws;
+      stop = c.in-Err.ensures.stop;
+    }
+
+pub returns-in-Ok-list_there : goal.returns-in-Ok-list_there
+returns-in-Ok-list_there c =
     let s = c.args.state.now in
     let none = nothing_in_flight s.history s.flight _ c.requires.tied.ties.sent (search rules) in
-    listing_moves s.cluster s.corpus.now s.script.now s.history s.listings c.in-Some.listing c.requires.tied.cancels.listings_are (search rules) (search rules) none c.in-Ok-list_there.field-0 c.list_there.new.state.history c.in-Ok-list_there.ensures.stepped
+    record {
+      moved = λ _. listing_moves s.cluster s.corpus.now s.script.now s.history s.listings c.in-Some.listing c.requires.tied.cancels.listings_are (search rules) (search rules) none c.in-Ok-list_there.field-0 c.list_there.new.state.history c.in-Ok-list_there.ensures.stepped;
+      room = λ _. c.in-Ok-list_there.ensures.room (ap Ok (listing_done s.cluster s.corpus.now s.script.now s.history s.listings c.in-Some.listing c.requires.tied.cancels.listings_are (search rules) (search rules) none c.in-Ok-list_there.field-0 c.list_there.new.state.history c.in-Ok-list_there.ensures.stepped));
+      rests = λ e. absurd (moves _ refl e);
+      tied = c.in-Ok-list_there.ensures.tied;
+      known = c.in-Ok-list_there.ensures.known;
+      keeps = c.in-Ok-list_there.ensures.keeps;
+      part = tt;
+      laws = c.in-Ok-list_there.ensures.laws;
+      stop = tt;
+    }
 
-pub returns-in-Ok-list_there-clause-room : goal.returns-in-Ok-list_there-clause-room
-returns-in-Ok-list_there-clause-room c = λ _.
+pub returns-in-Err-list_there : goal.returns-in-Err-list_there
+returns-in-Err-list_there c =
     let s = c.args.state.now in
     let none = nothing_in_flight s.history s.flight _ c.requires.tied.ties.sent (search rules) in
-    c.in-Ok-list_there.ensures.room (ap Ok (listing_done s.cluster s.corpus.now s.script.now s.history s.listings c.in-Some.listing c.requires.tied.cancels.listings_are (search rules) (search rules) none c.in-Ok-list_there.field-0 c.list_there.new.state.history c.in-Ok-list_there.ensures.stepped))
+    record {
+      moved = λ e. absurd (fails _ _ e);
+      room = λ e. absurd (fails _ _ e);
+      rests = λ e. absurd (fails _ _ e);
+      tied = tt;
+      known = tt;
+      keeps = c.in-Err-list_there.ensures.keeps;
+      part = listing_partly s.cluster s.corpus.now s.script.now s.history s.listings c.in-Some.listing c.requires.tied.cancels.listings_are (search rules) (search rules) none c.list_there.new.state.history c.in-Err-list_there.ensures.part;
+      laws = c.in-Err-list_there.ensures.laws;
+      stop = move_stops_delivery s.cluster s.history c.list_there.new.state.history 0 c.in-Err-list_there.stop c.in-Err-list_there.ensures.stop;
+    }
 
-pub returns-in-Err-list_there-clause-part : goal.returns-in-Err-list_there-clause-part
-returns-in-Err-list_there-clause-part c =
-    let s = c.args.state.now in
-    let none = nothing_in_flight s.history s.flight _ c.requires.tied.ties.sent (search rules) in
-    listing_partly s.cluster s.corpus.now s.script.now s.history s.listings c.in-Some.listing c.requires.tied.cancels.listings_are (search rules) (search rules) none c.list_there.new.state.history c.in-Err-list_there.ensures.part
-
-pub returns-in-Ok-step_there-clause-moved : goal.returns-in-Ok-step_there-clause-moved
-returns-in-Ok-step_there-clause-moved c = λ _.
+pub returns-in-Ok-step_there : goal.returns-in-Ok-step_there
+returns-in-Ok-step_there c =
     let s = c.args.state.now in
     let none = nothing_in_flight s.history s.flight _ c.requires.tied.ties.sent (search rules) in
     let empty : btree_set_len s.listings ≡ 0 = search rules in
     let closed = none_open s.history s.listings c.requires.tied.cancels.listings_are empty in
-    first_move s.cluster s.corpus.now s.script.now s.history c.args.ready.now c.in-Some-copied.task c.requires.known (search rules) (search rules) none closed c.in-Ok-step_there.field-0 c.step_there.new.state.history c.in-Ok-step_there.ensures.stepped
+    record {
+      moved = λ _. first_move s.cluster s.corpus.now s.script.now s.history c.args.ready.now c.in-Some-copied.task c.requires.known (search rules) (search rules) none closed c.in-Ok-step_there.field-0 c.step_there.new.state.history c.in-Ok-step_there.ensures.stepped;
+      room = λ _. first_has_room s.cluster s.corpus.now s.script.now s.history c.args.ready.now c.in-Some-copied.task c.requires.known (search rules) (search rules) c.in-Ok-step_there.field-0 c.step_there.new.state.history c.in-Ok-step_there.ensures.stepped c.in-Ok-step_there.ensures.room;
+      rests = λ e. absurd (moves _ refl e);
+      tied = c.in-Ok-step_there.ensures.tied;
+      known = c.in-Ok-step_there.ensures.known;
+      keeps = c.in-Ok-step_there.ensures.keeps;
+      part = tt;
+      laws = c.in-Ok-step_there.ensures.laws;
+      stop = tt;
+    }
 
-pub returns-in-Ok-step_there-clause-room : goal.returns-in-Ok-step_there-clause-room
-returns-in-Ok-step_there-clause-room c = λ _.
-    let s = c.args.state.now in
-    first_has_room s.cluster s.corpus.now s.script.now s.history c.args.ready.now c.in-Some-copied.task c.requires.known (search rules) (search rules) c.in-Ok-step_there.field-0 c.step_there.new.state.history c.in-Ok-step_there.ensures.stepped c.in-Ok-step_there.ensures.room
-
-pub returns-in-Err-step_there-clause-part : goal.returns-in-Err-step_there-clause-part
-returns-in-Err-step_there-clause-part c =
+pub returns-in-Err-step_there : goal.returns-in-Err-step_there
+returns-in-Err-step_there c =
     let s = c.args.state.now in
     let none = nothing_in_flight s.history s.flight _ c.requires.tied.ties.sent (search rules) in
     let empty : btree_set_len s.listings ≡ 0 = search rules in
     let closed = none_open s.history s.listings c.requires.tied.cancels.listings_are empty in
-    first_part s.cluster s.corpus.now s.script.now s.history c.args.ready.now c.in-Some-copied.task c.requires.known (search rules) (search rules) none closed c.step_there.new.state.history c.in-Err-step_there.ensures.part
+    record {
+      moved = λ e. absurd (fails _ _ e);
+      room = λ e. absurd (fails _ _ e);
+      rests = λ e. absurd (fails _ _ e);
+      tied = tt;
+      known = tt;
+      keeps = c.in-Err-step_there.ensures.keeps;
+      part = first_part s.cluster s.corpus.now s.script.now s.history c.args.ready.now c.in-Some-copied.task c.requires.known (search rules) (search rules) none closed c.step_there.new.state.history c.in-Err-step_there.ensures.part;
+      laws = c.in-Err-step_there.ensures.laws;
+      stop = move_stops_delivery s.cluster s.history c.step_there.new.state.history 0 c.in-Err-step_there.stop c.in-Err-step_there.ensures.stop;
+    }
