@@ -6,30 +6,54 @@ use Rattle.world_steps.proofs.NoneDue.{none_due}
 use Rattle.world_steps.proofs.Plans.{does}
 use Rattle.world_steps.proofs.acting.work_on.Goals as goal
 
-pub returns-in-Wait-clause-stepped : goal.returns-in-Wait-clause-stepped
-returns-in-Wait-clause-stepped c =
+pub returns-in-Wait : goal.returns-in-Wait
+returns-in-Wait c =
     let s = c.args.state.now in
     let next = subst (DoesNext (task_at s.tasks c.args.task)) c.in-Wait.is c.requires.next in
-    (c.requires.live, does s.cluster s.corpus.now s.script.now s.history _ _ _ c.requires.tied.ties c.args.task c.requires.live c.requires.passed c.requires.unmarked (Wait c.in-Wait.field-0) next, refl)
+    record {
+      stepped = (c.requires.live, does s.cluster s.corpus.now s.script.now s.history _ _ _ c.requires.tied.ties c.args.task c.requires.live c.requires.passed c.requires.unmarked (Wait c.in-Wait.field-0) next, refl);
+      tied = c.requires.tied;
+      keeps = record { cluster = refl; corpus = refl; shards = refl; script = refl };
+      room = tt;
+      err = tt;
+      stop = tt;
+    }
 
-pub returns-in_ok-ask-in-AskNext-clause-stepped : goal.returns-in_ok-ask-in-AskNext-clause-stepped
-returns-in_ok-ask-in-AskNext-clause-stepped c =
+pub returns-in_ok-ask-in-AskNext : goal.returns-in_ok-ask-in-AskNext
+returns-in_ok-ask-in-AskNext c =
     let s = c.args.state.now in
     let next = subst (DoesNext (task_at s.tasks c.args.task)) c.in-AskNext.is c.requires.next in
-    (_, c.requires.live, does s.cluster s.corpus.now s.script.now s.history _ _ _ c.requires.tied.ties c.args.task c.requires.live c.requires.passed c.requires.unmarked (AskNext c.in-AskNext.request) next, c.in_ok-ask-in-AskNext.ensures.happened)
+    record {
+      stepped = (_, c.requires.live, does s.cluster s.corpus.now s.script.now s.history _ _ _ c.requires.tied.ties c.args.task c.requires.live c.requires.passed c.requires.unmarked (AskNext c.in-AskNext.request) next, c.in_ok-ask-in-AskNext.ensures.happened);
+      tied = c.in_ok-ask-in-AskNext.ensures.tied;
+      keeps = c.in_ok-ask-in-AskNext.ensures.keeps;
+      room = c.in_ok-ask-in-AskNext.ensures.room;
+      err = tt;
+      stop = tt;
+    }
 
-pub returns-in_ok-turn-in-Turn-clause-stepped : goal.returns-in_ok-turn-in-Turn-clause-stepped
-returns-in_ok-turn-in-Turn-clause-stepped c =
+pub returns-in_ok-turn-in-Turn : goal.returns-in_ok-turn-in-Turn
+returns-in_ok-turn-in-Turn c =
     let s = c.args.state.now in
     let next = subst (DoesNext (task_at s.tasks c.args.task)) c.in-Turn.is c.requires.next in
-    (_, c.requires.live, does s.cluster s.corpus.now s.script.now s.history _ _ _ c.requires.tied.ties c.args.task c.requires.live c.requires.passed c.requires.unmarked Turn next, c.in_ok-turn-in-Turn.ensures.happened)
+    record {
+      stepped = (_, c.requires.live, does s.cluster s.corpus.now s.script.now s.history _ _ _ c.requires.tied.ties c.args.task c.requires.live c.requires.passed c.requires.unmarked Turn next, c.in_ok-turn-in-Turn.ensures.happened);
+      tied = c.in_ok-turn-in-Turn.ensures.tied;
+      keeps = c.in_ok-turn-in-Turn.ensures.keeps;
+      room = c.in_ok-turn-in-Turn.ensures.room;
+      err = tt;
+      stop = tt;
+    }
 
-pub returns-in_ok-finish-in-Finish-clause-stepped : goal.returns-in_ok-finish-in-Finish-clause-stepped
-returns-in_ok-finish-in-Finish-clause-stepped c =
+pub returns-in_ok-finish-in-Finish : goal.returns-in_ok-finish-in-Finish
+returns-in_ok-finish-in-Finish c =
     let s = c.args.state.now in
-    let next = subst (DoesNext (task_at s.tasks c.args.task)) c.in-Finish.is c.requires.next in (
-      _,
-      c.requires.live,
-      does s.cluster s.corpus.now s.script.now s.history _ _ _ c.requires.tied.ties c.args.task c.requires.live c.requires.passed c.requires.unmarked (Finish c.in-Finish.reply) next,
-      c.in_ok-finish-in-Finish.ensures.happened ∙ sym (none_due c.args.task (End c.args.task c.in-Finish.reply ∷ s.history) c.requires.unmarked),
-    )
+    let next = subst (DoesNext (task_at s.tasks c.args.task)) c.in-Finish.is c.requires.next in
+    record {
+      stepped = (_, c.requires.live, does s.cluster s.corpus.now s.script.now s.history _ _ _ c.requires.tied.ties c.args.task c.requires.live c.requires.passed c.requires.unmarked (Finish c.in-Finish.reply) next, c.in_ok-finish-in-Finish.ensures.happened ∙ sym (none_due c.args.task (End c.args.task c.in-Finish.reply ∷ s.history) c.requires.unmarked));
+      tied = c.in_ok-finish-in-Finish.ensures.tied;
+      keeps = c.in_ok-finish-in-Finish.ensures.keeps;
+      room = c.in_ok-finish-in-Finish.ensures.room;
+      err = tt;
+      stop = tt;
+    }
