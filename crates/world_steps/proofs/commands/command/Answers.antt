@@ -38,8 +38,12 @@ returns-in-Ok-act_on c =
     let there = rw (c.as_slice.ensures ∙ ap (λ script. script.commands) c.in-Ok.ensures.keeps.script) at at in
     let known = at_number s.script.now c.args.k c.in-Some.command.now (omega (arith, c.requires.next)) there in
     record {
-      done = (c.in-Some.command.now, known, carried (λ cluster corpus script h. Does cluster corpus script c.args.k c.in-Some.command.now h c.act_on.new.state.history) _ _ _ _ _ _ _ _
-          c.in-Ok.ensures.keeps.cluster c.in-Ok.ensures.keeps.corpus c.in-Ok.ensures.keeps.script c.in-Ok.ensures.happened c.in-Ok-act_on.ensures.done);
+      done = (
+        c.in-Some.command.now,
+        known,
+        carried (λ cluster corpus script h. Does cluster corpus script c.args.k c.in-Some.command.now h c.act_on.new.state.history) _ _ _ _ _ _ _ _
+            c.in-Ok.ensures.keeps.cluster c.in-Ok.ensures.keeps.corpus c.in-Ok.ensures.keeps.script c.in-Ok.ensures.happened c.in-Ok-act_on.ensures.done,
+      );
       tied = c.in-Ok-act_on.ensures.tied;
       known = c.in-Ok-act_on.ensures.known;
       keeps = keeps_on c.in-Ok.ensures.keeps c.in-Ok-act_on.ensures.keeps;
@@ -60,8 +64,12 @@ returns-in-Err-act_on c =
       tied = tt;
       known = tt;
       keeps = keeps_on c.in-Ok.ensures.keeps c.in-Err-act_on.ensures.keeps;
-      part = inr (c.in-Some.command.now, known, carried (λ cluster corpus script h. PartlyDoes cluster corpus script c.args.k c.in-Some.command.now h c.act_on.new.state.history) _ _ _ _ _ _ _ _
-          c.in-Ok.ensures.keeps.cluster c.in-Ok.ensures.keeps.corpus c.in-Ok.ensures.keeps.script c.in-Ok.ensures.happened c.in-Err-act_on.ensures.part);
+      part = inr (
+        c.in-Some.command.now,
+        known,
+        carried (λ cluster corpus script h. PartlyDoes cluster corpus script c.args.k c.in-Some.command.now h c.act_on.new.state.history) _ _ _ _ _ _ _ _
+            c.in-Ok.ensures.keeps.cluster c.in-Ok.ensures.keeps.corpus c.in-Ok.ensures.keeps.script c.in-Ok.ensures.happened c.in-Err-act_on.ensures.part,
+      );
       laws = c.in-Err-act_on.ensures.laws;
       stop = subst (λ cluster. StopsRun cluster c.act_on.new.state.history c.in-Err-act_on.stop) c.in-Ok.ensures.keeps.cluster c.in-Err-act_on.ensures.stop;
     }
