@@ -1,6 +1,6 @@
 //! The next step of a live task.
 
-ghost use Rattle.std.specs.Prelude.{◌≡◌, true, false, not, Ok, Some, None, IfOk, IfErr, OnOk, OnErr};
+ghost use Rattle.std.specs.Prelude.{◌≡◌, true, false, not, Some, None, IfOk, IfErr, OnOk, OnErr};
 ghost use Rattle.task_events.specs.Bans.{mark_of, ban_over};
 ghost use Rattle.task_events.specs.Tasks.{is_live, is_new};
 ghost use Rattle.world_moves.specs.Facts.{awaited_by, none_awaited};
