@@ -1,6 +1,6 @@
 -- Some first moves and one more.
 use Rattle.std.proofs.lemmas.List.{length-append}
-use Rattle.std.proofs.Common.{◌<◌, ◌≤◌, reverse, ℕ, ◌+◌, ◌-◌, List, [], ◌∷◌, ◌++◌, length, refl, sym, subst, ◌∙◌, inl, inr, arith}
+use Rattle.std.proofs.Common.{◌<◌, ◌≤◌, reverse, ℕ, ◌-◌, List, [], ◌∷◌, ◌++◌, length, refl, sym, subst, ◌∙◌, inl, inr, arith}
 use Rattle.task_ids.specs.declared.cluster.Cluster.{Cluster}
 use Rattle.task_ids.specs.declared.corpus.Corpus.{Corpus}
 use Rattle.task_events.specs.declared.event.Event.{Event}
