@@ -1,4 +1,4 @@
--- What a task is of, and a live task that asks for a child or takes an answer.
+-- The kind of the task that a request asks for, and a live task that asks for a child or takes an answer.
 use Rattle.std.specs.Prelude.{◌≡◌, ℕ, ◌+◌, List, length, Option, Some, None}
 use Rattle.task_ids.specs.declared.action.Action.{Action}
 use Rattle.task_ids.specs.declared.action.Action.TheVariants as actions
