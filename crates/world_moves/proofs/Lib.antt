@@ -14,6 +14,7 @@ pub mod ByPlace
 pub mod CancelledEnds
 pub mod Children
 pub mod CoresAfter
+pub mod CutShort
 pub mod DueActs
 pub mod EndsAfter
 pub mod EndsGood

@@ -55,18 +55,6 @@ LacksNumber cluster h _ = ⊥
 abbrev pub DeliveryLacksNumber : Cluster → List Event → ℕ → Type 0
 DeliveryLacksNumber cluster h nth = (m : Message) × (slice_get (in_flight h) nth ≡ Some m) × LacksNumber cluster h m
 
--- Why a delivery comes to an early end, with this past: one more event does not fit, no number is left, or memory ran out.
-abbrev pub StopsDelivery : Cluster → List Event → ℕ → List Event → Stop → Type 0
-StopsDelivery cluster h nth new HistoryFull = length new ≡ MAX_EVENTS
-StopsDelivery cluster h nth new NumbersSpent = DeliveryLacksNumber cluster h nth × (new ≡ h)
-StopsDelivery cluster h nth new Memory = ⊤
-
--- Why a move comes to an early end that needs no number.
-abbrev pub StopsMove : List Event → Stop → Type 0
-StopsMove new HistoryFull = length new ≡ MAX_EVENTS
-StopsMove new NumbersSpent = ⊥
-StopsMove new Memory = ⊤
-
 -- On the way from one past to a whole one some of the events have come.
 abbrev pub IsPartOf : List Event → List Event → List Event → Type 0
 IsPartOf h new whole = (later earlier : List Event) × (whole ≡ later ++ new) × (new ≡ earlier ++ h)
@@ -74,6 +62,22 @@ IsPartOf h new whole = (later earlier : List Event) × (whole ≡ later ++ new) 
 -- The past is as it was, or some of the events of the move have come.
 abbrev pub IsPartly : (List Event → List Event → Type 0) → List Event → List Event → Type 0
 IsPartly Moves h new = (new ≡ h) ⊎ ((whole : List Event) × Moves h whole × IsPartOf h new whole)
+
+-- The history is full, and one event more, at least, belongs to what was to be done, of which these pasts are first parts.
+abbrev pub IsCutShort : (List Event → Type 0) → List Event → Type 0
+IsCutShort IsPart new = (length new ≡ MAX_EVENTS) × (e : Event) × IsPart (e ∷ new)
+
+-- Why a delivery comes to an early end, with this past: its next event does not fit, no number is left, or memory ran out.
+abbrev pub StopsDelivery : Cluster → List Event → ℕ → List Event → Stop → Type 0
+StopsDelivery cluster h nth new HistoryFull = IsCutShort (IsPartly (λ x y. Delivers cluster x nth y) h) new
+StopsDelivery cluster h nth new NumbersSpent = DeliveryLacksNumber cluster h nth × (new ≡ h)
+StopsDelivery cluster h nth new Memory = ⊤
+
+-- Why a move comes to an early end that needs no number.
+abbrev pub StopsMove : (List Event → List Event → Type 0) → List Event → List Event → Stop → Type 0
+StopsMove Moves h new HistoryFull = IsCutShort (IsPartly Moves h) new
+StopsMove Moves h new NumbersSpent = ⊥
+StopsMove Moves h new Memory = ⊤
 
 -- The event with which a task leaves that a cancellation has stopped: a child that has not passed is refused, and a marked task ends once its asks are answered.
 abbrev pub MayLeave : TaskId → Event → List Event → Type 0

@@ -7,7 +7,7 @@ ghost use Rattle.task_work.specs.Works.{work_takes};
 ghost use Rattle.world_moves.specs.Asking.{running_with_answer};
 ghost use Rattle.world_moves.specs.declared.flight.Sent.TheVariants.{Answer};
 ghost use Rattle.world_moves.specs.Flights.{event_at, reply_in, is_answer_entry};
-ghost use Rattle.world_moves.specs.Moves.{Delivers};
+ghost use Rattle.world_moves.specs.Moves.{Delivers, IsPartly, IsCutShort};
 ghost use Rattle.world_moves.specs.Ties.{IsTied, Keeps};
 
 use crate::append::append;
@@ -96,7 +96,7 @@ pub fn deliver_answer(state: &mut State<'_>, nth: usize) -> Result<(), Stop>
     ensures tied { OnOk result (IsTied state.new) }
     ensures keeps { Keeps state.old state.new }
     ensures err { OnErr result (state.new.history ≡ state.old.history) }
-    ensures full { result ≡ Err Stop.HistoryFull → length state.old.history ≡ MAX_EVENTS }
+    ensures full { result ≡ Err Stop.HistoryFull → IsCutShort (IsPartly (λ h new. Delivers state.old.cluster h nth new) state.old.history) state.new.history }
     ensures numbers { result ≡ Err Stop.NumbersSpent → ⊥ }
     ensures room { OnOk result (length state.new.history ≤ MAX_EVENTS) }
 {

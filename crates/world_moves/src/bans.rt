@@ -4,7 +4,7 @@ ghost use Rattle.std.specs.Prelude.{◌≡◌, ◌≤◌, length, slice_get, Err
 ghost use Rattle.task_events.specs.declared.history.TheConstants.{MAX_EVENTS};
 ghost use Rattle.world_moves.specs.declared.flight.Notice.TheVariants as notices;
 ghost use Rattle.world_moves.specs.declared.flight.Sent.TheVariants as sent;
-ghost use Rattle.world_moves.specs.Moves.{Delivers, IsPartly, StopsDelivery};
+ghost use Rattle.world_moves.specs.Moves.{Delivers, IsPartly, IsCutShort, StopsDelivery};
 ghost use Rattle.world_moves.specs.Ties.{IsTied, Keeps, KeepsLaws};
 
 use crate::append::append;
@@ -31,7 +31,7 @@ fn deliver_ban(
     ensures keeps { Keeps state.old state.new }
     ensures room { OnOk result (length state.new.history ≤ MAX_EVENTS) }
     ensures err { OnErr result (state.new.history ≡ state.old.history) }
-    ensures full { result ≡ Err Stop.HistoryFull → length state.old.history ≡ MAX_EVENTS }
+    ensures full { result ≡ Err Stop.HistoryFull → IsCutShort (IsPartly (λ h new. Delivers state.old.cluster h nth new) state.old.history) state.new.history }
     ensures numbers { result ≡ Err Stop.NumbersSpent → ⊥ }
 {
     let ban = state.flight.take(nth);
@@ -67,7 +67,7 @@ fn deliver_ack(state: &mut State<'_>, nth: usize, parent: TaskId, node: u32) -> 
     ensures room { OnOk result (length state.new.history ≤ MAX_EVENTS) }
     ensures part { OnErr result (IsPartly (λ h new. Delivers state.old.cluster h nth new) state.old.history state.new.history) }
     ensures laws { OnErr result (KeepsLaws state.new) }
-    ensures full { result ≡ Err Stop.HistoryFull → length state.new.history ≡ MAX_EVENTS }
+    ensures full { result ≡ Err Stop.HistoryFull → IsCutShort (IsPartly (λ h new. Delivers state.old.cluster h nth new) state.old.history) state.new.history }
     ensures numbers { result ≡ Err Stop.NumbersSpent → ⊥ }
 {
     let ack = state.flight.take(nth);
@@ -93,7 +93,7 @@ fn deliver_unban(state: &mut State<'_>, nth: usize, parent: TaskId, node: u32) -
     ensures keeps { Keeps state.old state.new }
     ensures room { OnOk result (length state.new.history ≤ MAX_EVENTS) }
     ensures err { OnErr result (state.new.history ≡ state.old.history) }
-    ensures full { result ≡ Err Stop.HistoryFull → length state.old.history ≡ MAX_EVENTS }
+    ensures full { result ≡ Err Stop.HistoryFull → IsCutShort (IsPartly (λ h new. Delivers state.old.cluster h nth new) state.old.history) state.new.history }
     ensures numbers { result ≡ Err Stop.NumbersSpent → ⊥ }
 {
     let unban = state.flight.take(nth);

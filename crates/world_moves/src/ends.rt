@@ -11,7 +11,7 @@ ghost use Rattle.task_events.specs.Tasks.{is_live, is_new, no_counts};
 ghost use Rattle.task_events.specs.declared.reply.Reply.TheVariants.{Cancelled};
 ghost use Rattle.world_moves.specs.Cancels.{with_answers, with_due};
 ghost use Rattle.world_moves.specs.Flights.{told_parent};
-ghost use Rattle.world_moves.specs.Moves.{IsPartOf, MayLeave, StopsMove};
+ghost use Rattle.world_moves.specs.Moves.{IsPartOf, IsCutShort, MayLeave};
 ghost use Rattle.world_moves.specs.Ties.{IsTied, Keeps, HasShards, DoesNext, task_at, KeepsLaws};
 
 use crate::append::append;
@@ -96,7 +96,7 @@ fn leave(state: &mut State<'_>, task: TaskId, event: Event) -> Result<(), Stop>
     ensures room { OnOk result (length state.new.history ≤ MAX_EVENTS) }
     ensures part { OnErr result (IsPartOf state.old.history state.new.history (with_answers task (event ∷ state.old.history))) }
     ensures laws { OnErr result (KeepsLaws state.new) }
-    ensures full { result ≡ Err Stop.HistoryFull → length state.new.history ≡ MAX_EVENTS }
+    ensures full { result ≡ Err Stop.HistoryFull → IsCutShort (λ past. IsPartOf state.old.history past (with_answers task (event ∷ state.old.history))) state.new.history }
     ensures numbers { result ≡ Err Stop.NumbersSpent → ⊥ }
 {
     let place = task.node as usize - 1;
@@ -141,7 +141,8 @@ pub fn refuse(state: &mut State<'_>, task: TaskId, cancel: u32) -> Result<(), St
     ensures room { OnOk result (length state.new.history ≤ MAX_EVENTS) }
     ensures part { OnErr result (IsPartOf state.old.history state.new.history (with_due (Event.Refuse task cancel) state.old.history)) }
     ensures laws { OnErr result (KeepsLaws state.new) }
-    ensures stop { IfErr result (λ stop. StopsMove state.new.history stop) }
+    ensures full { result ≡ Err Stop.HistoryFull → IsCutShort (λ past. IsPartOf state.old.history past (with_due (Event.Refuse task cancel) state.old.history)) state.new.history }
+    ensures numbers { result ≡ Err Stop.NumbersSpent → ⊥ }
 {
     leave(state, task, Event::Refuse { task, cancel })
 }
@@ -162,7 +163,8 @@ pub fn finish_cancelled(state: &mut State<'_>, task: TaskId, cancel: u32) -> Res
     ensures room { OnOk result (length state.new.history ≤ MAX_EVENTS) }
     ensures part { OnErr result (IsPartOf state.old.history state.new.history (with_due (Event.End task (Cancelled task cancel no_counts)) state.old.history)) }
     ensures laws { OnErr result (KeepsLaws state.new) }
-    ensures stop { IfErr result (λ stop. StopsMove state.new.history stop) }
+    ensures full { result ≡ Err Stop.HistoryFull → IsCutShort (λ past. IsPartOf state.old.history past (with_due (Event.End task (Cancelled task cancel no_counts)) state.old.history)) state.new.history }
+    ensures numbers { result ≡ Err Stop.NumbersSpent → ⊥ }
 {
     let reply = Reply::cancelled(task, cancel);
     leave(state, task, Event::End { task, reply })

@@ -94,7 +94,7 @@ fn list(state: &mut State<'_>, listing: Listing) -> Result<(), Stop>
     ensures room { OnOk result (length state.new.history ≤ MAX_EVENTS) }
     ensures part { OnErr result (IsPartly (ListSteps listing) state.old.history state.new.history) }
     ensures laws { OnErr result (KeepsLaws state.new) }
-    ensures stop { IfErr result (λ stop. StopsMove state.new.history stop) }
+    ensures stop { IfErr result (λ stop. StopsMove (ListSteps listing) state.old.history state.new.history stop) }
 {
     match next_child(state, listing) {
         Some((task, cancel)) => match mark(state, task, cancel, None) {
@@ -120,7 +120,7 @@ pub fn list_step(state: &mut State<'_>, listing: Listing) -> Result<ListStep, St
     ensures room { result ≡ Ok ListStep.Done → length state.new.history ≤ MAX_EVENTS }
     ensures part { OnErr result (IsPartly (ListSteps listing) state.old.history state.new.history) }
     ensures laws { OnErr result (KeepsLaws state.new) }
-    ensures stop { IfErr result (λ stop. StopsMove state.new.history stop) }
+    ensures stop { IfErr result (λ stop. StopsMove (ListSteps listing) state.old.history state.new.history stop) }
 {
     if !state.listings.contains(&listing) {
         return Ok(ListStep::NoListing);

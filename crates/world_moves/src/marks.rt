@@ -6,7 +6,7 @@ ghost use Rattle.task_events.specs.declared.history.TheConstants.{MAX_EVENTS};
 ghost use Rattle.task_events.specs.Lawful.{Lawful};
 ghost use Rattle.world_moves.specs.Cancels.{waiting_for, waits_for_end, with_answers};
 ghost use Rattle.world_moves.specs.Cancelling.{waiting_but, cancels_of};
-ghost use Rattle.world_moves.specs.Moves.{IsPartOf};
+ghost use Rattle.world_moves.specs.Moves.{IsPartOf, IsCutShort};
 ghost use Rattle.world_moves.specs.Ties.{HasTies, HasCancels, IsTied, Keeps, KeepsLaws};
 
 use crate::append::append;
@@ -39,7 +39,7 @@ pub fn mark(
     ensures room { OnOk result (length state.new.history ≤ MAX_EVENTS) }
     ensures part { OnErr result (IsPartOf state.old.history state.new.history (with_answers task (Event.Mark task cancel ∷ state.old.history))) }
     ensures laws { OnErr result (KeepsLaws state.new) }
-    ensures full { result ≡ Err Stop.HistoryFull → length state.new.history ≡ MAX_EVENTS }
+    ensures full { result ≡ Err Stop.HistoryFull → IsCutShort (λ past. IsPartOf state.old.history past (with_answers task (Event.Mark task cancel ∷ state.old.history))) state.new.history }
     ensures numbers { result ≡ Err Stop.NumbersSpent → ⊥ }
 {
     let place = task.node as usize - 1;

@@ -2,8 +2,9 @@
 
 ghost use Rattle.std.specs.Prelude.{◌≡◌, ◌∷◌, [], ◌++◌, ◌≤◌, length, Err, OnOk, OnErr};
 ghost use Rattle.task_events.specs.declared.history.TheConstants.{MAX_EVENTS};
+ghost use Rattle.task_events.specs.declared.event.Event.{Event};
 ghost use Rattle.world_moves.specs.Acts.{messages_in, answers_in};
-ghost use Rattle.world_moves.specs.Moves.{IsPartOf};
+ghost use Rattle.world_moves.specs.Moves.{IsPartOf, IsCutShort};
 
 use crate::append::append;
 use crate::flight::{Flight, Notice, Sent};
@@ -18,7 +19,7 @@ fn perform_one(flight: &mut Flight, history: &mut History, node: u32, act: &Act)
     ensures answered { OnOk result (history.new ≡ answers_in (act.now ∷ []) ++ history.old) }
     ensures room { OnOk result (length history.new ≤ MAX_EVENTS) }
     ensures err { OnErr result (history.new ≡ history.old) }
-    ensures full { result ≡ Err Stop.HistoryFull → length history.old ≡ MAX_EVENTS }
+    ensures full { result ≡ Err Stop.HistoryFull → (length history.old ≡ MAX_EVENTS) × (e : Event) × (answers_in (act.now ∷ []) ≡ e ∷ []) }
     ensures numbers { result ≡ Err Stop.NumbersSpent → ⊥ }
 {
     let notice = match *act {
@@ -54,7 +55,7 @@ pub fn perform(
     ensures answered { OnOk result (history.new ≡ answers_in acts.now ++ history.old) }
     ensures room { OnOk result (length history.new ≤ MAX_EVENTS) }
     ensures part { OnErr result (IsPartOf history.old history.new (answers_in acts.now ++ history.old)) }
-    ensures full { result ≡ Err Stop.HistoryFull → length history.new ≡ MAX_EVENTS }
+    ensures full { result ≡ Err Stop.HistoryFull → IsCutShort (λ past. IsPartOf history.old past (answers_in acts.now ++ history.old)) history.new }
     ensures numbers { result ≡ Err Stop.NumbersSpent → ⊥ }
 {
     for act in acts {

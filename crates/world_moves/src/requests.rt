@@ -3,7 +3,7 @@
 ghost use Rattle.std.specs.Prelude.{◌≡◌, ◌∷◌, ◌++◌, [], ◌≤◌, true, length, remove, slice_get, option_and_then, Err, Some, None, IsSome, OnOk, OnErr};
 ghost use Rattle.task_events.specs.declared.history.TheConstants.{MAX_EVENTS};
 ghost use Rattle.world_moves.specs.Flights.{event_at, request_in, is_request_entry};
-ghost use Rattle.world_moves.specs.Moves.{Delivers, DeliveryLacksNumber};
+ghost use Rattle.world_moves.specs.Moves.{Delivers, DeliveryLacksNumber, IsPartly, IsCutShort};
 ghost use Rattle.world_moves.specs.Ties.{IsTied, Keeps};
 
 use crate::append::append;
@@ -80,7 +80,7 @@ pub fn deliver_request(state: &mut State<'_>, nth: usize) -> Result<(), Stop>
     ensures tied { OnOk result (IsTied state.new) }
     ensures keeps { Keeps state.old state.new }
     ensures err { OnErr result (state.new.history ≡ state.old.history) }
-    ensures full { result ≡ Err Stop.HistoryFull → length state.old.history ≡ MAX_EVENTS }
+    ensures full { result ≡ Err Stop.HistoryFull → IsCutShort (IsPartly (λ h new. Delivers state.old.cluster h nth new) state.old.history) state.new.history }
     ensures spent { result ≡ Err Stop.NumbersSpent
         → DeliveryLacksNumber state.old.cluster state.old.history nth }
     ensures room { OnOk result (length state.new.history ≤ MAX_EVENTS) }

@@ -10,6 +10,7 @@ use Rattle.world_moves.proofs.StepsAfter.{is_kept}
 use Rattle.world_moves.proofs.AnswersAfter.{has_parent, has_reply, asker_live, own, takes_reply, delivers, after_answer}
 use Rattle.world_moves.proofs.SameTies.{same_ties, same_cancels}
 use Rattle.world_moves.proofs.Uninvolved.{noted}
+use Rattle.world_moves.proofs.CutShort.{cut_only, of_err}
 use Rattle.corpus_shards.proofs.Cases.{some_of, then_ok}
 use Rattle.world_moves.proofs.answers.deliver_answer.Goals as goal
 
@@ -66,3 +67,9 @@ returns-clause-tied c =
 
 pub returns-clause-room : goal.returns-clause-room
 returns-clause-room c = c.append.ensures.room
+
+pub returns-clause-full : goal.returns-clause-full
+returns-clause-full c = λ failed.
+    let s = c.args.state.now in
+    let moves = delivers s.cluster s.corpus.now s.script.now s.history _ _ _ c.requires.tied.ties c.args.nth c.take_answer-receipt.result.0 c.take_answer-receipt.result.1 c.take_answer-receipt.ensures.taken c.in-Some.parent (sym c.parent.ensures ∙ c.in-Some.is) c.in_ok-reply.reply c.in_ok-reply.ensures.reply in
+    cut_only (λ x y. Delivers s.cluster x c.args.nth y) s.history c.append.new.history _ moves (c.append.ensures.full.0 failed) (of_err c.append.result _ _ failed c.append.ensures.err)

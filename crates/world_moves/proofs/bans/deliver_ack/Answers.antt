@@ -1,17 +1,19 @@
-use Rattle.std.proofs.Common.{◌∙◌, ◌∷◌, [], ◌++◌, Some, sym, ap, subst, arith}
-use Rattle.std.specs.Prelude.{Contains, remove, unwrap_or}
+use Rattle.std.proofs.Common.{◌≡◌, rules, length, ◌∙◌, ◌∷◌, [], ◌++◌, Some, refl, sym, ap, subst, arith}
+use Rattle.std.specs.Prelude.{Contains, remove, reverse, unwrap_or}
 use Rattle.std.proofs.lemmas.Option.{get_or_from_slice_get}
 use Rattle.cancel_core.specs.Acts.{due_acts}
 use Rattle.cancel_core.specs.Cancellation.{Cancellation, opened, with_ack, rest_of}
 use Rattle.cancel_core.specs.Cancellations.{with_entry}
 use Rattle.task_events.specs.declared.event.Event.TheVariants.{Acked}
-use Rattle.world_moves.specs.Acts.{messages_in}
-use Rattle.world_moves.specs.Cancels.{waiting_for}
-use Rattle.world_moves.specs.Moves.{Delivers}
+use Rattle.task_events.specs.declared.history.TheConstants.{MAX_EVENTS}
+use Rattle.world_moves.specs.Acts.{messages_in, answers_in}
+use Rattle.world_moves.specs.Cancels.{waiting_for, due_answers}
+use Rattle.world_moves.specs.Moves.{Delivers, IsPartOf, IsPartly}
 use Rattle.world_moves.proofs.AcksAfter.{ack_high, ack_core, ack_entry, ack_awaited, tied_after, noted_after, ack_happened, delivers_ack, partly_ack, part_laws}
 use Rattle.world_moves.proofs.AnswersCome.{answers_await}
 use Rattle.world_moves.proofs.CoresAfter.{has_core}
 use Rattle.corpus_shards.proofs.Cases.{then_ok, both_ok, then_err}
+use Rattle.world_moves.proofs.CutShort.{cut_as, cut_first, cut_move}
 use Rattle.world_moves.proofs.bans.deliver_ack.Goals as goal
 
 pub index_mut-requires : goal.index_mut-requires
@@ -91,3 +93,25 @@ returns-clause-tied c =
           _ _ s.cores.items _ c.requires.tied.cancels high c.index_mut.result.now here);
       awaits = rw happened (answers_await s.cluster p (Acked p n ∷ s.history) tt);
     }))
+
+pub returns-clause-full : goal.returns-clause-full
+returns-clause-full c = λ failed.
+    let s = c.args.state.now in
+    let on = ack_core s.cluster s.corpus.now s.script.now s.history _ _ s.flight c.requires.tied.ties c.requires.tied.awaits c.args.nth c.args.parent c.args.node c.requires.there s.cores.items c.requires.tied.cancels.cores_are in
+    let is = c.index_mut.ensures.value ∙ get_or_from_slice_get s.cores.items _ on.0 _ on.1 in
+    let e = ack_entry s.cluster s.corpus.now s.script.now s.history _ _ s.flight c.requires.tied.ties c.requires.tied.awaits c.args.nth c.args.parent c.args.node c.requires.there s.cores.items c.requires.tied.cancels.cores_are c.index_mut.result.now (on.1 ∙ ap Some (sym is)) in
+    let entry = ap (λ o. unwrap_or o (opened 0 [])) e.1 in
+    let acts = c.as_slice.ensures.value ∙ c.in-Ok.ensures.acts ∙ ap (λ k. due_acts c.args.parent (with_ack k c.args.node)) entry in
+    cut_as (λ past. IsPartOf c.append.new.history past (answers_in c.as_slice.result.now ++ c.append.new.history)) (IsPartly (λ x y. Delivers s.cluster x c.args.nth y) s.history) c.perform.new.history (λ past performed.
+    partly_ack s.cluster s.corpus.now s.script.now s.history _ _ s.flight c.requires.tied.ties c.requires.tied.awaits c.args.nth c.args.parent c.args.node c.requires.there e.0 e.2 c.requires.tied.cancels.one_task
+    c.append.new.history past _ c.in_ok-append.ensures.ok acts performed) (c.perform.ensures.full failed)
+
+pub returns-in_err-append-clause-full : goal.returns-in_err-append-clause-full
+returns-in_err-append-clause-full c = λ failed.
+    let s = c.args.state.now in
+    let full : length s.history ≡ MAX_EVENTS = search rules in
+    let on = ack_core s.cluster s.corpus.now s.script.now s.history _ _ s.flight c.requires.tied.ties c.requires.tied.awaits c.args.nth c.args.parent c.args.node c.requires.there s.cores.items c.requires.tied.cancels.cores_are in
+    let is = c.index_mut.ensures.value ∙ get_or_from_slice_get s.cores.items _ on.0 _ on.1 in
+    let e = ack_entry s.cluster s.corpus.now s.script.now s.history _ _ s.flight c.requires.tied.ties c.requires.tied.awaits c.args.nth c.args.parent c.args.node c.requires.there s.cores.items c.requires.tied.cancels.cores_are c.index_mut.result.now (on.1 ∙ ap Some (sym is)) in
+    cut_move (λ x y. Delivers s.cluster x c.args.nth y) s.history c.append.new.history _ (delivers_ack s.cluster s.corpus.now s.script.now s.history _ _ s.flight c.requires.tied.ties c.requires.tied.awaits c.args.nth c.args.parent c.args.node c.requires.there e.0 e.2 c.requires.tied.cancels.one_task)
+    (cut_first s.history c.append.new.history (reverse (due_answers c.args.parent (Acked c.args.parent c.args.node ∷ s.history))) (Acked c.args.parent c.args.node) full c.in_err-append.ensures.err)

@@ -2,9 +2,11 @@ use Rattle.std.proofs.Common.{◌∙◌, Some, Ok, refl, sym, ap, arith}
 use Rattle.std.proofs.lemmas.Option.{get_or_from_slice_get}
 use Rattle.task_events.specs.declared.event.Event.TheVariants.{BanPut}
 use Rattle.task_events.specs.Messages.Message.{Ban}
+use Rattle.world_moves.specs.Moves.{Delivers}
 use Rattle.world_moves.proofs.BansAfter.{bans_on, has_bans, bans_tell, tied_put, noted_put}
 use Rattle.world_moves.proofs.BansCome.{ban_here, ban_number, ban_in, ban_free}
 use Rattle.corpus_shards.proofs.Cases.{then_ok}
+use Rattle.world_moves.proofs.CutShort.{cut_only, of_err}
 use Rattle.world_moves.proofs.bans.deliver_ban.Goals as goal
 
 pub overflow_sub-node : goal.overflow_sub-node
@@ -56,3 +58,11 @@ returns-clause-tied c =
       cancels = rw (happened, put) (noted_put s.cluster s.history _ _ s.bans.items _ _ c.requires.tied.cancels c.args.node node.0 node.1 c.args.parent c.index_mut.result.now here c.args.cancel c.insert.new.self c.in-Ok.ensures.updates.0);
       awaits = rw happened tt;
     })
+
+pub returns-clause-full : goal.returns-clause-full
+returns-clause-full c = λ failed.
+    let s = c.args.state.now in
+    let here = ban_here s.cluster s.corpus.now s.script.now s.history _ _ s.flight c.requires.tied.ties c.args.nth c.args.parent c.args.cancel c.args.node c.requires.there in
+    let e = BanPut c.args.node c.args.parent c.args.cancel in
+    cut_only (λ x y. Delivers s.cluster x c.args.nth y) s.history c.append.new.history e (Ban c.args.parent c.args.cancel c.args.node, e, here, (refl, refl, refl), refl)
+    (c.append.ensures.full.0 failed) (of_err c.append.result _ _ failed c.append.ensures.err)

@@ -2,9 +2,11 @@ use Rattle.std.proofs.Common.{◌∙◌, Some, refl, sym, ap, arith}
 use Rattle.std.proofs.lemmas.Option.{get_or_from_slice_get}
 use Rattle.task_events.specs.declared.event.Event.TheVariants.{BanGone}
 use Rattle.task_events.specs.Messages.Message.{Unban}
+use Rattle.world_moves.specs.Moves.{Delivers}
 use Rattle.world_moves.proofs.BansAfter.{bans_on, has_bans, tied_gone, noted_gone}
 use Rattle.world_moves.proofs.BansCome.{unban_here, unban_in}
 use Rattle.corpus_shards.proofs.Cases.{then_ok}
+use Rattle.world_moves.proofs.CutShort.{cut_only, of_err}
 use Rattle.world_moves.proofs.bans.deliver_unban.Goals as goal
 
 pub overflow_sub-node : goal.overflow_sub-node
@@ -38,3 +40,11 @@ returns-clause-tied c =
       cancels = rw (happened, c.remove-stood.ensures.removed) (noted_gone s.cluster s.history _ _ s.bans.items _ _ c.requires.tied.cancels c.args.node node.0 node.1 c.args.parent c.index_mut.result.now here);
       awaits = rw happened tt;
     })
+
+pub returns-clause-full : goal.returns-clause-full
+returns-clause-full c = λ failed.
+    let s = c.args.state.now in
+    let here = unban_here s.cluster s.corpus.now s.script.now s.history _ _ s.flight c.requires.tied.ties c.args.nth c.args.parent c.args.node c.requires.there in
+    let e = BanGone c.args.node c.args.parent in
+    cut_only (λ x y. Delivers s.cluster x c.args.nth y) s.history c.append.new.history e (Unban c.args.parent c.args.node, e, here, (refl, refl), refl)
+    (c.append.ensures.full.0 failed) (of_err c.append.result _ _ failed c.append.ensures.err)

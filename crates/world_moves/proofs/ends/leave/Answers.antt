@@ -1,12 +1,14 @@
-use Rattle.std.proofs.Common.{◌∙◌, ◌∷◌, ◌++◌, ◌-◌, reverse, None, Some, refl, ap, sym, subst, arith}
+use Rattle.std.proofs.Common.{◌≡◌, rules, length, ◌∙◌, ◌∷◌, ◌++◌, ◌-◌, reverse, None, Some, refl, ap, sym, subst, arith}
 use Rattle.std.specs.Prelude.{slice_set}
 use Rattle.std.proofs.lemmas.Option.{slice_get_within}
 use Rattle.task_table.specs.Table.{without_task}
 use Rattle.cancel_core.specs.Cancellations.{entry_of}
+use Rattle.task_events.specs.declared.history.TheConstants.{MAX_EVENTS}
 use Rattle.world_moves.specs.Acts.{messages_in, answers_in}
-use Rattle.world_moves.specs.Cancels.{due_answers}
+use Rattle.world_moves.specs.Cancels.{due_answers, with_answers}
 use Rattle.world_moves.specs.Flights.{told_parent}
 use Rattle.task_events.specs.Lawful.{Lawful}
+use Rattle.world_moves.specs.Moves.{IsPartOf}
 use Rattle.world_moves.specs.Plain.{AnswersPlainly}
 use Rattle.world_moves.specs.Ties.{task_at}
 use Rattle.world_moves.proofs.Kept.{at_changed, off_changed}
@@ -19,6 +21,7 @@ use Rattle.world_moves.proofs.LeftNotes.{noted_unmarked, noted_ended, nothing_du
 use Rattle.world_moves.proofs.Leaving.{own_track, has_table, in_cluster, table_is, stands, runs}
 use Rattle.corpus_shards.proofs.Cases.{then_ok, both_ok, then_err}
 use Rattle.world_moves.proofs.Parts.{part_lawful, part_plain, later_part}
+use Rattle.world_moves.proofs.CutShort.{cut_as, cut_first}
 use Rattle.world_moves.proofs.ends.leave.Goals as goal
 
 pub unreachable-requires : goal.unreachable-requires
@@ -230,3 +233,20 @@ returns-in_default-ended-clause-laws c =
       lawful = subst (Lawful s.cluster) (sym c.in_ok-append.ensures.ok) (left_lawful c.args.task s.history s.cluster c.requires.tied.ties.lawful c.requires.tied.awaits e m);
       plain = subst (AnswersPlainly s.cluster s.corpus.now s.script.now) (sym c.in_ok-append.ensures.ok) (left_plain c.args.task s.history s.cluster s.corpus.now s.script.now e m c.requires.tied.ties.plain);
     }
+
+pub returns-clause-full : goal.returns-clause-full
+returns-clause-full c = λ failed.
+    let s = c.args.state.now in
+    let live = leaver_lives c.args.task s.history c.args.event c.requires.leaves in
+    let core = c.index_mut-core.result.now in
+    let known = known_there s.cluster s.history s.tables.items _ s.bans.items s.cores.items s.listings c.requires.tied.cancels c.requires.tied.ties.lawful c.args.task live core c.index_mut-core.ensures.value
+    (sym c.has.ensures ∙ c.if-not-has.false) in
+    cut_as (λ past. IsPartOf c.append.new.history past (answers_in c.as_slice.result.now ++ c.append.new.history)) (λ past. IsPartOf s.history past (with_answers c.args.task (c.args.event ∷ s.history))) c.perform.new.history
+    (λ past performed. later_part c.args.event s.history past _ (part_then c.args.task c.args.event s.history (leaves_so c.args.task s.history c.args.event c.requires.leaves) (entry_of core c.args.task) c.end_in-receipt.result known c.as_slice.result.now
+    (c.as_slice.ensures.value ∙ c.in-Ok-ended.ensures.acts) c.append.new.history past c.in_ok-append.ensures.ok performed)) (c.perform.ensures.full failed)
+
+pub returns-in_err-append-clause-full : goal.returns-in_err-append-clause-full
+returns-in_err-append-clause-full c = λ failed.
+    let s = c.args.state.now in
+    let full : length s.history ≡ MAX_EVENTS = search rules in
+    cut_first s.history c.append.new.history (reverse (due_answers c.args.task (c.args.event ∷ s.history))) c.args.event full c.in_err-append.ensures.err

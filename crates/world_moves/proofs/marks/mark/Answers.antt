@@ -1,4 +1,4 @@
-use Rattle.std.proofs.Common.{◌≡◌, ◌∙◌, ◌∷◌, ◌-◌, ◌+◌, Some, refl, ap, sym, subst, arith}
+use Rattle.std.proofs.Common.{rules, length, ◌≡◌, ◌∙◌, ◌∷◌, ◌++◌, ◌-◌, ◌+◌, Some, refl, ap, sym, subst, arith}
 use Rattle.std.specs.Prelude.{slice_set, reverse}
 use Rattle.std.specs.Option.{option_copied_mut}
 use Rattle.std.proofs.lemmas.Option.{slice_get_within}
@@ -9,7 +9,8 @@ use Rattle.task_table.specs.Answer.{after_mark as table_after}
 use Rattle.task_events.specs.Lawful.{AwaitsNoMark}
 use Rattle.task_events.specs.declared.event.Event.TheVariants.{Mark}
 use Rattle.task_laws.proofs.Reach.{reach_facts}
-use Rattle.world_moves.specs.Acts.{messages_in}
+use Rattle.task_events.specs.declared.history.TheConstants.{MAX_EVENTS}
+use Rattle.world_moves.specs.Acts.{messages_in, answers_in}
 use Rattle.world_moves.specs.Cancels.{with_answers, due_answers}
 use Rattle.world_moves.specs.Moves.{IsPartOf}
 use Rattle.world_moves.specs.Cancelling.{HasRows}
@@ -25,6 +26,7 @@ use Rattle.world_moves.proofs.Parts.{part_lawful, part_plain, later_part}
 use Rattle.world_moves.proofs.SameTies.{same_ties}
 use Rattle.world_moves.proofs.StepsAfter.{is_kept, kept_running}
 use Rattle.world_moves.proofs.Tables.{table_of, node_has_table}
+use Rattle.world_moves.proofs.CutShort.{cut_as, cut_first}
 use Rattle.world_moves.proofs.marks.mark.Goals as goal
 
 pub unreachable-requires : goal.unreachable-requires
@@ -173,3 +175,24 @@ returns-clause-tied c =
       cancels = same_cancels s.cluster _ _ _ _ _ _ _ _ _ happened tables cores (answers_noted s.cluster t h _ _ _ _ _ c.requires.lawful noted);
       awaits = subst AwaitsNoMark (sym happened) (answers_await s.cluster t h tt);
     }))
+
+pub returns-clause-full : goal.returns-clause-full
+returns-clause-full c = λ failed.
+    let s = c.args.state.now in
+    let t = c.args.task in
+    let r = c.in-Some.running.now in
+    let was = sym c.get_mut.ensures.value ∙ ap option_copied_mut c.in-Some.is in
+    let track = (kept_running s.cluster s.corpus.now s.script.now s.history _ _ _ c.requires.ties t c.requires.lawful.0.live r was).track in
+    let nodes = asked_nodes s.cluster t s.history c.requires.ties.lawful c.close-asked.result r.track c.close-asked.ensures.nodes (ap (λ track. track.asks) track) in
+    let past = c.in_ok-append.ensures.ok in
+    let acts = c.as_slice.ensures.value ∙ c.in-Ok.ensures.acts in
+    let whole = mark_happened s.cluster t c.args.cancel s.history c.requires.lawful (nodes_of c.close-asked.result) c.as_slice.result.now c.append.new.history _ c.args.waiter nodes acts past refl c.requires.waiting c.requires.wait in
+    let marked = with_answers t (Mark t c.args.cancel ∷ s.history) in
+    cut_as (λ x. IsPartOf c.append.new.history x (answers_in c.as_slice.result.now ++ c.append.new.history)) (λ x. IsPartOf s.history x marked) c.perform.new.history
+    (λ x performed. later_part (Mark t c.args.cancel) s.history x _ (subst (λ p. IsPartOf p x marked) past (subst (λ w. IsPartOf c.append.new.history x w) whole performed))) (c.perform.ensures.full failed)
+
+pub returns-in_err-append-clause-full : goal.returns-in_err-append-clause-full
+returns-in_err-append-clause-full c = λ failed.
+    let s = c.args.state.now in
+    let full : length s.history ≡ MAX_EVENTS = search rules in
+    cut_first s.history c.append.new.history (reverse (due_answers c.args.task ((Mark c.args.task c.args.cancel) ∷ s.history))) (Mark c.args.task c.args.cancel) full c.in_err-append.ensures.err

@@ -1,4 +1,4 @@
-use Rattle.std.proofs.Common.{◌≡◌, ◌++◌, ◌∷◌, [], ◌<◌, ◌+◌, ℕ, List, length, get_or, take, drop, reverse, sym, ap, ◌∙◌, append_assoc}
+use Rattle.std.proofs.Common.{◌≡◌, ◌++◌, ◌∷◌, [], ◌<◌, ◌+◌, ℕ, List, length, get_or, take, drop, reverse, sym, ap, subst, ◌∙◌, append_assoc}
 use Rattle.std.specs.Prelude.{filter_map}
 use Rattle.std.proofs.lemmas.List.{reverse-append, take-append-drop, take_more}
 use Rattle.std.proofs.lemmas.List.Elements.{filter_map-append}
@@ -6,6 +6,7 @@ use Rattle.cancel_core.specs.declared.act.Act.{Act}
 use Rattle.task_events.specs.declared.event.Event.{Event}
 use Rattle.world_moves.specs.declared.flight.Sent.{Sent}
 use Rattle.world_moves.specs.Acts.{messages_in, message_in, answers_in, answer_in}
+use Rattle.world_moves.specs.Moves.{IsPartOf}
 use Rattle.world_moves.proofs.performing.perform.Goals as goal
 
 -- the answers of some acts and of those after them
@@ -46,3 +47,18 @@ loop-act-preserved c = record {
   answered = more_answered c.args.acts.now c.loop-act.act-index c.act-item.result _ _ _ c.loop-act-test.true c.act-item.is c.loop-act.invariant.answered c.in-Ok.ensures.answered;
   room = c.in-Ok.ensures.room;
 }
+
+-- the act that did not fit is an answer
+cut_there : (acts : List Act) (i : ℕ) (act : Act) (e : Event) (old past : List Event) → i < length acts → act ≡ get_or acts i act → past ≡ answers_in (take i acts) ++ old
+    → answers_in (act ∷ []) ≡ e ∷ [] → IsPartOf old (e ∷ past) (answers_in acts ++ old)
+cut_there acts i act e old past below is so_far answer =
+    let more = more_answered acts i act old past (e ∷ past) below is so_far (ap (λ xs. xs ++ past) (sym answer)) in
+    (answers_in (drop (i + 1) acts), answers_in (take (i + 1) acts), whole_answers acts (i + 1) old (e ∷ past) more, more)
+
+pub returns-in-Err-clause-full : goal.returns-in-Err-clause-full
+returns-in-Err-clause-full c = λ failed.
+    let acts = c.args.acts.now in
+    let same = c.in-Err.ensures.err in
+    let found = c.in-Err.ensures.full failed in
+    (ap length same ∙ found.0, found.1, subst (λ past. IsPartOf c.args.history.now (found.1 ∷ past) (answers_in acts ++ c.args.history.now)) (sym same)
+    (cut_there acts c.loop-act.act-index c.act-item.result found.1 c.args.history.now c.loop-act.history c.loop-act-test.true c.act-item.is c.loop-act.invariant.answered found.2))

@@ -23,6 +23,7 @@ use Rattle.world_moves.proofs.Started.{first}
 use Rattle.world_moves.proofs.StartsNoted.{noted_put}
 use Rattle.world_moves.proofs.Tables.{IsPutOn, node_has_table, no_slot, no_number}
 use Rattle.world_moves.proofs.Uninvolved.{noted}
+use Rattle.world_moves.proofs.CutShort.{cut_only, of_err}
 use Rattle.world_moves.proofs.requests.deliver_request.Goals as goal
 
 pub request_at-requires : goal.request_at-requires
@@ -120,3 +121,26 @@ returns-in-Err-NumbersSpent-clause-spent c = λ _.
     let a = arrives s.cluster s.corpus.now s.script.now s.history _ _ s.flight c.requires.tied.ties c.args.nth _ _ _ c.take_request-token.ensures.taken in
     let back = ap refused_token (sym c.in-Err-NumbersSpent.field-0-is) ∙ c.in-Err-NumbersSpent.ensures.given_back in
     (_, a.here, no_number s.cluster s.history s.tables.items c.requires.tied.ties.listed to a.low a.high c.requires.tied.ties.lawful (λ table e. c.in-Err-NumbersSpent.ensures.spent table e (ap Err (c.in-Err-NumbersSpent.field-0-is ∙ ap NumbersSpent back))))
+
+pub returns-in_ok-running-in-Ok-clause-full : goal.returns-in_ok-running-in-Ok-clause-full
+returns-in_ok-running-in-Ok-clause-full c = λ failed.
+    let s = c.args.state.now in
+    let token = c.take_request-token.result.0 in
+    let a = arrives s.cluster s.corpus.now s.script.now s.history _ _ s.flight c.requires.tied.ties c.args.nth _ _ _ c.take_request-token.ensures.taken in
+    let t = c.in-Ok.ticket.id in
+    let put : IsPutOn s.tables.items c.take_request-token.result.1 t c.new_task-child.result c.put_on.new.tables.items = record { id = c.in-Ok.ensures.id; row = c.in-Ok.ensures.row; free = c.in-Ok.ensures.free } in
+    cut_only (λ x y. Delivers s.cluster x c.args.nth y) s.history c.keep.new.history (Put t token.parent token.ask)
+    (delivers_put s.cluster s.corpus.now s.script.now s.history (task_at s.tasks) s.tables.items s.flight c.requires.tied.ties c.requires.tied.awaits c.args.nth token c.take_request-token.result.1 _ a t _ _ put)
+    (c.keep.ensures.full failed) (of_err c.keep.result _ _ failed c.keep.ensures.err)
+
+pub returns-in-Some-clause-full : goal.returns-in-Some-clause-full
+returns-in-Some-clause-full c = λ failed.
+    let s = c.args.state.now in
+    let token = c.take_request-token.result.0 in
+    let to = c.take_request-token.result.1 in
+    let a = arrives s.cluster s.corpus.now s.script.now s.history _ _ s.flight c.requires.tied.ties c.args.nth _ _ _ c.take_request-token.ensures.taken in
+    let back = ap refused_token (sym c.in-Err-Full.field-0-is) ∙ c.in-Err-Full.ensures.given_back in
+    let full = no_slot s.cluster s.history s.tables.items c.requires.tied.ties.listed to a.low a.high c.requires.tied.ties.lawful (λ table e. c.in-Err-Full.ensures.full table e (ap Err (c.in-Err-Full.field-0-is ∙ ap Full back))) in
+    cut_only (λ x y. Delivers s.cluster x c.args.nth y) s.history c.reject.new.history (Reject to token.parent token.ask)
+    (delivers_reject s.cluster s.corpus.now s.script.now s.history (task_at s.tasks) s.tables.items s.flight c.requires.tied.ties c.requires.tied.awaits c.args.nth token to _ a full)
+    (c.reject.ensures.full failed) (of_err c.reject.result _ _ failed c.reject.ensures.err)
