@@ -67,17 +67,18 @@ IsPartly Moves h new = (new ≡ h) ⊎ ((whole : List Event) × Moves h whole ×
 abbrev pub IsCutShort : (List Event → Type 0) → List Event → Type 0
 IsCutShort IsPart new = (length new ≡ MAX_EVENTS) × (e : Event) × IsPart (e ∷ new)
 
--- Why a delivery comes to an early end, with this past: its next event does not fit, no number is left, or memory ran out.
-abbrev pub StopsDelivery : Cluster → List Event → ℕ → List Event → Stop → Type 0
-StopsDelivery cluster h nth new HistoryFull = IsCutShort (IsPartly (λ x y. Delivers cluster x nth y) h) new
-StopsDelivery cluster h nth new NumbersSpent = DeliveryLacksNumber cluster h nth × (new ≡ h)
-StopsDelivery cluster h nth new Memory = ⊤
+-- Why something comes to an early end with this past: the history is full and one of its events was still to come, or a number is lacking, or memory ran out.
+abbrev pub Stops : (List Event → Type 0) → Type 0 → List Event → Stop → Type 0
+Stops IsPart LacksNumber new HistoryFull = IsCutShort IsPart new
+Stops IsPart LacksNumber new NumbersSpent = LacksNumber
+Stops IsPart LacksNumber new Memory = ⊤
 
--- Why a move comes to an early end that needs no number.
+-- why a delivery does, and a move that needs no number
+abbrev pub StopsDelivery : Cluster → List Event → ℕ → List Event → Stop → Type 0
+StopsDelivery cluster h nth new stop = Stops (IsPartly (λ x y. Delivers cluster x nth y) h) (DeliveryLacksNumber cluster h nth × (new ≡ h)) new stop
+
 abbrev pub StopsMove : (List Event → List Event → Type 0) → List Event → List Event → Stop → Type 0
-StopsMove Moves h new HistoryFull = IsCutShort (IsPartly Moves h) new
-StopsMove Moves h new NumbersSpent = ⊥
-StopsMove Moves h new Memory = ⊤
+StopsMove Moves h new stop = Stops (IsPartly Moves h) ⊥ new stop
 
 -- The event with which a task leaves that a cancellation has stopped: a child that has not passed is refused, and a marked task ends once its asks are answered.
 abbrev pub MayLeave : TaskId → Event → List Event → Type 0

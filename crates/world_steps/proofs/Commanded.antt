@@ -1,5 +1,5 @@
 -- Why commands come to an early end, and what they can do.
-use Rattle.std.proofs.Common.{◌≡◌, ◌⊎◌, ◌≤◌, ◌<◌, ◌-◌, ℕ, zero, suc, Bool, true, false, List, [], ◌∷◌, length, get_or, Option, Some, None, refl, sym, ap, subst, inl, inr, ◌∙◌, arith}
+use Rattle.std.proofs.Common.{◌≡◌, ◌⊎◌, ◌≤◌, ◌<◌, ◌-◌, ℕ, zero, suc, Bool, true, false, List, [], ◌∷◌, ◌++◌, length, get_or, Option, Some, None, refl, sym, ap, subst, inl, inr, ◌∙◌, arith}
 use Rattle.std.specs.Prelude.{slice_get, is_some, ◌&&◌}
 use Rattle.serde_json.specs.Data.{Data}
 use Rattle.query_match.specs.declared.body.SearchBody.{SearchBody}
@@ -7,51 +7,39 @@ use Rattle.query_parse.specs.Bodies.{body_at}
 use Rattle.search_phase.proofs.Requests.{slice_get_none}
 use Rattle.task_ids.specs.declared.cluster.Cluster.{Cluster}
 use Rattle.task_ids.specs.declared.corpus.Corpus.{Corpus}
+use Rattle.std.proofs.lemmas.List.{length-append}
+use Rattle.task_ids.specs.declared.task_id.TaskId.{TaskId}
 use Rattle.task_events.specs.declared.event.Event.{Event}
 use Rattle.task_events.specs.declared.event.Event.TheVariants.{Begin}
-use Rattle.task_events.specs.declared.stop.Stop.{Stop}
-use Rattle.task_events.specs.declared.stop.Stop.TheVariants.{HistoryFull, NumbersSpent, Memory}
-use Rattle.task_events.specs.Messages.{Message}
-use Rattle.task_events.specs.Messages.Message.{Request, Answer, Ban, Ack, Unban}
 use Rattle.script_lang.specs.declared.command.Command.{Command}
 use Rattle.script_lang.specs.declared.command.Command.TheVariants.{Search, Cancel, Deliver, Step, ListStep, Settle, History}
 use Rattle.script_lang.specs.declared.command.Script.{Script}
-use Rattle.world_moves.specs.Moves.{Delivers, IsPartly, Starts, NodeLacksNumber, LacksNumber, StopsDelivery, StopsMove}
+use Rattle.world_moves.specs.Moves.{Delivers, IsPartly, Starts}
 use Rattle.world_moves.specs.declared.state.State.{State}
 use Rattle.corpus_shards.specs.Stored.{has_index}
 use Rattle.world_moves.specs.Roots.{body_or_none, command_at}
 use Rattle.world_moves.specs.Ties.{Keeps}
-use Rattle.world_steps.specs.Runs.{FirstMoves}
-use Rattle.world_steps.specs.Scripts.{CanDo, CanRun, can_start, DeliversWhere, StartsWhere, PartlyDoes, PartlyCommands, StopsRun}
-
-lacking : (cluster : Cluster) (h : List Event) (m : Message) → LacksNumber cluster h m → (node : ℕ) × NodeLacksNumber cluster h node
-lacking cluster h (Request p k n r) l = (n, l)
-lacking cluster h (Answer p k reply) l = absurd l
-lacking cluster h (Ban p c n) l = absurd l
-lacking cluster h (Ack p n) l = absurd l
-lacking cluster h (Unban p n) l = absurd l
-
--- why a move comes to an early end is why the run does
-pub delivery_stops : (cluster : Cluster) (h new : List Event) (nth : ℕ) (stop : Stop) → StopsDelivery cluster h nth new stop → StopsRun cluster new stop
-delivery_stops cluster h new nth HistoryFull full = full
-delivery_stops cluster h new nth NumbersSpent ((m, at, lacks), same) = subst (λ x. (node : ℕ) × NodeLacksNumber cluster x node) (sym same) (lacking cluster h m lacks)
-delivery_stops cluster h new nth Memory any = tt
-
-pub move_stops : (cluster : Cluster) (new : List Event) (stop : Stop) → StopsMove new stop → StopsRun cluster new stop
-move_stops cluster new HistoryFull full = full
-move_stops cluster new NumbersSpent never = absurd never
-move_stops cluster new Memory any = tt
+use Rattle.world_steps.specs.Runs.{AnswersStep, FirstMoves, Steps}
+use Rattle.world_steps.specs.declared.acting.Stepped.{Stepped}
+use Rattle.world_steps.specs.declared.acting.Stepped.TheVariants.{Done}
+use Rattle.world_moves.specs.declared.listing.Listing.{Listing}
+use Rattle.world_moves.specs.Listings.{ListSteps}
+use Rattle.world_steps.specs.Scripts.{CanDo, CanRun, can_start, closing, DeliversWhere, ListsWhere, StartsWhere, PartlyDoes, PartlyCommands, PartlyDrains}
 
 -- a part of a delivery is one of a delivery where there is a message
 pub partly_where : (cluster : Cluster) (nth : ℕ) (h new : List Event) → IsPartly (λ g made. Delivers cluster g nth made) h new → IsPartly (DeliversWhere cluster nth) h new
 partly_where cluster nth h new (inl same) = inl same
 partly_where cluster nth h new (inr made) = inr (made.0, inl made.1, made.2)
 
--- why a move comes to an early end that needs no number is why a delivery does
-pub move_stops_delivery : (cluster : Cluster) (h new : List Event) (nth : ℕ) (stop : Stop) → StopsMove new stop → StopsDelivery cluster h nth new stop
-move_stops_delivery cluster h new nth HistoryFull full = full
-move_stops_delivery cluster h new nth NumbersSpent never = absurd never
-move_stops_delivery cluster h new nth Memory any = tt
+-- a part of a listing's step is one of a step where it is open, and likewise for a task
+pub partly_lists : (l : Listing) (h new : List Event) → IsPartly (ListSteps l) h new → IsPartly (ListsWhere l) h new
+partly_lists l h new (inl same) = inl same
+partly_lists l h new (inr made) = inr (made.0, inl made.1, made.2)
+
+pub partly_steps : (cluster : Cluster) (corpus : Corpus) (script : Script) (t : TaskId) (h new : List Event)
+    → IsPartly (Steps cluster corpus script t) h new → IsPartly (λ x y. (stepped : Stepped) × AnswersStep cluster corpus script t x stepped y) h new
+partly_steps cluster corpus script t h new (inl same) = inl same
+partly_steps cluster corpus script t h new (inr made) = inr (made.0, (Done, made.1), made.2)
 
 -- a part of the delivery of the oldest message is one of a first move
 pub partly_first : (cluster : Cluster) (corpus : Corpus) (script : Script) (h new : List Event) → IsPartly (λ g made. Delivers cluster g 0 made) h new → IsPartly (FirstMoves cluster corpus script) h new
@@ -96,6 +84,23 @@ partly_begun cluster corpus script k low high h new (inr begun) =
     let there = command_there script k low high in
     inr (there.0, there.1, nothing_done cluster corpus script k there.0 (Begin k ∷ h) new begun)
 
+-- a first part of one event is nothing or that event
+pub nothing_or : (e : Event) (h new later earlier : List Event) → e ∷ h ≡ later ++ new → new ≡ earlier ++ h → (new ≡ h) ⊎ (new ≡ e ∷ h)
+nothing_or e h new [] earlier whole part = inr (sym whole)
+nothing_or e h new (x ∷ later) [] whole part = inl part
+nothing_or e h new (x ∷ later) (y ∷ earlier) whole part = absurd (let longer = ap length (whole ∙ ap (λ n. x ∷ later ++ n) part) in omega (arith, longer, length-append later (y ∷ earlier ++ h), length-append earlier h))
+
+pub part_of_begin : (k : ℕ) (h new : List Event) → IsPartly (λ x y. y ≡ Begin k ∷ x) h new → (new ≡ h) ⊎ (new ≡ Begin k ∷ h)
+part_of_begin k h new (inl same) = inl same
+part_of_begin k h new (inr (whole, begun, (later, earlier, is_whole, is_new))) = nothing_or (Begin k) h new later earlier (sym begun ∙ is_whole) is_new
+
+pub part_of_drain : (cluster : Cluster) (corpus : Corpus) (script : Script) (h new : List Event) → IsPartly (λ x y. y ≡ Begin (closing script) ∷ x) h new → PartlyDrains cluster corpus script h new
+part_of_drain cluster corpus script h new part = begun (part_of_begin (closing script) h new part)
+  where
+    begun : (new ≡ h) ⊎ (new ≡ Begin (closing script) ∷ h) → PartlyDrains cluster corpus script h new
+    begun (inl same) = inl same
+    begun (inr same) = inr ([], Begin (closing script) ∷ h, refl, inl same)
+
 -- ---- a search
 
 false_and : (a b : Bool) → b ≡ false → (a && b) ≡ false
@@ -120,6 +125,16 @@ module _ (cluster : Cluster) (corpus : Corpus) (index : List ℕ) (body : Data) 
 
   pub comes : (found : SearchBody) (h new : List Event) → body_or_none (body_at false 0 body) ≡ Some found → has_index corpus.lines index ≡ true → (started : Bool) → Starts cluster h k node started new → Where h new
   comes found h new good known started s = subst (λ b. StartsWhere cluster b k node h new) (sym (both_hold good known)) (started, s)
+
+-- ---- early ends
+
+  pub partly_comes : (found : SearchBody) (h new : List Event) → body_or_none (body_at false 0 body) ≡ Some found → has_index corpus.lines index ≡ true
+      → IsPartly (λ x y. (started : Bool) × Starts cluster x k node started y) h new → IsPartly Where h new
+  partly_comes found h new good known (inl same) = inl same
+  partly_comes found h new good known (inr (whole, (started, s), part)) = inr (whole, comes found h whole good known started s, part)
+
+  pub can_come : (found : SearchBody) → body_or_none (body_at false 0 body) ≡ Some found → has_index corpus.lines index ≡ true → can_start corpus index body ≡ true
+  can_come found good known = both_hold good known
 
 -- ---- what stays as a command begins
 

@@ -7,8 +7,10 @@ use Rattle.task_events.specs.declared.event.Event.{Event}
 use Rattle.script_lang.specs.declared.command.Script.{Script}
 use Rattle.task_events.specs.declared.event.Event.TheVariants.{Refuse, Acked, End}
 use Rattle.world_moves.specs.Cancels.{due_answers, with_due}
-use Rattle.world_moves.specs.Moves.{IsPartly}
-use Rattle.world_steps.specs.Runs.{FirstMoves, Passes, PartlySettles}
+use Rattle.task_events.specs.declared.stop.Stop.{Stop}
+use Rattle.world_moves.specs.Moves.{IsPartly, DeliveryLacksNumber}
+use Rattle.world_moves.proofs.Outcomes.{stops_as}
+use Rattle.world_steps.specs.Runs.{FirstMoves, FirstLacksNumber, Passes, PartlySettles, SettlingLacksNumber, StopsFirst, StopsSettling}
 use Rattle.std.specs.BTreeSet.{BTreeSet}
 use Rattle.task_ids.specs.declared.task_id.TaskId.{TaskId}
 use Rattle.world_moves.specs.declared.state.State.{State}
@@ -29,6 +31,13 @@ module _ (cluster : Cluster) (corpus : Corpus) (script : Script) where
 
   pub partly_more : (h m n : List Event) → HasPassed h m → IsPartly (FirstMoves cluster corpus script) m n → PartlySettles cluster corpus script h n
   partly_more h m n (between, passes) part = (between, m, passes, part)
+
+  -- why its next first move comes to an early end is why settling does
+  pub settling_stops : (h m n : List Event) (stop : Stop) → HasPassed h m → StopsFirst cluster corpus script m n stop → StopsSettling cluster corpus script h n stop
+  settling_stops h m n stop (between, passes) =
+      stops_as (IsPartly (FirstMoves cluster corpus script) m) (PartlySettles cluster corpus script h) (FirstLacksNumber cluster corpus script m n) (SettlingLacksNumber cluster corpus script h n) n stop
+      (λ past part. partly_more h m past (between, passes) part)
+      (λ lacks. (between, subst (λ x. Passes cluster corpus script h between x) (sym lacks.1) passes, subst (λ x. DeliveryLacksNumber cluster x 0) (sym lacks.1) lacks.0))
 
 -- an event makes the past longer, with the answers that come due
 longer : (e : Event) (h : List Event) → length h < length (with_due e h)
@@ -78,3 +87,10 @@ module _ (start now next : State) (ready : BTreeSet TaskId) where
       (subst (λ x. IsPartly (FirstMoves x start.corpus.now start.script.now) now.history next.history) s.keeps.cluster
       (subst (λ x. IsPartly (FirstMoves now.cluster x start.script.now) now.history next.history) s.keeps.corpus
       (subst (λ x. IsPartly (FirstMoves now.cluster now.corpus.now x) now.history next.history) s.keeps.script part)))
+
+  pub stops_on : HasSettled start now ready → (stop : Stop) → StopsFirst now.cluster now.corpus.now now.script.now now.history next.history stop → StopsSettling start.cluster start.corpus.now start.script.now start.history next.history stop
+  stops_on s stop cut =
+      settling_stops start.cluster start.corpus.now start.script.now start.history now.history next.history stop s.passes
+      (subst (λ x. StopsFirst x start.corpus.now start.script.now now.history next.history stop) s.keeps.cluster
+      (subst (λ x. StopsFirst now.cluster x start.script.now now.history next.history stop) s.keeps.corpus
+      (subst (λ x. StopsFirst now.cluster now.corpus.now x now.history next.history stop) s.keeps.script cut)))

@@ -7,6 +7,7 @@ use Rattle.task_ids.specs.TaskIdOrder.{task_id_cmp}
 use Rattle.std.specs.Ordering.{is_le}
 use Rattle.task_events.specs.declared.event.Event.{Event}
 use Rattle.task_events.specs.declared.history.TheConstants.{MAX_EVENTS}
+use Rattle.task_events.specs.declared.stop.Stop.{Stop}
 use Rattle.task_events.specs.Tasks.{is_live}
 use Rattle.task_events.specs.Messages.{in_flight}
 use Rattle.task_events.specs.Steps.{next_step}
@@ -17,7 +18,7 @@ use Rattle.world_moves.specs.Roots.{root_request}
 use Rattle.world_moves.specs.Cancels.{with_due}
 use Rattle.world_moves.specs.declared.listing.Listing.{Listing}
 use Rattle.world_moves.specs.Listings.{is_open, IsFirstListing, ListSteps}
-use Rattle.world_moves.specs.Moves.{Delivers, IsPartly}
+use Rattle.world_moves.specs.Moves.{Delivers, IsPartly, DeliveryLacksNumber, Stops}
 
 module _ (cluster : Cluster) (corpus : Corpus) (script : Script) where
   -- what a live task does next, and nothing where it waits
@@ -67,6 +68,21 @@ module _ (cluster : Cluster) (corpus : Corpus) (script : Script) where
   -- some first moves, and perhaps a first part of one more
   abbrev pub PartlySettles : List Event → List Event → Type 0
   PartlySettles h new = (between : List (List Event)) × (now : List Event) × Passes h between now × IsPartly FirstMoves now new
+
+  -- the first move is the delivery of a request that finds a free slot, and no number is left for its child
+  abbrev pub FirstLacksNumber : List Event → List Event → Type 0
+  FirstLacksNumber h new = DeliveryLacksNumber cluster h 0 × (new ≡ h)
+
+  -- settling has come to such a move
+  abbrev pub SettlingLacksNumber : List Event → List Event → Type 0
+  SettlingLacksNumber h new = (between : List (List Event)) × Passes h between new × DeliveryLacksNumber cluster new 0
+
+  -- why a first move comes to an early end, and why settling does
+  abbrev pub StopsFirst : List Event → List Event → Stop → Type 0
+  StopsFirst h new stop = Stops (IsPartly FirstMoves h) (FirstLacksNumber h new) new stop
+
+  abbrev pub StopsSettling : List Event → List Event → Stop → Type 0
+  StopsSettling h new stop = Stops (PartlySettles h) (SettlingLacksNumber h new) new stop
 
 -- where a task made its step there was room for what it appended
 abbrev pub HasRoom : Stepped → List Event → Type 0

@@ -7,9 +7,7 @@ use Rattle.task_ids.specs.declared.cluster.Cluster.{Cluster}
 use Rattle.task_ids.specs.declared.corpus.Corpus.{Corpus}
 use Rattle.task_events.specs.declared.event.Event.{Event}
 use Rattle.task_events.specs.declared.event.Event.TheVariants.{Begin}
-use Rattle.task_events.specs.declared.history.TheConstants.{MAX_EVENTS}
 use Rattle.task_events.specs.declared.stop.Stop.{Stop}
-use Rattle.task_events.specs.declared.stop.Stop.TheVariants.{HistoryFull, NumbersSpent, Memory}
 use Rattle.task_events.specs.Messages.{in_flight}
 use Rattle.task_events.specs.Turns.{is_begin}
 use Rattle.script_lang.specs.declared.command.Command.{Command}
@@ -19,10 +17,10 @@ use Rattle.world_steps.specs.declared.acting.Stepped.{Stepped}
 use Rattle.world_moves.specs.declared.listing.Listing.{Listing}
 use Rattle.world_moves.specs.Cancels.{after_cancel}
 use Rattle.world_moves.specs.Listings.{is_open, ListSteps}
-use Rattle.world_moves.specs.Moves.{Delivers, Starts, NodeLacksNumber, IsPartly}
+use Rattle.world_moves.specs.Moves.{Delivers, Starts, NodeLacksNumber, DeliveryLacksNumber, IsPartly, Stops}
 use Rattle.world_moves.specs.Roots.{body_or_none, command_at}
 use Rattle.corpus_shards.specs.Stored.{has_index}
-use Rattle.world_steps.specs.Runs.{AnswersStep, Settles, PartlySettles}
+use Rattle.world_steps.specs.Runs.{AnswersStep, Settles, PartlySettles, SettlingLacksNumber}
 
 -- A command has begun, and some events came since, with none of which another began.
 abbrev pub IsTurn : ℕ → List Event → List Event → Type 0
@@ -115,8 +113,39 @@ module _ (cluster : Cluster) (corpus : Corpus) (script : Script) where
       ((n : ℕ) × (before : List Event) × HasRun n before × PartlyCommands (suc n) before h)
       ⊎ ((before : List Event) × HasRun (length script.commands) before × PartlyDrains before h)
 
--- Why a run comes to an early end: one more event does not fit, or a node with a free slot has no number left, or memory ran out.
-abbrev pub StopsRun : Cluster → List Event → Stop → Type 0
-StopsRun cluster h HistoryFull = length h ≡ MAX_EVENTS
-StopsRun cluster h NumbersSpent = (node : ℕ) × NodeLacksNumber cluster h node
-StopsRun cluster h Memory = ⊤
+  -- ---- early ends
+
+  -- The next event of a command would start or put a task for which its node has no number.
+  abbrev pub CommandLacksNumber : Command → List Event → List Event → Type 0
+  CommandLacksNumber (Search index node body) h new = (can_start corpus index body ≡ true) × NodeLacksNumber cluster h node × (new ≡ h)
+  CommandLacksNumber (Deliver nth) h new = DeliveryLacksNumber cluster h nth × (new ≡ h)
+  CommandLacksNumber Settle h new = SettlingLacksNumber cluster corpus script h new
+  CommandLacksNumber _ h new = ⊥
+
+  -- Why a command that has begun comes to an early end: where the history is full, an event of it was still to come.
+  abbrev pub StopsDoing : ℕ → Command → List Event → List Event → Stop → Type 0
+  StopsDoing k command h new stop = Stops (PartlyDoes k command h) (CommandLacksNumber command h new) new stop
+
+  -- the command of this number lacks one
+  abbrev pub NumberedLacksNumber : ℕ → List Event → List Event → Type 0
+  NumberedLacksNumber k h new = (command : Command) × (command_at script k ≡ Some command) × CommandLacksNumber command (Begin k ∷ h) new
+
+  abbrev pub StopsCommand : ℕ → List Event → List Event → Stop → Type 0
+  StopsCommand k h new stop = Stops (PartlyCommands k h) (NumberedLacksNumber k h new) new stop
+
+  -- the closing drain
+  abbrev pub DrainLacksNumber : List Event → List Event → Type 0
+  DrainLacksNumber h new = SettlingLacksNumber cluster corpus script (Begin (closing script) ∷ h) new
+
+  abbrev pub StopsDrain : List Event → List Event → Stop → Type 0
+  StopsDrain h new stop = Stops (PartlyDrains h) (DrainLacksNumber h new) new stop
+
+  -- the next event of the run would start or put a task for which its node has no number
+  abbrev pub RunLacksNumber : List Event → Type 0
+  RunLacksNumber h =
+      ((n : ℕ) × (before : List Event) × HasRun n before × NumberedLacksNumber (suc n) before h)
+      ⊎ ((before : List Event) × HasRun (length script.commands) before × DrainLacksNumber before h)
+
+  -- Why a run comes to an early end: the history is full and the run goes on, or its next event needs a number that is not there, or memory ran out.
+  abbrev pub StopsRun : List Event → Stop → Type 0
+  StopsRun h stop = Stops IsRunSoFar (RunLacksNumber h) h stop

@@ -51,7 +51,7 @@ fn work_on(state: &mut State<'_>, task: TaskId, next: Do) -> Result<Stepped, Sto
     ensures keeps { Keeps state.old state.new }
     ensures room { IfOk result (λ stepped. HasRoom stepped state.new.history) }
     ensures err { OnErr result (state.new.history ≡ state.old.history) }
-    ensures stop { IfErr result (λ stop. StopsMove state.new.history stop) }
+    ensures stop { IfErr result (λ stop. StopsMove (Steps state.old.cluster state.old.corpus.now state.old.script.now task) state.old.history state.new.history stop) }
 {
     match next {
         Do::AskNext(request) => ask(state, task, request)?,
@@ -73,7 +73,7 @@ fn first_step(state: &mut State<'_>, task: TaskId) -> Result<Stepped, Stop>
     ensures room { IfOk result (λ stepped. HasRoom stepped state.new.history) }
     ensures part { OnErr result (IsPartly (Steps state.old.cluster state.old.corpus.now state.old.script.now task) state.old.history state.new.history) }
     ensures laws { OnErr result (KeepsLaws state.new) }
-    ensures stop { IfErr result (λ stop. StopsMove state.new.history stop) }
+    ensures stop { IfErr result (λ stop. StopsMove (Steps state.old.cluster state.old.corpus.now state.old.script.now task) state.old.history state.new.history stop) }
 {
     let stepped = match ban_over(state, task) {
         Some(cancel) => refuse(state, task, cancel),
@@ -103,7 +103,7 @@ fn leave_or_wait(
     ensures room { IfOk result (λ stepped. HasRoom stepped state.new.history) }
     ensures part { OnErr result (IsPartly (Steps state.old.cluster state.old.corpus.now state.old.script.now task) state.old.history state.new.history) }
     ensures laws { OnErr result (KeepsLaws state.new) }
-    ensures stop { IfErr result (λ stop. StopsMove state.new.history stop) }
+    ensures stop { IfErr result (λ stop. StopsMove (Steps state.old.cluster state.old.corpus.now state.old.script.now task) state.old.history state.new.history stop) }
 {
     if waits {
         return Ok(Stepped::Waiting);
@@ -124,7 +124,7 @@ pub(crate) fn act(state: &mut State<'_>, task: TaskId) -> Result<Stepped, Stop>
     ensures room { IfOk result (λ stepped. HasRoom stepped state.new.history) }
     ensures part { OnErr result (IsPartly (Steps state.old.cluster state.old.corpus.now state.old.script.now task) state.old.history state.new.history) }
     ensures laws { OnErr result (KeepsLaws state.new) }
-    ensures stop { IfErr result (λ stop. StopsMove state.new.history stop) }
+    ensures stop { IfErr result (λ stop. StopsMove (Steps state.old.cluster state.old.corpus.now state.old.script.now task) state.old.history state.new.history stop) }
 {
     let Some(running) = state.tasks.get(&task) else {
         return Ok(Stepped::NotRunning);

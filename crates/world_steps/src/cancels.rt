@@ -7,7 +7,7 @@ ghost use Rattle.task_events.specs.Cancels.{beginning};
 ghost use Rattle.task_events.specs.Bans.{mark_of};
 ghost use Rattle.task_events.specs.Tasks.{is_live};
 ghost use Rattle.world_moves.specs.Cancels.{after_cancel, target_of, with_answers, with_cancel};
-ghost use Rattle.world_moves.specs.Moves.{IsPartOf};
+ghost use Rattle.world_moves.specs.Moves.{IsPartOf, IsCutShort};
 ghost use Rattle.world_moves.specs.Ties.{IsTied, Keeps, KeepsLaws};
 
 use cancel_core::Waiter;
@@ -44,7 +44,7 @@ fn join(state: &mut State<'_>, number: u32, task: TaskId, wait: bool) -> Result<
     ensures room { OnOk result (length state.new.history ≤ MAX_EVENTS) }
     ensures part { OnErr result (IsPartOf state.old.history state.new.history (with_answers task (Event.Cancel number task wait ∷ state.old.history))) }
     ensures laws { OnErr result (KeepsLaws state.new) }
-    ensures full { result ≡ Err Stop.HistoryFull → length state.new.history ≡ MAX_EVENTS }
+    ensures full { result ≡ Err Stop.HistoryFull → IsCutShort (λ past. IsPartOf state.old.history past (with_answers task (Event.Cancel number task wait ∷ state.old.history))) state.new.history }
     ensures numbers { result ≡ Err Stop.NumbersSpent → ⊥ }
 {
     let waiter = Waiter {
@@ -84,7 +84,7 @@ fn name_and_mark(state: &mut State<'_>, number: u32, task: TaskId, wait: bool) -
     ensures room { OnOk result (length state.new.history ≤ MAX_EVENTS) }
     ensures part { OnErr result (IsPartOf state.old.history state.new.history (with_answers task (Event.Mark task number ∷ Event.Cancel number task wait ∷ state.old.history))) }
     ensures laws { OnErr result (KeepsLaws state.new) }
-    ensures full { result ≡ Err Stop.HistoryFull → length state.new.history ≡ MAX_EVENTS }
+    ensures full { result ≡ Err Stop.HistoryFull → IsCutShort (λ past. IsPartOf state.old.history past (with_answers task (Event.Mark task number ∷ Event.Cancel number task wait ∷ state.old.history))) state.new.history }
     ensures numbers { result ≡ Err Stop.NumbersSpent → ⊥ }
 {
     append(
@@ -115,7 +115,7 @@ fn cancel_live(state: &mut State<'_>, number: u32, task: TaskId, wait: bool) -> 
     ensures room { OnOk result (length state.new.history ≤ MAX_EVENTS) }
     ensures part { OnErr result (IsPartOf state.old.history state.new.history (with_answers task (with_cancel number task wait state.old.history))) }
     ensures laws { OnErr result (KeepsLaws state.new) }
-    ensures full { result ≡ Err Stop.HistoryFull → length state.new.history ≡ MAX_EVENTS }
+    ensures full { result ≡ Err Stop.HistoryFull → IsCutShort (λ past. IsPartOf state.old.history past (with_answers task (with_cancel number task wait state.old.history))) state.new.history }
     ensures numbers { result ≡ Err Stop.NumbersSpent → ⊥ }
 {
     if is_marked(state, task) {
@@ -158,7 +158,7 @@ pub(crate) fn cancel(
     ensures room { OnOk result (length state.new.history ≤ MAX_EVENTS) }
     ensures part { OnErr result (IsPartOf state.old.history state.new.history (after_cancel number target.now wait state.old.history)) }
     ensures laws { OnErr result (KeepsLaws state.new) }
-    ensures full { result ≡ Err Stop.HistoryFull → length state.new.history ≡ MAX_EVENTS }
+    ensures full { result ≡ Err Stop.HistoryFull → IsCutShort (λ past. IsPartOf state.old.history past (after_cancel number target.now wait state.old.history)) state.new.history }
     ensures numbers { result ≡ Err Stop.NumbersSpent → ⊥ }
 {
     if let Some(task) = live_target(state, target) {

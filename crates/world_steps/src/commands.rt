@@ -7,9 +7,9 @@ ghost use Rattle.task_events.specs.Laws.{IsDrained};
 ghost use Rattle.world_moves.specs.Roots.{body_or_none, command_at, whole_ask};
 ghost use Rattle.task_ids.specs.Limits.{IsCancel};
 ghost use Rattle.world_moves.specs.Cancels.{after_cancel, AllAnswered};
-ghost use Rattle.world_moves.specs.Moves.{IsPartly};
+ghost use Rattle.world_moves.specs.Moves.{DeliveryLacksNumber, IsPartly, Stops, StopsMove};
 ghost use Rattle.world_steps.specs.Runs.{AnswersStep};
-ghost use Rattle.world_steps.specs.Scripts.{CanDo, CanRun, can_start, StartsWhere, DeliversWhere, ListsWhere, Does, PartlyDoes, Commands, PartlyCommands, Drains, PartlyDrains, StopsRun};
+ghost use Rattle.world_steps.specs.Scripts.{CanDo, CanRun, can_start, StartsWhere, DeliversWhere, ListsWhere, Does, PartlyDoes, Commands, PartlyCommands, Drains, PartlyDrains, StopsDoing, StopsCommand, StopsDrain};
 ghost use Rattle.world_moves.specs.Ties.{IsTied, Keeps, HasShards, KeepsLaws};
 ghost use Rattle.world_steps.specs.World.{HasReady};
 
@@ -91,7 +91,7 @@ fn search(
     ensures keeps { Keeps state.old state.new }
     ensures part { OnErr result (IsPartly (StartsWhere state.old.cluster (can_start state.old.corpus.now index.now body.now) number node) state.old.history state.new.history) }
     ensures laws { KeepsLaws state.new }
-    ensures stop { IfErr result (λ stop. StopsRun state.old.cluster state.new.history stop) }
+    ensures stop { IfErr result (λ stop. StopsDoing state.old.cluster state.old.corpus.now state.old.script.now number (Command.Search index.now node body.now) state.old.history state.new.history stop) }
 {
     let Some(body) = body_of(state.alloc, body)? else {
         return Ok(());
@@ -119,7 +119,7 @@ fn deliver(state: &mut State<'_>, ready: &mut BTreeSet<TaskId>, nth: u64) -> Res
     ensures keeps { Keeps state.old state.new }
     ensures part { OnErr result (IsPartly (DeliversWhere state.old.cluster nth) state.old.history state.new.history) }
     ensures laws { KeepsLaws state.new }
-    ensures stop { IfErr result (λ stop. StopsRun state.old.cluster state.new.history stop) }
+    ensures stop { IfErr result (λ stop. Stops (IsPartly (DeliversWhere state.old.cluster nth) state.old.history) (DeliveryLacksNumber state.old.cluster state.old.history nth × (state.new.history ≡ state.old.history)) state.new.history stop) }
 {
     if nth >= state.flight.len() as u64 {
         return Ok(());
@@ -148,7 +148,7 @@ fn cancel_there(
     ensures keeps { Keeps state.old state.new }
     ensures part { OnErr result (IsPartly (λ h new. new ≡ after_cancel number target.now wait h) state.old.history state.new.history) }
     ensures laws { KeepsLaws state.new }
-    ensures stop { IfErr result (λ stop. StopsRun state.old.cluster state.new.history stop) }
+    ensures stop { IfErr result (λ stop. StopsMove (λ h new. new ≡ after_cancel number target.now wait h) state.old.history state.new.history stop) }
 {
     let before = state.history.len();
     match cancel(state, number, target, wait) {
@@ -171,7 +171,7 @@ fn list(state: &mut State<'_>, ready: &mut BTreeSet<TaskId>, listing: Listing) -
     ensures keeps { Keeps state.old state.new }
     ensures part { OnErr result (IsPartly (ListsWhere listing) state.old.history state.new.history) }
     ensures laws { KeepsLaws state.new }
-    ensures stop { IfErr result (λ stop. StopsRun state.old.cluster state.new.history stop) }
+    ensures stop { IfErr result (λ stop. StopsMove (ListsWhere listing) state.old.history state.new.history stop) }
 {
     match list_there(state, ready, listing) {
         Ok(_) => Ok(()),
@@ -190,7 +190,7 @@ fn step(state: &mut State<'_>, ready: &mut BTreeSet<TaskId>, task: TaskId) -> Re
     ensures keeps { Keeps state.old state.new }
     ensures part { OnErr result (IsPartly (λ h new. (stepped : Stepped) × AnswersStep state.old.cluster state.old.corpus.now state.old.script.now task h stepped new) state.old.history state.new.history) }
     ensures laws { KeepsLaws state.new }
-    ensures stop { IfErr result (λ stop. StopsRun state.old.cluster state.new.history stop) }
+    ensures stop { IfErr result (λ stop. StopsMove (λ h new. (stepped : Stepped) × AnswersStep state.old.cluster state.old.corpus.now state.old.script.now task h stepped new) state.old.history state.new.history stop) }
 {
     match step_there(state, ready, task) {
         Ok(_) => Ok(()),
@@ -218,7 +218,7 @@ fn act_on(
     ensures keeps { Keeps state.old state.new }
     ensures part { OnErr result (PartlyDoes state.old.cluster state.old.corpus.now state.old.script.now number command.now state.old.history state.new.history) }
     ensures laws { KeepsLaws state.new }
-    ensures stop { IfErr result (λ stop. StopsRun state.old.cluster state.new.history stop) }
+    ensures stop { IfErr result (λ stop. StopsDoing state.old.cluster state.old.corpus.now state.old.script.now number command.now state.old.history state.new.history stop) }
 {
     match command {
         Command::Search { index, node, body } => search(state, ready, number, index, *node, body),
@@ -245,7 +245,7 @@ fn begin_there(state: &mut State<'_>, ready: &mut BTreeSet<TaskId>, number: u32)
     ensures keeps { Keeps state.old state.new }
     ensures part { OnErr result ((state.new.history ≡ state.old.history) ⊎ (state.new.history ≡ Event.Begin number ∷ state.old.history)) }
     ensures laws { KeepsLaws state.new }
-    ensures stop { IfErr result (λ stop. StopsRun state.old.cluster state.new.history stop) }
+    ensures stop { IfErr result (λ stop. StopsMove (λ h new. new ≡ Event.Begin number ∷ h) state.old.history state.new.history stop) }
 {
     let before = state.history.len();
     begin(state, number)?;
@@ -274,7 +274,7 @@ pub(crate) fn command(
     ensures keeps { Keeps state.old state.new }
     ensures part { OnErr result (PartlyCommands state.old.cluster state.old.corpus.now state.old.script.now k state.old.history state.new.history) }
     ensures laws { KeepsLaws state.new }
-    ensures stop { IfErr result (λ stop. StopsRun state.old.cluster state.new.history stop) }
+    ensures stop { IfErr result (λ stop. StopsCommand state.old.cluster state.old.corpus.now state.old.script.now k state.old.history state.new.history stop) }
 {
     match begin_there(state, ready, k) {
         Ok(()) => {}
@@ -305,7 +305,7 @@ pub(crate) fn drain(state: &mut State<'_>, ready: &mut BTreeSet<TaskId>) -> Resu
     ensures keeps { Keeps state.old state.new }
     ensures part { OnErr result (PartlyDrains state.old.cluster state.old.corpus.now state.old.script.now state.old.history state.new.history) }
     ensures laws { KeepsLaws state.new }
-    ensures stop { IfErr result (λ stop. StopsRun state.old.cluster state.new.history stop) }
+    ensures stop { IfErr result (λ stop. StopsDrain state.old.cluster state.old.corpus.now state.old.script.now state.old.history state.new.history stop) }
 {
     let closing = state.script.commands.as_slice().len() as u32 + 1;
     // Of a past in which nothing moves any more. It computes nothing.

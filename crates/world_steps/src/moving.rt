@@ -5,8 +5,7 @@ ghost use Rattle.task_events.specs.declared.history.TheConstants.{MAX_EVENTS};
 ghost use Rattle.task_events.specs.Laws.{IsDrained};
 ghost use Rattle.world_moves.specs.Listings.{ListSteps, AnswersListing};
 ghost use Rattle.world_moves.specs.Moves.{Delivers, IsPartly, StopsDelivery, StopsMove};
-ghost use Rattle.world_steps.specs.Runs.{Steps, AnswersStep, FirstMoves, HasRoom, IsSettled, Settles, PartlySettles};
-ghost use Rattle.world_steps.specs.Scripts.{StopsRun};
+ghost use Rattle.world_steps.specs.Runs.{Steps, AnswersStep, FirstMoves, HasRoom, IsSettled, Settles, PartlySettles, StopsFirst, StopsSettling};
 ghost use Rattle.world_moves.specs.Ties.{IsTied, Keeps, HasShards, KeepsLaws};
 ghost use Rattle.world_steps.specs.World.{HasReady};
 
@@ -94,7 +93,7 @@ pub(crate) fn step_there(
     ensures keeps { Keeps state.old state.new }
     ensures part { OnErr result (IsPartly (Steps state.old.cluster state.old.corpus.now state.old.script.now task) state.old.history state.new.history) }
     ensures laws { KeepsLaws state.new }
-    ensures stop { IfErr result (λ stop. StopsMove state.new.history stop) }
+    ensures stop { IfErr result (λ stop. StopsMove (Steps state.old.cluster state.old.corpus.now state.old.script.now task) state.old.history state.new.history stop) }
 {
     let before = state.history.len();
     let stepped = match act(state, task) {
@@ -122,7 +121,7 @@ pub(crate) fn list_there(
     ensures keeps { Keeps state.old state.new }
     ensures part { OnErr result (IsPartly (ListSteps listing) state.old.history state.new.history) }
     ensures laws { KeepsLaws state.new }
-    ensures stop { IfErr result (λ stop. StopsMove state.new.history stop) }
+    ensures stop { IfErr result (λ stop. StopsMove (ListSteps listing) state.old.history state.new.history stop) }
 {
     let before = state.history.len();
     let stepped = match list_step(state, listing) {
@@ -149,7 +148,7 @@ pub(crate) fn move_first(state: &mut State<'_>, ready: &mut BTreeSet<TaskId>) ->
     ensures keeps { Keeps state.old state.new }
     ensures part { OnErr result (IsPartly (FirstMoves state.old.cluster state.old.corpus.now state.old.script.now) state.old.history state.new.history) }
     ensures laws { KeepsLaws state.new }
-    ensures stop { IfErr result (λ stop. StopsDelivery state.old.cluster state.old.history 0 state.new.history stop) }
+    ensures stop { IfErr result (λ stop. StopsFirst state.old.cluster state.old.corpus.now state.old.script.now state.old.history state.new.history stop) }
 {
     if state.flight.len() > 0 {
         return match deliver_there(state, ready, 0) {
@@ -185,7 +184,7 @@ pub(crate) fn settle(state: &mut State<'_>, ready: &mut BTreeSet<TaskId>) -> Res
     ensures keeps { Keeps state.old state.new }
     ensures part { OnErr result (PartlySettles state.old.cluster state.old.corpus.now state.old.script.now state.old.history state.new.history) }
     ensures laws { KeepsLaws state.new }
-    ensures stop { IfErr result (λ stop. StopsRun state.old.cluster state.new.history stop) }
+    ensures stop { IfErr result (λ stop. StopsSettling state.old.cluster state.old.corpus.now state.old.script.now state.old.history state.new.history stop) }
 {
     loop {
         match move_first(state, ready) {

@@ -1,13 +1,13 @@
 //! Commands begin, and their roots come to their nodes.
 
-ghost use Rattle.std.specs.Prelude.{◌≡◌, ◌∷◌, ℕ, ◌+◌, ◌≤◌, length, cond, Err, Some, IfOk, IfErr, OnOk, OnErr};
+ghost use Rattle.std.specs.Prelude.{◌≡◌, ◌∷◌, ℕ, Bool, ◌+◌, ◌≤◌, length, cond, Err, Some, IfOk, IfErr, OnOk, OnErr};
 ghost use Rattle.std.specs.BTreeMap.{is_at, get};
 ghost use Rattle.std.specs.Ordering.{nat_cmp};
 ghost use Rattle.task_ids.specs.TaskIdOrder.{task_id_cmp};
 ghost use Rattle.task_table.specs.Answer.{refused_token};
 ghost use Rattle.task_events.specs.declared.history.TheConstants.{MAX_EVENTS};
 ghost use Rattle.task_events.specs.Cancels.{beginning, last_command};
-ghost use Rattle.world_moves.specs.Moves.{Starts, NodeLacksNumber};
+ghost use Rattle.world_moves.specs.Moves.{Starts, NodeLacksNumber, IsPartly, IsCutShort};
 ghost use Rattle.world_moves.specs.Roots.{root_request};
 ghost use Rattle.world_moves.specs.Ties.{IsTied, Keeps, task_at};
 
@@ -75,7 +75,7 @@ fn reject_root(
     ensures happened { OnOk result (history.new ≡ Event.RootRejected command node ∷ history.old) }
     ensures no_slot { OnOk result (refused ≡ PutError.Full (refused_token refused)) }
     ensures err { OnErr result (history.new ≡ history.old) }
-    ensures full { result ≡ Err Stop.HistoryFull → length history.old ≡ MAX_EVENTS }
+    ensures full { result ≡ Err Stop.HistoryFull → (length history.old ≡ MAX_EVENTS) × (refused ≡ PutError.Full (refused_token refused)) }
     ensures spent { result ≡ Err Stop.NumbersSpent → refused ≡ PutError.NumbersSpent (refused_token refused) }
     ensures room { OnOk result (length history.new ≤ MAX_EVENTS) }
 {
@@ -115,7 +115,8 @@ fn start_with(
     ensures tied { OnOk result (IsTied state.new) }
     ensures keeps { Keeps state.old state.new }
     ensures err { OnErr result (state.new.history ≡ state.old.history) }
-    ensures full { result ≡ Err Stop.HistoryFull → length state.old.history ≡ MAX_EVENTS }
+    ensures full { result ≡ Err Stop.HistoryFull
+        → IsCutShort (IsPartly (λ h new. (started : Bool) × Starts state.old.cluster h command node started new) state.old.history) state.new.history }
     ensures spent { result ≡ Err Stop.NumbersSpent
         → NodeLacksNumber state.old.cluster state.old.history node }
     ensures room { OnOk result (length state.new.history ≤ MAX_EVENTS) }
@@ -174,7 +175,8 @@ pub(crate) fn start(
     ensures tied { OnOk result (IsTied state.new) }
     ensures keeps { Keeps state.old state.new }
     ensures err { OnErr result (state.new.history ≡ state.old.history) }
-    ensures full { result ≡ Err Stop.HistoryFull → length state.old.history ≡ MAX_EVENTS }
+    ensures full { result ≡ Err Stop.HistoryFull
+        → IsCutShort (IsPartly (λ h new. (started : Bool) × Starts state.old.cluster h command node started new) state.old.history) state.new.history }
     ensures spent { result ≡ Err Stop.NumbersSpent
         → NodeLacksNumber state.old.cluster state.old.history node }
     ensures room { OnOk result (length state.new.history ≤ MAX_EVENTS) }

@@ -8,8 +8,8 @@ ghost use Rattle.world_moves.specs.Cancels.{AllAnswered};
 ghost use Rattle.world_moves.specs.Listings.{ListSteps, AnswersListing};
 ghost use Rattle.world_moves.specs.Moves.{Delivers, IsPartly, StopsDelivery, StopsMove};
 ghost use Rattle.world_moves.specs.Plain.{AnswersPlainly};
-ghost use Rattle.world_steps.specs.Runs.{Steps, AnswersStep, Settles, PartlySettles};
-ghost use Rattle.world_steps.specs.Scripts.{CanRun, Commands, PartlyCommands, Drains, PartlyDrains, IsTurn, closing, StopsRun};
+ghost use Rattle.world_steps.specs.Runs.{Steps, AnswersStep, Settles, PartlySettles, StopsSettling};
+ghost use Rattle.world_steps.specs.Scripts.{CanRun, Commands, PartlyCommands, Drains, PartlyDrains, IsTurn, closing, StopsCommand, StopsDrain};
 ghost use Rattle.task_ids.specs.Limits.{IsNode, IsSlotCount};
 ghost use Rattle.task_table.specs.Table.{new_table};
 ghost use Rattle.world_steps.specs.World.{tables_from, cores_from, no_bans};
@@ -235,7 +235,7 @@ impl<'a> World<'a> {
         ensures part { OnErr result (PartlyCommands self.old.cluster self.old.corpus self.old.script k self.old.past self.new.past) }
         ensures stop { IfErr result (λ stop. self.new.stopped ≡ Some stop) }
         ensures stopped { IfSome self.old.stopped (λ stop. (result ≡ Err stop) × (self.new.past ≡ self.old.past)) }
-        ensures cause { IfErr result (λ stop. self.old.stopped ≡ None → StopsRun self.old.cluster self.new.past stop) }
+        ensures cause { IfErr result (λ stop. self.old.stopped ≡ None → StopsCommand self.old.cluster self.old.corpus self.old.script k self.old.past self.new.past stop) }
         ensures keeps { self.new ≡ record self.old { past = self.new.past; stopped = self.new.stopped } }
     {
         if let Some(stop) = self.stopped {
@@ -264,7 +264,7 @@ impl<'a> World<'a> {
         ensures part { OnErr result (PartlyDrains self.old.cluster self.old.corpus self.old.script self.old.past self.new.past) }
         ensures stop { IfErr result (λ stop. self.new.stopped ≡ Some stop) }
         ensures stopped { IfSome self.old.stopped (λ stop. (result ≡ Err stop) × (self.new.past ≡ self.old.past)) }
-        ensures cause { IfErr result (λ stop. self.old.stopped ≡ None → StopsRun self.old.cluster self.new.past stop) }
+        ensures cause { IfErr result (λ stop. self.old.stopped ≡ None → StopsDrain self.old.cluster self.old.corpus self.old.script self.old.past self.new.past stop) }
         ensures keeps { self.new ≡ record self.old { past = self.new.past; stopped = self.new.stopped } }
     {
         if let Some(stop) = self.stopped {
@@ -317,7 +317,7 @@ impl<'a> World<'a> {
         ensures part { OnErr result (IsPartly (Steps self.old.cluster self.old.corpus self.old.script task) self.old.past self.new.past) }
         ensures stop { IfErr result (λ stop. self.new.stopped ≡ Some stop) }
         ensures stopped { IfSome self.old.stopped (λ stop. (result ≡ Err stop) × (self.new.past ≡ self.old.past)) }
-        ensures cause { IfErr result (λ stop. self.old.stopped ≡ None → StopsMove self.new.past stop) }
+        ensures cause { IfErr result (λ stop. self.old.stopped ≡ None → StopsMove (Steps self.old.cluster self.old.corpus self.old.script task) self.old.past self.new.past stop) }
         ensures keeps { self.new ≡ record self.old { past = self.new.past; stopped = self.new.stopped } }
     {
         if let Some(stop) = self.stopped {
@@ -342,7 +342,7 @@ impl<'a> World<'a> {
         ensures part { OnErr result (IsPartly (ListSteps (record { node = node; parent = parent })) self.old.past self.new.past) }
         ensures stop { IfErr result (λ stop. self.new.stopped ≡ Some stop) }
         ensures stopped { IfSome self.old.stopped (λ stop. (result ≡ Err stop) × (self.new.past ≡ self.old.past)) }
-        ensures cause { IfErr result (λ stop. self.old.stopped ≡ None → StopsMove self.new.past stop) }
+        ensures cause { IfErr result (λ stop. self.old.stopped ≡ None → StopsMove (ListSteps (record { node = node; parent = parent })) self.old.past self.new.past stop) }
         ensures keeps { self.new ≡ record self.old { past = self.new.past; stopped = self.new.stopped } }
     {
         if let Some(stop) = self.stopped {
@@ -370,7 +370,7 @@ impl<'a> World<'a> {
         ensures part { OnErr result (PartlySettles self.old.cluster self.old.corpus self.old.script self.old.past self.new.past) }
         ensures stop { IfErr result (λ stop. self.new.stopped ≡ Some stop) }
         ensures stopped { IfSome self.old.stopped (λ stop. (result ≡ Err stop) × (self.new.past ≡ self.old.past)) }
-        ensures cause { IfErr result (λ stop. self.old.stopped ≡ None → StopsRun self.old.cluster self.new.past stop) }
+        ensures cause { IfErr result (λ stop. self.old.stopped ≡ None → StopsSettling self.old.cluster self.old.corpus self.old.script self.old.past self.new.past stop) }
         ensures keeps { self.new ≡ record self.old { past = self.new.past; stopped = self.new.stopped } }
     {
         if let Some(stop) = self.stopped {

@@ -1,7 +1,7 @@
 use Rattle.std.proofs.Common.{◌∙◌, ◌∷◌, Err, inr, refl, ap, subst}
 use Rattle.task_events.specs.declared.event.Event.TheVariants.{Mark, Listed}
 use Rattle.task_laws.proofs.Reach.{reach_facts}
-use Rattle.world_moves.specs.Moves.{IsPartOf, IsCutShort}
+use Rattle.world_moves.specs.Moves.{IsPartOf, IsPartly, IsCutShort}
 use Rattle.world_moves.specs.Listings.{ListSteps}
 use Rattle.world_moves.proofs.NextChild.{listed_mark}
 use Rattle.world_moves.proofs.NodeTables.{left_out, nobody_waits, no_answers_due}
@@ -54,7 +54,7 @@ returns-in-Err-clause-stop c =
     let high = (reach_facts s.cluster s.history c.requires.tied.ties.lawful).live_in c.in-Some.task found.0.live in
     let none = nobody_waits s.cluster _ s.history _ _ s.bans.items s.cores.items _ c.requires.tied.cancels c.in-Some.task found.0.unmarked high in
     let whole = no_answers_due c.in-Some.task c.in-Some.cancel s.history none in
-    stops_so c.in-Err.stop (ListSteps c.args.listing) s.history c.mark.new.state.history (λ failed.
+    stops_so c.in-Err.stop (IsPartly (ListSteps c.args.listing) s.history) ⊥ c.mark.new.state.history (λ failed.
     cut_move (ListSteps c.args.listing) s.history c.mark.new.state.history _ (Mark c.in-Some.task c.in-Some.cancel, c.requires.opened, found, refl)
     (subst (λ w. IsCutShort (λ past. IsPartOf s.history past w) c.mark.new.state.history) whole (c.mark.ensures.full (c.in-Err.is ∙ ap Err failed)))) (λ spent. c.mark.ensures.numbers (c.in-Err.is ∙ ap Err spent))
 
@@ -62,6 +62,6 @@ pub returns-in-Err-end_listing-clause-stop : goal.returns-in-Err-end_listing-cla
 returns-in-Err-end_listing-clause-stop c =
     let s = c.args.state.now in
     let l = c.args.listing in
-    stops_so c.in-Err-end_listing.stop (ListSteps l) s.history c.end_listing.new.state.history (λ failed.
+    stops_so c.in-Err-end_listing.stop (IsPartly (ListSteps l) s.history) ⊥ c.end_listing.new.state.history (λ failed.
     cut_only (ListSteps l) s.history c.end_listing.new.state.history (Listed l.node l.parent) (Listed l.node l.parent, c.requires.opened, (refl, refl, c.in-None.ensures.none), refl)
     (c.end_listing.ensures.full (c.in-Err-end_listing.is ∙ ap Err failed)) c.in-Err-end_listing.ensures.err) (λ spent. c.end_listing.ensures.numbers (c.in-Err-end_listing.is ∙ ap Err spent))

@@ -1,9 +1,14 @@
-use Rattle.std.proofs.Common.{◌∷◌, ◌∙◌, refl, sym, subst}
+use Rattle.std.proofs.Common.{◌∷◌, ◌∙◌, refl, sym, subst, rules, ◌≡◌, length, Err}
 use Rattle.task_events.specs.declared.event.Event.TheVariants.{End}
 use Rattle.task_events.specs.declared.step.Do.TheVariants.{AskNext, Turn, Wait, Finish}
 use Rattle.world_moves.specs.Ties.{DoesNext, task_at}
 use Rattle.world_steps.proofs.NoneDue.{none_due}
 use Rattle.world_steps.proofs.Plans.{does}
+use Rattle.task_events.specs.declared.history.TheConstants.{MAX_EVENTS}
+use Rattle.world_moves.specs.Moves.{IsPartly}
+use Rattle.world_moves.proofs.CutShort.{cut_only}
+use Rattle.world_moves.proofs.Outcomes.{stops}
+use Rattle.world_steps.specs.Runs.{Steps}
 use Rattle.world_steps.proofs.acting.work_on.Goals as goal
 
 pub returns-in-Wait : goal.returns-in-Wait
@@ -57,3 +62,27 @@ returns-in_ok-finish-in-Finish c =
       err = tt;
       stop = tt;
     }
+
+pub returns-in_err-ask-in-AskNext-clause-stop : goal.returns-in_err-ask-in-AskNext-clause-stop
+returns-in_err-ask-in-AskNext-clause-stop c =
+    let s = c.args.state.now in
+    let next = subst (DoesNext (task_at s.tasks c.args.task)) c.in-AskNext.is c.requires.next in
+    let step = does s.cluster s.corpus.now s.script.now s.history _ _ _ c.requires.tied.ties c.args.task c.requires.live c.requires.passed c.requires.unmarked (AskNext c.in-AskNext.request) next in
+    stops c.from_residual.result (IsPartly (Steps s.cluster s.corpus.now s.script.now c.args.task) s.history) ⊥ c.ask.new.state.history (λ failed. (let full : length s.history ≡ MAX_EVENTS = search rules in
+    cut_only (Steps s.cluster s.corpus.now s.script.now c.args.task) s.history c.ask.new.state.history _ (_, c.requires.live, step, refl) full c.in_err-ask-in-AskNext.ensures.err)) (λ failed. search rules)
+
+pub returns-in_err-turn-in-Turn-clause-stop : goal.returns-in_err-turn-in-Turn-clause-stop
+returns-in_err-turn-in-Turn-clause-stop c =
+    let s = c.args.state.now in
+    let next = subst (DoesNext (task_at s.tasks c.args.task)) c.in-Turn.is c.requires.next in
+    let step = does s.cluster s.corpus.now s.script.now s.history _ _ _ c.requires.tied.ties c.args.task c.requires.live c.requires.passed c.requires.unmarked Turn next in
+    stops c.from_residual-in_err-turn-in-Turn.result (IsPartly (Steps s.cluster s.corpus.now s.script.now c.args.task) s.history) ⊥ c.turn.new.state.history (λ failed. (let full : length s.history ≡ MAX_EVENTS = search rules in
+    cut_only (Steps s.cluster s.corpus.now s.script.now c.args.task) s.history c.turn.new.state.history _ (_, c.requires.live, step, refl) full c.in_err-turn-in-Turn.ensures.err)) (λ failed. search rules)
+
+pub returns-in_err-finish-in-Finish-clause-stop : goal.returns-in_err-finish-in-Finish-clause-stop
+returns-in_err-finish-in-Finish-clause-stop c =
+    let s = c.args.state.now in
+    let next = subst (DoesNext (task_at s.tasks c.args.task)) c.in-Finish.is c.requires.next in
+    let step = does s.cluster s.corpus.now s.script.now s.history _ _ _ c.requires.tied.ties c.args.task c.requires.live c.requires.passed c.requires.unmarked (Finish c.in-Finish.reply) next in
+    stops c.from_residual-in_err-finish-in-Finish.result (IsPartly (Steps s.cluster s.corpus.now s.script.now c.args.task) s.history) ⊥ c.finish.new.state.history (λ failed. (let full : length s.history ≡ MAX_EVENTS = search rules in
+    cut_only (Steps s.cluster s.corpus.now s.script.now c.args.task) s.history c.finish.new.state.history _ (_, c.requires.live, step, sym (none_due c.args.task (End c.args.task c.in-Finish.reply ∷ s.history) c.requires.unmarked)) full c.in_err-finish-in-Finish.ensures.err)) (λ failed. search rules)

@@ -1,10 +1,12 @@
-use Rattle.std.proofs.Common.{[], refl, sym, subst}
+use Rattle.std.proofs.Common.{[], refl, sym, subst, rules, ◌≡◌, length}
 use Rattle.task_events.specs.declared.event.Event.TheVariants.{NotFound}
 use Rattle.world_moves.specs.Cancels.{target_of}
-use Rattle.world_moves.specs.Moves.{IsPartOf}
+use Rattle.world_moves.specs.Moves.{IsPartOf, IsCutShort}
 use Rattle.world_moves.proofs.MarksAfter.{nothing_yet, on_error}
 use Rattle.world_steps.proofs.NamedAfter.{names_none, ties_after_missing}
 use Rattle.world_moves.proofs.Uninvolved.{noted}
+use Rattle.task_events.specs.declared.history.TheConstants.{MAX_EVENTS}
+use Rattle.world_moves.proofs.CutShort.{cut_first}
 use Rattle.world_steps.proofs.cancels.cancel.Goals as goal
 
 pub returns-in_err-append-clause-part : goal.returns-in_err-append-clause-part
@@ -22,3 +24,10 @@ returns-clause-tied c =
       cancels = rw happened (noted s.cluster _ s.history _ _ s.bans.items s.cores.items s.listings c.requires.tied.cancels (NotFound c.args.number) refl refl);
       awaits = rw happened tt;
     }
+
+pub returns-in_err-append-clause-full : goal.returns-in_err-append-clause-full
+returns-in_err-append-clause-full c = λ failed.
+    let h = c.args.state.now.history in
+    let missing = names_none c.args.number c.args.wait h (target_of c.args.target.now h) c.in_default.ensures.none in
+    let full : length h ≡ MAX_EVENTS = search rules in
+    subst (λ whole. IsCutShort (λ past. IsPartOf h past whole) c.append.new.history) (sym missing) (cut_first h c.append.new.history [] (NotFound c.args.number) full c.in_err-append.ensures.err)

@@ -6,3 +6,9 @@ returns-then-is_marked-clause-part c = let marked = sym c.is_marked.ensures ∙ 
 
 pub returns-else-is_marked-clause-part : goal.returns-else-is_marked-clause-part
 returns-else-is_marked-clause-part c = let unmarked = sym c.is_marked.ensures ∙ c.if-is_marked.false in rw unmarked c.name_and_mark.ensures.part
+
+pub returns-then-is_marked-clause-full : goal.returns-then-is_marked-clause-full
+returns-then-is_marked-clause-full c = let marked = sym c.is_marked.ensures ∙ c.if-is_marked.true in rw marked c.join.ensures.full
+
+pub returns-else-is_marked-clause-full : goal.returns-else-is_marked-clause-full
+returns-else-is_marked-clause-full c = let unmarked = sym c.is_marked.ensures ∙ c.if-is_marked.false in rw unmarked c.name_and_mark.ensures.full

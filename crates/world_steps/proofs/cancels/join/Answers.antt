@@ -1,16 +1,19 @@
-use Rattle.std.proofs.Common.{◌∙◌, ◌∷◌, [], ◌++◌, Some, sym, ap, subst, arith, append-nil}
-use Rattle.std.specs.Prelude.{is_some, unwrap_or}
+use Rattle.std.proofs.Common.{◌∙◌, ◌∷◌, [], ◌++◌, Some, sym, ap, subst, arith, append-nil, rules, ◌≡◌, length, Err}
+use Rattle.std.specs.Prelude.{is_some, reverse, unwrap_or}
 use Rattle.std.proofs.lemmas.Option.{get_or_from_slice_get}
 use Rattle.cancel_core.specs.Acts.{join_acts, joined_by}
 use Rattle.cancel_core.specs.Cancellation.{Cancellation, opened, WaitsWherePlaced}
 use Rattle.cancel_core.specs.Cancellations.{with_entry}
 use Rattle.task_events.specs.declared.event.Event.TheVariants.{Cancel}
-use Rattle.world_moves.specs.Acts.{messages_in}
-use Rattle.world_moves.specs.Cancels.{waiting_for, with_answers}
+use Rattle.world_moves.specs.Acts.{messages_in, answers_in}
+use Rattle.world_moves.specs.Cancels.{due_answers, waiting_for, with_answers}
 use Rattle.world_moves.specs.Moves.{IsPartOf}
 use Rattle.world_moves.proofs.CoresAfter.{has_core}
 use Rattle.world_steps.proofs.JoinsAfter.{waiter, join_high, join_core, join_entry, join_open, joined_sent, join_tied, join_await, join_noted, join_happened, join_part, join_laws, nothing_yet}
 use Rattle.world_moves.proofs.MarksAfter.{on_error}
+use Rattle.task_events.specs.declared.history.TheConstants.{MAX_EVENTS}
+use Rattle.task_events.specs.declared.stop.Stop.TheVariants.{HistoryFull}
+use Rattle.world_moves.proofs.CutShort.{cut_as, cut_first}
 use Rattle.world_steps.proofs.cancels.join.Goals as goal
 
 pub index_mut-requires : goal.index_mut-requires
@@ -105,3 +108,27 @@ returns-clause-tied c =
       cancels = rw (happened, core) (join_noted s.cluster s.history c.args.number c.args.task c.args.wait c.requires.begun c.requires.tied.ties.lawful c.requires.tied.awaits c.requires.live c.requires.marked e.0 e.2 waits c.requires.tied.cancels.one_task _ _ _ s.cores.items _ c.requires.tied.cancels c.index_mut.result.now here);
       awaits = rw happened (join_await s.cluster s.history c.args.number c.args.task c.args.wait c.requires.begun c.requires.tied.ties.lawful c.requires.tied.awaits c.requires.live c.requires.marked e.0 e.2 waits c.requires.tied.cancels.one_task);
     }
+
+pub returns-in_err-append-clause-full : goal.returns-in_err-append-clause-full
+returns-in_err-append-clause-full c = λ failed.
+    let h = c.args.state.now.history in
+    let t = c.args.task in
+    let last = Cancel c.args.number t c.args.wait in
+    let full : length h ≡ MAX_EVENTS = search rules in
+    cut_first h c.append.new.history (reverse (due_answers t (last ∷ h))) last full c.in_err-append.ensures.err
+
+pub returns-in_err-perform-clause-full : goal.returns-in_err-perform-clause-full
+returns-in_err-perform-clause-full c = λ failed.
+    let s = c.args.state.now in
+    let is_err : c.perform.result ≡ Err HistoryFull = search rules in
+    let on = join_core s.cluster s.history c.args.number c.args.task c.args.wait c.requires.begun c.requires.tied.ties.lawful c.requires.tied.awaits c.requires.live c.requires.marked s.cores.items c.requires.tied.cancels.cores_are in
+    let is = c.index_mut.ensures.value ∙ get_or_from_slice_get s.cores.items _ on.0 _ on.1 in
+    let here = on.1 ∙ ap Some (sym is) in
+    let e = join_entry s.cluster s.history c.args.number c.args.task c.args.wait c.requires.begun c.requires.tied.ties.lawful c.requires.tied.awaits c.requires.live c.requires.marked s.cores.items c.requires.tied.cancels.cores_are c.index_mut.result.now here in
+    let entry = ap (λ o. unwrap_or o (opened 0 [])) e.1 in
+    let waits = subst WaitsWherePlaced entry c.joined.ensures.waiting in
+    let acts = c.as_slice.ensures.value ∙ c.in-Ok.ensures.acts ∙ ap (λ k. join_acts c.args.task k (waiter s.cluster s.history c.args.number c.args.task c.args.wait c.requires.begun c.requires.tied.ties.lawful c.requires.tied.awaits c.requires.live)) entry in
+    let whole = with_answers c.args.task (Cancel c.args.number c.args.task c.args.wait ∷ s.history) in
+    cut_as (λ past. IsPartOf c.append.new.history past (answers_in c.as_slice.result.now ++ c.append.new.history)) (λ past. IsPartOf s.history past whole) c.perform.new.history (λ past performed.
+    join_part s.cluster s.history c.args.number c.args.task c.args.wait c.requires.begun c.requires.tied.ties.lawful c.requires.tied.awaits c.requires.live c.requires.marked e.0 e.2 waits c.requires.tied.cancels.one_task c.append.new.history past _ c.in_ok-append.ensures.ok acts performed)
+    (c.perform.ensures.full is_err)

@@ -1,14 +1,17 @@
-use Rattle.std.proofs.Common.{◌≡◌, ◌∙◌, ◌∷◌, [], ◌++◌, false, ℕ, Option, Some, None, refl, sym, ap, subst}
+use Rattle.std.proofs.Common.{◌≡◌, ◌∙◌, ◌∷◌, [], ◌++◌, false, ℕ, Option, Some, None, refl, sym, ap, subst, rules, length, Err}
 use Rattle.std.specs.Prelude.{reverse, is_some}
 use Rattle.task_events.specs.declared.event.Event.TheVariants.{Cancel, Mark}
 use Rattle.task_events.specs.Bans.{mark_of}
 use Rattle.task_laws.proofs.Reach.{reach_facts}
 use Rattle.world_moves.specs.Cancels.{due_answers, waiting_for, with_answers}
-use Rattle.world_moves.specs.Moves.{IsPartOf}
+use Rattle.world_moves.specs.Moves.{IsPartOf, IsCutShort}
 use Rattle.world_moves.proofs.MarksAfter.{nothing_yet, on_error, two_parts}
 use Rattle.world_steps.proofs.NamedAfter.{ties_after_cancel, cancels_after_cancel, mark_lawful, waits_alone}
 use Rattle.world_moves.proofs.NodeTables.{nobody_waits}
 use Rattle.world_moves.proofs.Parts.{later_part}
+use Rattle.task_events.specs.declared.history.TheConstants.{MAX_EVENTS}
+use Rattle.task_events.specs.declared.stop.Stop.TheVariants.{HistoryFull}
+use Rattle.world_moves.proofs.CutShort.{cut_as, cut_first}
 use Rattle.world_steps.proofs.cancels.name_and_mark.Goals as goal
 
 -- nothing is there
@@ -63,3 +66,23 @@ returns-in_err-mark-clause-part c =
     let last = Cancel k t c.args.wait in
     let part = subst (λ past. IsPartOf past c.mark.new.state.history (with_answers t (Mark t k ∷ past))) c.in_ok-append.ensures.ok c.in_err-mark.ensures.part in
     on_error c.from_residual-in_err-mark.result _ (later_part last h _ _ part)
+
+pub returns-in_err-append-clause-full : goal.returns-in_err-append-clause-full
+returns-in_err-append-clause-full c = λ failed.
+    let h = c.args.state.now.history in
+    let t = c.args.task in
+    let k = c.args.number in
+    let last = Cancel k t c.args.wait in
+    let es = reverse (due_answers t (Mark t k ∷ last ∷ h)) in
+    let full : length h ≡ MAX_EVENTS = search rules in
+    subst (λ whole. IsCutShort (λ past. IsPartOf h past whole) c.append.new.history) (sym (two_parts es (Mark t k) (last ∷ h))) (cut_first h c.append.new.history (es ++ Mark t k ∷ []) last full c.in_err-append.ensures.err)
+
+pub returns-in_err-mark-clause-full : goal.returns-in_err-mark-clause-full
+returns-in_err-mark-clause-full c = λ failed.
+    let h = c.args.state.now.history in
+    let t = c.args.task in
+    let k = c.args.number in
+    let last = Cancel k t c.args.wait in
+    let is_err : c.mark.result ≡ Err HistoryFull = search rules in
+    cut_as (λ past. IsPartOf c.append.new.history past (with_answers t (Mark t k ∷ c.append.new.history))) (λ past. IsPartOf h past (with_answers t (Mark t k ∷ last ∷ h))) c.mark.new.state.history
+    (λ past part. later_part last h past _ (subst (λ x. IsPartOf x past (with_answers t (Mark t k ∷ x))) c.in_ok-append.ensures.ok part)) (c.mark.ensures.full is_err)

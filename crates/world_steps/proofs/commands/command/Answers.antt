@@ -1,6 +1,9 @@
-use Rattle.std.proofs.Common.{◌∙◌, ◌-◌, ap, sym, subst, inr, arith}
-use Rattle.world_steps.specs.Scripts.{Does, PartlyDoes, CanDo, StopsRun}
-use Rattle.world_steps.proofs.Commanded.{partly_begun, at_number, can_do, carried, from_get_or, keeps_on}
+use Rattle.std.proofs.Common.{◌∙◌, ◌-◌, ap, sym, subst, inr, arith, ◌≡◌, ◌∷◌}
+use Rattle.world_steps.specs.Scripts.{Does, PartlyDoes, PartlyCommands, CanDo, StopsDoing}
+use Rattle.world_steps.proofs.Commanded.{part_of_begin, partly_begun, at_number, can_do, carried, from_get_or, keeps_on}
+use Rattle.task_events.specs.declared.event.Event.TheVariants.{Begin}
+use Rattle.world_moves.specs.Moves.{IsPartly}
+use Rattle.world_moves.proofs.Outcomes.{stops_as}
 use Rattle.world_steps.proofs.commands.command.Goals as goal
 
 pub returns-in-Err : goal.returns-in-Err
@@ -13,7 +16,8 @@ returns-in-Err c =
       keeps = c.in-Err.ensures.keeps;
       part = partly_begun s.cluster s.corpus.now s.script.now c.args.k (omega (arith, c.requires.next)) c.requires.there s.history c.begin_there.new.state.history c.in-Err.ensures.part;
       laws = c.in-Err.ensures.laws;
-      stop = c.in-Err.ensures.stop;
+      stop = stops_as (IsPartly (λ x y. y ≡ Begin c.args.k ∷ x) s.history) (PartlyCommands s.cluster s.corpus.now s.script.now c.args.k s.history) _ _ c.begin_there.new.state.history c.in-Err.stop
+          (λ past part. partly_begun s.cluster s.corpus.now s.script.now c.args.k (omega (arith, c.requires.next)) c.requires.there s.history past (part_of_begin c.args.k s.history past part)) (λ never. absurd never) c.in-Err.ensures.stop;
     }
 
 pub act_on-requires-clause-there : goal.act_on-requires-clause-there
@@ -71,5 +75,8 @@ returns-in-Err-act_on c =
             c.in-Ok.ensures.keeps.cluster c.in-Ok.ensures.keeps.corpus c.in-Ok.ensures.keeps.script c.in-Ok.ensures.happened c.in-Err-act_on.ensures.part,
       );
       laws = c.in-Err-act_on.ensures.laws;
-      stop = subst (λ cluster. StopsRun cluster c.act_on.new.state.history c.in-Err-act_on.stop) c.in-Ok.ensures.keeps.cluster c.in-Err-act_on.ensures.stop;
+      stop = stops_as (PartlyDoes s.cluster s.corpus.now s.script.now c.args.k c.in-Some.command.now (Begin c.args.k ∷ s.history)) (PartlyCommands s.cluster s.corpus.now s.script.now c.args.k s.history) _ _ c.act_on.new.state.history c.in-Err-act_on.stop
+          (λ past part. inr (c.in-Some.command.now, known, part)) (λ lacks. (c.in-Some.command.now, known, lacks))
+          (carried (λ cluster corpus script h. StopsDoing cluster corpus script c.args.k c.in-Some.command.now h c.act_on.new.state.history c.in-Err-act_on.stop) _ _ _ _ _ _ _ _
+          c.in-Ok.ensures.keeps.cluster c.in-Ok.ensures.keeps.corpus c.in-Ok.ensures.keeps.script c.in-Ok.ensures.happened c.in-Err-act_on.ensures.stop);
     }

@@ -1,5 +1,8 @@
 use Rattle.std.proofs.Common.{inl}
-use Rattle.world_steps.proofs.Commanded.{delivery_stops, partly_where}
+use Rattle.world_steps.proofs.Commanded.{partly_where}
+use Rattle.world_moves.specs.Moves.{Delivers, IsPartly}
+use Rattle.world_moves.proofs.Outcomes.{stops_as}
+use Rattle.world_steps.specs.Scripts.{DeliversWhere}
 use Rattle.world_steps.proofs.commands.deliver.Goals as goal
 
 pub returns-in-Ok : goal.returns-in-Ok
@@ -23,5 +26,6 @@ returns-in-Err c =
       keeps = c.in-Err.ensures.keeps;
       part = partly_where s.cluster c.args.nth s.history c.deliver_there.new.state.history c.in-Err.ensures.part;
       laws = c.in-Err.ensures.laws;
-      stop = delivery_stops s.cluster s.history c.deliver_there.new.state.history c.args.nth c.in-Err.stop c.in-Err.ensures.stop;
+      stop = stops_as (IsPartly (λ x y. Delivers s.cluster x c.args.nth y) s.history) (IsPartly (DeliversWhere s.cluster c.args.nth) s.history) _ _ c.deliver_there.new.state.history c.in-Err.stop
+          (λ past. partly_where s.cluster c.args.nth s.history past) (λ lacks. lacks) c.in-Err.ensures.stop;
     }

@@ -1,9 +1,13 @@
 use Rattle.std.proofs.Common.{◌≡◌, Bool, true, false, Result, Ok, Err, refl, ap, rules, inl}
 use Rattle.std.specs.BTreeSet.{btree_set_len}
 use Rattle.task_events.specs.declared.stop.Stop.{Stop}
-use Rattle.world_steps.proofs.Commanded.{move_stops_delivery, partly_first}
+use Rattle.world_steps.proofs.Commanded.{partly_first}
 use Rattle.world_steps.proofs.FirstListing.{listing_moves, listing_done, listing_partly, none_open}
 use Rattle.world_steps.proofs.FirstReady.{nothing_in_flight, first_move, first_part, first_has_room}
+use Rattle.world_moves.specs.Listings.{ListSteps}
+use Rattle.world_moves.specs.Moves.{Delivers, IsPartly}
+use Rattle.world_moves.proofs.Outcomes.{stops_as}
+use Rattle.world_steps.specs.Runs.{FirstMoves, Steps}
 use Rattle.world_steps.proofs.moving.move_first.Goals as goal
 
 moves : (r : Result Bool Stop) → r ≡ Ok true → r ≡ Ok false → ⊥
@@ -38,7 +42,8 @@ returns-in-Err c =
       keeps = c.in-Err.ensures.keeps;
       part = partly_first s.cluster s.corpus.now s.script.now s.history c.deliver_there.new.state.history c.in-Err.ensures.part;
       laws = c.in-Err.ensures.laws;
-      stop = c.in-Err.ensures.stop;
+      stop = stops_as (IsPartly (λ x y. Delivers s.cluster x 0 y) s.history) (IsPartly (FirstMoves s.cluster s.corpus.now s.script.now) s.history) _ _ c.deliver_there.new.state.history c.in-Err.stop
+          (λ past. partly_first s.cluster s.corpus.now s.script.now s.history past) (λ lacks. lacks) c.in-Err.ensures.stop;
     }
 
 pub returns-in-Ok-list_there : goal.returns-in-Ok-list_there
@@ -70,7 +75,8 @@ returns-in-Err-list_there c =
       keeps = c.in-Err-list_there.ensures.keeps;
       part = listing_partly s.cluster s.corpus.now s.script.now s.history s.listings c.in-Some.listing c.requires.tied.cancels.listings_are (search rules) (search rules) none c.list_there.new.state.history c.in-Err-list_there.ensures.part;
       laws = c.in-Err-list_there.ensures.laws;
-      stop = move_stops_delivery s.cluster s.history c.list_there.new.state.history 0 c.in-Err-list_there.stop c.in-Err-list_there.ensures.stop;
+      stop = stops_as (IsPartly (ListSteps c.in-Some.listing) s.history) (IsPartly (FirstMoves s.cluster s.corpus.now s.script.now) s.history) _ _ c.list_there.new.state.history c.in-Err-list_there.stop
+          (λ past. listing_partly s.cluster s.corpus.now s.script.now s.history s.listings c.in-Some.listing c.requires.tied.cancels.listings_are (search rules) (search rules) none past) (λ lacks. absurd lacks) c.in-Err-list_there.ensures.stop;
     }
 
 pub returns-in-Ok-step_there : goal.returns-in-Ok-step_there
@@ -106,5 +112,6 @@ returns-in-Err-step_there c =
       keeps = c.in-Err-step_there.ensures.keeps;
       part = first_part s.cluster s.corpus.now s.script.now s.history c.args.ready.now c.in-Some-copied.task c.requires.known (search rules) (search rules) none closed c.step_there.new.state.history c.in-Err-step_there.ensures.part;
       laws = c.in-Err-step_there.ensures.laws;
-      stop = move_stops_delivery s.cluster s.history c.step_there.new.state.history 0 c.in-Err-step_there.stop c.in-Err-step_there.ensures.stop;
+      stop = stops_as (IsPartly (Steps s.cluster s.corpus.now s.script.now c.in-Some-copied.task) s.history) (IsPartly (FirstMoves s.cluster s.corpus.now s.script.now) s.history) _ _ c.step_there.new.state.history c.in-Err-step_there.stop
+          (λ past. first_part s.cluster s.corpus.now s.script.now s.history c.args.ready.now c.in-Some-copied.task c.requires.known (search rules) (search rules) none closed past) (λ lacks. absurd lacks) c.in-Err-step_there.ensures.stop;
     }

@@ -2,9 +2,7 @@ use Rattle.std.proofs.Common.{Ok, ap, sym, length, subst}
 use Rattle.task_events.specs.declared.history.TheConstants.{MAX_EVENTS}
 use Rattle.task_events.specs.Laws.{IsDrained}
 use Rattle.world_steps.proofs.Resting.{drained}
-use Rattle.world_steps.proofs.Passing.{less_left, move_longer, settled_on, partly_on}
-use Rattle.world_steps.specs.Scripts.{StopsRun}
-use Rattle.world_steps.proofs.Commanded.{delivery_stops}
+use Rattle.world_steps.proofs.Passing.{less_left, move_longer, settled_on, partly_on, stops_on}
 use Rattle.world_steps.proofs.moving.settle.Goals as goal
 
 pub loop-stop-smaller : goal.loop-stop-smaller
@@ -22,8 +20,7 @@ returns-in-Err-clause-part c =
 
 pub returns-in-Err-clause-stop : goal.returns-in-Err-clause-stop
 returns-in-Err-clause-stop c =
-    let s = c.loop-stop.state in
-    subst (λ cluster. StopsRun cluster c.move_first.new.state.history c.in-Err.stop) c.loop-stop.invariant.keeps.cluster (delivery_stops s.cluster s.history c.move_first.new.state.history 0 c.in-Err.stop c.in-Err.ensures.stop)
+    stops_on c.args.state.now c.loop-stop.state c.move_first.new.state c.loop-stop.ready c.loop-stop.invariant c.in-Err.stop c.in-Err.ensures.stop
 
 pub returns-in-Ok-false-clause-over : goal.returns-in-Ok-false-clause-over
 returns-in-Ok-false-clause-over c =

@@ -1,4 +1,4 @@
-use Rattle.std.proofs.Common.{◌≡◌, ◌∙◌, ◌∷◌, ℕ, Option, Some, None, Err, refl, ap, sym, subst, cond, false}
+use Rattle.std.proofs.Common.{◌≡◌, ◌∙◌, ◌∷◌, ℕ, Option, Some, None, Err, refl, ap, sym, subst, cond, false, rules, length, Bool, true}
 use Rattle.std.specs.BTreeMap.{is_at, get}
 use Rattle.std.specs.Ordering.{nat_cmp}
 use Rattle.task_ids.specs.declared.task_id.TaskId.{TaskId}
@@ -18,6 +18,9 @@ use Rattle.world_moves.proofs.Started.{first}
 use Rattle.world_moves.proofs.StartsNoted.{noted_root}
 use Rattle.world_moves.proofs.Tables.{IsPutOn, node_has_table, no_slot, no_number}
 use Rattle.world_moves.proofs.Uninvolved.{noted}
+use Rattle.task_events.specs.declared.history.TheConstants.{MAX_EVENTS}
+use Rattle.world_moves.specs.Moves.{Starts}
+use Rattle.world_moves.proofs.CutShort.{cut_only}
 use Rattle.world_steps.proofs.roots.start_with.Goals as goal
 
 pub put_on-requires-clause-high : goal.put_on-requires-clause-high
@@ -81,3 +84,23 @@ returns-in-Err-reject_root-clause-spent c = λ e.
     let spent : c.in-Err-reject_root.stop ≡ Stop.NumbersSpent = cc in
     let refused = c.in-Err-reject_root.ensures.spent (ap Err spent) ∙ ap NumbersSpent c.in-Err.ensures.given_back in
     no_number s.cluster s.history s.tables.items c.requires.tied.ties.listed c.args.node c.requires.low c.requires.high c.requires.tied.ties.lawful (λ table e. c.in-Err.ensures.spent table e (ap Err refused))
+
+pub returns-in_err-keep_root-in-Ok-clause-full : goal.returns-in_err-keep_root-in-Ok-clause-full
+returns-in_err-keep_root-in-Ok-clause-full c = λ failed.
+    let s = c.args.state.now in
+    let t = c.in-Ok.ticket.id in
+    let put : IsPutOn s.tables.items c.args.node t c.new_task-root.result c.put_on.new.tables.items = record { id = c.in-Ok.ensures.id; row = c.in-Ok.ensures.row; free = c.in-Ok.ensures.free } in
+    let full : length s.history ≡ MAX_EVENTS = search rules in
+    cut_only (λ h new. (started : Bool) × Starts s.cluster h c.args.command c.args.node started new) s.history c.keep_root.new.history (Root c.args.command t)
+    (true, (Root c.args.command t, starts_root s.cluster s.corpus.now s.script.now s.history (task_at s.tasks) s.tables.items s.flight c.requires.tied.ties c.requires.tied.awaits c.args.command c.args.node c.requires.begun c.requires.low c.requires.high t _ _ put, refl))
+    full c.in_err-keep_root-in-Ok.ensures.err
+
+pub returns-in-Err-reject_root-clause-full : goal.returns-in-Err-reject_root-clause-full
+returns-in-Err-reject_root-clause-full c = λ failed.
+    let s = c.args.state.now in
+    let cut : c.in-Err-reject_root.stop ≡ Stop.HistoryFull = cc in
+    let found = c.in-Err-reject_root.ensures.full (ap Err cut) in
+    let refused = found.1 ∙ ap Full c.in-Err.ensures.given_back in
+    let full = no_slot s.cluster s.history s.tables.items c.requires.tied.ties.listed c.args.node c.requires.low c.requires.high c.requires.tied.ties.lawful (λ table e. c.in-Err.ensures.full table e (ap Err refused)) in
+    cut_only (λ h new. (started : Bool) × Starts s.cluster h c.args.command c.args.node started new) s.history c.reject_root.new.history (RootRejected c.args.command c.args.node)
+    (false, (RootRejected c.args.command c.args.node, (full, refl, refl), refl)) found.0 c.in-Err-reject_root.ensures.err

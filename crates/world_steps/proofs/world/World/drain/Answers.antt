@@ -1,5 +1,5 @@
 use Rattle.std.proofs.Common.{subst}
-use Rattle.world_steps.specs.Scripts.{IsTurn, PartlyDrains, closing}
+use Rattle.world_steps.specs.Scripts.{IsTurn, PartlyDrains, StopsDrain, closing}
 use Rattle.world_steps.proofs.Turning.{turn_of_drain}
 use Rattle.world_steps.proofs.world.World.drain.Goals as goal
 
@@ -10,3 +10,6 @@ returns-in-Ok-clause-turn c =
 
 pub returns-in-Err-clause-part : goal.returns-in-Err-clause-part
 returns-in-Err-clause-part c = subst (λ w. PartlyDrains w.cluster w.corpus w.script w.past c.drain.new.state.history) c.self.view_is c.in-Err.ensures.part
+
+pub returns-in-Err-clause-cause : goal.returns-in-Err-clause-cause
+returns-in-Err-clause-cause c = λ _. subst (λ w. StopsDrain w.cluster w.corpus w.script w.past c.drain.new.state.history c.in-Err.stop) c.self.view_is c.in-Err.ensures.stop

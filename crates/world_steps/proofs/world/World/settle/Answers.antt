@@ -1,6 +1,9 @@
 use Rattle.std.proofs.Common.{subst}
-use Rattle.world_steps.specs.Runs.{PartlySettles}
+use Rattle.world_steps.specs.Runs.{PartlySettles, StopsSettling}
 use Rattle.world_steps.proofs.world.World.settle.Goals as goal
 
 pub returns-in-Err-clause-part : goal.returns-in-Err-clause-part
 returns-in-Err-clause-part c = subst (λ w. PartlySettles w.cluster w.corpus w.script w.past c.settle.new.state.history) c.self.view_is c.in-Err.ensures.part
+
+pub returns-in-Err-clause-cause : goal.returns-in-Err-clause-cause
+returns-in-Err-clause-cause c = λ _. subst (λ w. StopsSettling w.cluster w.corpus w.script w.past c.settle.new.state.history c.in-Err.stop) c.self.view_is c.in-Err.ensures.stop
