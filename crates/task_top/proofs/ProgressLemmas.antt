@@ -13,7 +13,8 @@ use Rattle.task_events.specs.Turns.{is_begin, begun, history_before}
 use Rattle.script_lang.specs.declared.command.Command.{Command}
 use Rattle.script_lang.specs.declared.command.Script.{Script}
 use Rattle.world_moves.specs.Cancels.{AllAnswered}
-use Rattle.world_steps.specs.Scripts.{IsTurn, Commands, PartlyCommands, Drains, PartlyDrains, HasRun, IsRunSoFar, StopsRun}
+use Rattle.world_steps.specs.Scripts.{IsTurn, Commands, PartlyCommands, Drains, PartlyDrains, HasRun, IsRunSoFar, NumberedLacksNumber, RunLacksNumber, StopsCommand, StopsDrain, StopsRun}
+use Rattle.world_moves.proofs.Outcomes.{stops_as}
 use Rattle.world_steps.specs.World.{WorldView}
 use Rattle.line_print.specs.declared.idle.Idle.{Idle}
 use Rattle.line_print.specs.Lines.{idle_of}
@@ -118,17 +119,23 @@ module _ (script : Script) (found : List (Option Idle)) (w : WorldView) (past : 
 -- ---- an early end
 
 module _ (script : Script) (n : ℕ) (found : List (Option Idle)) (w : WorldView) (past : List Event) (come : HasCome script n found w) where
-  pub stops_in_command : (r : Result (Unit {0}) Stop) → OnErr r (PartlyCommands w.cluster w.corpus w.script (n + 1) w.past past) → IfErr r (λ stop. w.stopped ≡ None → StopsRun w.cluster past stop)
+  pub stops_in_command : (r : Result (Unit {0}) Stop) → OnErr r (PartlyCommands w.cluster w.corpus w.script (n + 1) w.past past) → IfErr r (λ stop. w.stopped ≡ None → StopsCommand w.cluster w.corpus w.script (n + 1) w.past past stop)
       → IfErr r (λ stop. EndsEarly w.cluster w.corpus script past stop)
   stops_in_command (Ok x) part cause = tt
   stops_in_command (Err stop) part cause = record {
-    ran_so_far = subst (λ s. IsRunSoFar w.cluster w.corpus s past) come.reads (inl (n, w.past, come.runs, subst (λ m. PartlyCommands w.cluster w.corpus w.script m w.past past) (add-one n) part));
-    cause = cause come.goes_on;
+    ran_so_far = subst (λ s. IsRunSoFar w.cluster w.corpus s past) come.reads (so_far past part);
+    cause = subst (λ s. StopsRun w.cluster w.corpus s past stop) come.reads
+        (stops_as (PartlyCommands w.cluster w.corpus w.script (n + 1) w.past) (IsRunSoFar w.cluster w.corpus w.script) _ (RunLacksNumber w.cluster w.corpus w.script past) past stop so_far
+        (λ lacks. inl (n, w.past, come.runs, subst (λ m. NumberedLacksNumber w.cluster w.corpus w.script m w.past past) (add-one n) lacks)) (cause come.goes_on));
   }
+    where
+      so_far : (x : List Event) → PartlyCommands w.cluster w.corpus w.script (n + 1) w.past x → IsRunSoFar w.cluster w.corpus w.script x
+      so_far x part = inl (n, w.past, come.runs, subst (λ m. PartlyCommands w.cluster w.corpus w.script m w.past x) (add-one n) part)
 
 module _ (script : Script) (found : List (Option Idle)) (w : WorldView) (past : List Event) (come : HasCome script (length script.commands) found w) where
-  pub stops_in_drain : (stop : Stop) → PartlyDrains w.cluster w.corpus w.script w.past past → (w.stopped ≡ None → StopsRun w.cluster past stop) → EndsEarly w.cluster w.corpus script past stop
+  pub stops_in_drain : (stop : Stop) → PartlyDrains w.cluster w.corpus w.script w.past past → (w.stopped ≡ None → StopsDrain w.cluster w.corpus w.script w.past past stop) → EndsEarly w.cluster w.corpus script past stop
   stops_in_drain stop part cause = record {
     ran_so_far = inr (w.past, all_ran script found w past come, subst (λ s. PartlyDrains w.cluster w.corpus s w.past past) come.reads part);
-    cause = cause come.goes_on;
+    cause = stops_as (PartlyDrains w.cluster w.corpus script w.past) (IsRunSoFar w.cluster w.corpus script) _ (RunLacksNumber w.cluster w.corpus script past) past stop
+        (λ x part. inr (w.past, all_ran script found w past come, part)) (λ lacks. inr (w.past, all_ran script found w past come, lacks)) (subst (λ s. StopsDrain w.cluster w.corpus s w.past past stop) come.reads (cause come.goes_on));
   }

@@ -63,7 +63,7 @@ module _ (cluster : Cluster) where
   abbrev pub WritesLines : Option (List ℕ) → Option (List ℕ) → Status → Kept → Type 0
   WritesLines old new Done kept = Appends old new (lines_of kept)
   WritesLines old new WriteFault kept = (n : ℕ) × (n < length (lines_of kept)) × Appends old new (take n (lines_of kept))
-  WritesLines old new Memory kept = (n : ℕ) × Appends old new (take n (lines_of kept))
+  WritesLines old new Memory kept = new ≡ old
   WritesLines old new HistoryFull kept = new ≡ old
   WritesLines old new NumbersSpent kept = new ≡ old
   WritesLines old new (Refused line cause) kept = new ≡ old
@@ -75,8 +75,8 @@ module _ (cluster : Cluster) where
   abbrev pub HasCause : Status → Kept → Type 0 → Type 0 → Type 0
   HasCause ReadFault kept source sink = source
   HasCause WriteFault kept source sink = sink
-  HasCause HistoryFull kept source sink = StopsRun cluster kept.history stops.HistoryFull
-  HasCause NumbersSpent kept source sink = StopsRun cluster kept.history stops.NumbersSpent
+  HasCause HistoryFull kept source sink = StopsRun cluster kept.corpus kept.script kept.history stops.HistoryFull
+  HasCause NumbersSpent kept source sink = StopsRun cluster kept.corpus kept.script kept.history stops.NumbersSpent
   HasCause _ kept source sink = Unit {0}
 
 -- A whole run is over with all that it began.

@@ -32,7 +32,7 @@ pub record HasCome (script : Script) (n : ℕ) (found : List (Option Idle)) (wor
 -- A run came to an early end with this past.
 pub record EndsEarly (cluster : Cluster) (corpus : Corpus) (script : Script) (past : List Event) (stop : Stop) : Type 0 where
   pub ran_so_far : IsRunSoFar cluster corpus script past
-  pub cause : StopsRun cluster past stop
+  pub cause : StopsRun cluster corpus script past stop
 
 -- A run came to its end with this past, and what was found tells of each command that made nothing happen why.
 pub record EndsWhole (cluster : Cluster) (corpus : Corpus) (script : Script) (past : List Event) (found : List (Option Idle)) : Type 0 where
