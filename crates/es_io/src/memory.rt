@@ -1,5 +1,5 @@
 // A source and a sink over memory, which fail at the calls that they are told.
-ghost use Rattle.std.specs.Prelude.{◌≡◌, ◌<◌, ◌≤◌, [], ◌++◌, length, take, drop, min, true, IfOk, OnErr, IsErr, Some, is_err};
+ghost use Rattle.std.specs.Prelude.{◌≡◌, ◌<◌, ◌≤◌, [], ◌++◌, length, take, drop, min, true, IfOk, OnOk, OnErr, IsErr, Some, is_err};
 ghost use Rattle.es_io.specs.Count.{next_count};
 ghost use Rattle.es_io.specs.Memory.{is_failing};
 
@@ -152,6 +152,7 @@ impl Sink for MemSink {
 
         // What each sink ensures.
         ensures some { IfOk result (λ n. 0 < length piece.now → 0 < n) }
+        ensures quiet { OnOk result (self.new.faults ≡ self.old.faults) }
         ensures monotone { self.old.faults ≤ self.new.faults }
     {
         self.calls = self.calls.saturating_add(1);

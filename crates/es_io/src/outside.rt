@@ -1,5 +1,5 @@
 // What gives bytes and what takes them, and how each may fail.
-ghost use Rattle.std.specs.Prelude.{◌≡◌, ℕ, ◌<◌, ◌≤◌, List, [], Option, length, take, IfOk, OnErr, IfSome};
+ghost use Rattle.std.specs.Prelude.{◌≡◌, ℕ, ◌<◌, ◌≤◌, List, [], Option, length, take, IfOk, OnOk, OnErr, IfSome};
 ghost use Rattle.es_io.specs.Bytes.{Appends, Loses};
 ghost use Rattle.es_io.specs.Count.{Rose};
 
@@ -49,5 +49,6 @@ pub trait Sink {
         ensures kept { OnErr result (written self.new ≡ written self.old) }
 
         ensures monotone { faults self.old ≤ faults self.new }
+        ensures quiet { OnOk result (faults self.new ≡ faults self.old) }
         ensures cause { OnErr result (Rose (faults self.old) (faults self.new)) };
 }

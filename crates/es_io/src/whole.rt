@@ -100,6 +100,7 @@ pub fn write_all_of<K: Sink>(sink: &mut K, bytes: &[u8]) -> Result<(), WroteFaul
     ensures prefix { IfErr result (λ fault. Appends (K.written sink.old) (K.written sink.new) (take fault.sent bytes.now)) }
     ensures short { IfErr result (λ fault. fault.sent < length bytes.now) }
     ensures fault { OnErr result (Rose (K.faults sink.old) (K.faults sink.new)) }
+    ensures quiet { OnOk result (K.faults sink.new ≡ K.faults sink.old) }
     ensures monotone { K.faults sink.old ≤ K.faults sink.new }
 {
     let mut sent = 0;

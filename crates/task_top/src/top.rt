@@ -1,4 +1,4 @@
-ghost use Rattle.std.specs.Prelude.{◌≡◌, ◌≤◌, ◌++◌, List, length, IfSome};
+ghost use Rattle.std.specs.Prelude.{◌<◌, ◌≡◌, ◌≤◌, ◌++◌, List, length, IfSome};
 ghost use Rattle.es_io.specs.Count.{Rose};
 ghost use Rattle.task_events.specs.declared.event.Event.{Event};
 ghost use Rattle.task_events.specs.Lawful.{Lawful};
@@ -57,6 +57,8 @@ pub fn sim_top<S: Source, K: Sink>(
     ensures rests { Rests result.0 result.1 }
     // Where the sink tells its bytes: they grew by the printed lines of the run.
     ensures output { WritesLines cluster.now (K.written out.old) (K.written out.new) result.0 result.1 }
+    // Where the sink has failed, that is told.
+    ensures told { K.faults out.old < K.faults out.new → result.0 ≡ Status.WriteFault }
     // A fault and an early end have their cause.
     ensures cause { HasCause cluster.now result.0 result.1 (Rose (S.faults input.old) (S.faults input.new)) (Rose (K.faults out.old) (K.faults out.new)) }
 {
@@ -98,6 +100,7 @@ fn run_and_print<K: Sink>(
     ensures plain { AnswersPlainly cluster.now result.1.corpus result.1.script result.1.history }
     ensures rests { Rests result.0 result.1 }
     ensures output { WritesLines cluster.now (K.written out.old) (K.written out.new) result.0 result.1 }
+    ensures told { K.faults out.old < K.faults out.new → result.0 ≡ Status.WriteFault }
     ensures cause { HasCause cluster.now result.0 result.1 ⊥ (Rose (K.faults out.old) (K.faults out.new)) }
 {
     let (history, ran) = run_script(alloc, *cluster, &corpus, &script);
@@ -141,6 +144,7 @@ fn write_lines<K: Sink>(
     ensures run { RanAsRead cluster.now result kept.now }
     ensures rests { Rests result kept.now }
     ensures output { WritesLines cluster.now (K.written out.old) (K.written out.new) result kept.now }
+    ensures told { K.faults out.old < K.faults out.new → result ≡ Status.WriteFault }
     ensures cause { HasCause cluster.now result kept.now ⊥ (Rose (K.faults out.old) (K.faults out.new)) }
 {
     let Kept {
