@@ -6,7 +6,7 @@ ghost use Rattle.task_ids.specs.Limits.{IsShardCount};
 ghost use Rattle.task_events.specs.declared.step.Asked.{Asked};
 ghost use Rattle.task_events.specs.Possible.{can_have};
 ghost use Rattle.task_events.specs.Searches.{are_answered};
-ghost use Rattle.search_phase.specs.Searching.{new_search, next_request, next_step, is_open, wants_to_ask, has_ended, does_wait, is_above, with_ask, takes, with_answer, AllHonest, plain_reply, reply_of};
+ghost use Rattle.search_phase.specs.Searching.{new_search, next_request, next_step, is_open, wants_to_ask, has_ended, does_wait, is_above, with_ask, takes, with_answer, AllHonest, plain_reply, answer_of, reply_with};
 ghost use Rattle.search_phase.specs.Plans.{plan_of};
 
 use crate::answer::answer;
@@ -14,7 +14,7 @@ use crate::asking::{can_answer, has_request, request_at};
 use crate::fetching::{Fetching, are_answered, fetching_in};
 use std::alloc::{AllocError, Global};
 use std::marker::Model;
-use task_events::{Asked, Reply, Request, SearchAsk};
+use task_events::{Asked, Reply, Request, SearchAsk, SearchReply};
 use task_ids::TaskId;
 
 /// What a search does next.
@@ -104,17 +104,17 @@ impl SearchRoot {
         ask: &SearchAsk,
         shards: u32,
     ) -> Result<SearchRoot, AllocError>
-        requires { IsShardCount shards }
         ensures { IfOk result (λ root. root ≡ new_search task ask.now shards) }
     {
         let asked = Vec::with_capacity(alloc, 2 * shards as usize)?;
         let ask = ask.copy()?;
+        let fetching = fetching_in(alloc, &ask, shards, asked.as_slice())?;
         Ok(SearchRoot {
             task,
             ask,
             shards,
             asked,
-            fetching: None,
+            fetching,
         })
     }
 
@@ -215,15 +215,23 @@ impl SearchRoot {
         }
     }
 
-    /// The reply, once all asks are answered. Where every answer says what its shard's writes say, it is the plain
-    /// answer: one list of all rows that match, in hit order and cut. It fails only for want of memory.
-    pub fn finish(&self) -> Result<Reply, AllocError>
+    /// How many shards the index has.
+    pub fn shards(&self) -> u32
+        ensures { result ≡ self.now.shards }
+    {
+        self.shards
+    }
+
+    /// The answer, once all asks are answered; its failed shards may be all. Where every answer says what its shard's
+    /// writes say, it is the plain answer: one list of all rows that match, in hit order and cut. It fails only for want
+    /// of memory.
+    pub fn finish(&self) -> Result<SearchReply, AllocError>
         requires { has_ended (next_step self.now) ≡ true }
-        ensures reply { IfOk result (λ reply. reply ≡ reply_of self.now) }
+        ensures answer { IfOk result (λ answer. answer ≡ answer_of self.now) }
         ensures plain { (writes : ℕ → List Doc) → AllHonest writes self.now
-            → IfOk result (λ reply. reply ≡ plain_reply writes self.now) }
-        ensures possible { IfOk result (λ reply.
-            can_have self.now.shards (Request.Search self.now.ask) reply ≡ true) }
+            → IfOk result (λ answer. reply_with self.now.shards answer ≡ plain_reply writes self.now) }
+        ensures possible { IsShardCount self.now.shards → IfOk result (λ answer.
+            can_have self.now.shards (Request.Search self.now.ask) (reply_with self.now.shards answer) ≡ true) }
     {
         let Some(fetching) = &self.fetching else {
             unreachable!()

@@ -1,7 +1,7 @@
 ghost use Rattle.std.specs.Prelude.{◌≡◌, ◌+◌, List, None, IfOk, OnOk, OnErr, true, false};
 ghost use Rattle.search_phase.specs.Queries.{IsQueried, has_ended, version_at, queried};
 ghost use Rattle.search_phase.specs.Fetches.{IsFetched, has_fetched, fetched_in};
-ghost use Rattle.search_phase.specs.Searching.{next_step};
+ghost use Rattle.search_phase.specs.Searching.{next_step, reply_with};
 ghost use Rattle.task_ids.specs.declared.doc.Doc.{Doc};
 ghost use Rattle.task_events.specs.Tasks.{no_counts};
 ghost use Rattle.task_work.specs.Works.{new_work, IsWorkOn, next_of, with_turn, can_ask, work_with_ask, work_takes, work_with_answer, found_top, found_hits, EndsPlainly, does_wait};
@@ -9,7 +9,7 @@ ghost use Rattle.task_work.specs.Works.{new_work, IsWorkOn, next_of, with_turn, 
 use search_phase::{FetchAnswer, RootPlan, SearchRoot, ShardFetch, ShardQuery, TurnAnswer};
 use shard_docs::Shard;
 use std::alloc::{AllocError, Global};
-use task_events::{Do, Hit, Reply, Request, ShardTop, copy_hits};
+use task_events::{Do, Hit, Reply, Request, SearchReply, ShardTop, copy_hits};
 use task_ids::{Boxed, Cluster, Items, TaskId};
 
 fn top_reply(top: &ShardTop) -> Result<Reply, AllocError>
@@ -19,6 +19,17 @@ fn top_reply(top: &ShardTop) -> Result<Reply, AllocError>
     Ok(Reply::Top(Boxed::new(top.keys.allocator(), copy)?))
 }
 
+/// The reply with the answer of a search, which tells of the failed shards alone where all have failed.
+fn reply_with(shards: u32, answer: SearchReply) -> Result<Reply, AllocError>
+    ensures { IfOk result (λ reply. reply ≡ reply_with shards answer) }
+{
+    if answer.failed.as_slice().len() == shards as usize {
+        let SearchReply { failed, .. } = answer;
+        return Ok(Reply::AllFailed(failed));
+    }
+    Ok(Reply::Search(Boxed::new(answer.failed.allocator(), answer)?))
+}
+
 fn next_of_search(root: &SearchRoot) -> Result<Do, AllocError>
     ensures step { IfOk result (λ step. step ≡ next_step root.now) }
     ensures plain { IfOk result (λ step. EndsPlainly (Work.Search root.now) step) }
@@ -26,7 +37,7 @@ fn next_of_search(root: &SearchRoot) -> Result<Do, AllocError>
     match root.plan()? {
         RootPlan::Ask(request) => Ok(Do::AskNext(request)),
         RootPlan::Wait => Ok(Do::Wait(None)),
-        RootPlan::Finish => Ok(Do::Finish(root.finish()?)),
+        RootPlan::Finish => Ok(Do::Finish(reply_with(root.shards(), root.finish()?)?)),
     }
 }
 
