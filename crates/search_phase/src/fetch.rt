@@ -98,7 +98,7 @@ impl ShardFetch {
         }
     }
 
-    /// What is asked for.
+    /// What is asked for. A world finds the shard by it.
     pub fn ask(&self) -> &FetchAsk
         ensures { result.now ≡ self.now.ask }
     {

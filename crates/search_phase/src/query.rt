@@ -86,7 +86,7 @@ impl ShardQuery {
         }
     }
 
-    /// What is asked for.
+    /// What is asked for. A world finds the shard by it.
     pub fn ask(&self) -> &ShardAsk
         ensures { result.now ≡ self.now.ask }
     {

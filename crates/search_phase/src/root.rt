@@ -1,6 +1,6 @@
 //! A search of all shards of an index.
 
-ghost use Rattle.std.specs.Prelude.{◌≡◌, ◌<◌, ℕ, List, ◌&&◌, IfOk, OnOk, OnErr, Some, is_some, true, length, position, slice_get, slice_set, vec_capacity};
+ghost use Rattle.std.specs.Prelude.{◌≡◌, ◌<◌, ℕ, List, IfOk, OnOk, OnErr, Some, is_some, true, length, position, slice_get, slice_set, vec_capacity};
 ghost use Rattle.task_ids.specs.declared.doc.Doc.{Doc};
 ghost use Rattle.task_ids.specs.Limits.{IsShardCount};
 ghost use Rattle.task_events.specs.declared.step.Asked.{Asked};
@@ -74,17 +74,6 @@ fn place_of(asked: &[Asked], ask: u32) -> Option<usize>
         .position(|a| a.ask == ask && a.answer.is_none())
 }
 
-fn is_above(asked: &[Asked], ask: u32) -> bool
-    ensures { result ≡ is_above ask asked.now }
-{
-    for a in asked {
-        if ask <= a.ask {
-            return false;
-        }
-    }
-    true
-}
-
 fn set_answer(asked: &mut Vec<Asked>, place: usize, answer: Option<Reply>)
     requires { place < length asked.old.items }
     ensures items { (a : Asked) → slice_get asked.old.items place ≡ Some a
@@ -141,18 +130,11 @@ impl SearchRoot {
     }
 
     /// Whether it waits for an answer: it has asked for all that it can ask for, and not all answers have come. It takes
-    /// no memory.
+    /// no memory, so a world asks it where it only notes who waits.
     pub fn waits(&self) -> bool
         ensures { result ≡ does_wait (next_step self.now) }
     {
         !self.has_next() && !self.has_all_answers()
-    }
-
-    /// Whether it plans to ask, and this number is above those of all its asks. It takes no memory.
-    pub fn can_ask(&self, ask: u32) -> bool
-        ensures { result ≡ (wants_to_ask (next_step self.now) && is_above ask self.now.asked) }
-    {
-        self.has_next() && is_above(self.asked.as_slice(), ask)
     }
 
     /// What it does next: it asks for the next request, waits for an answer, or ends. It fails only for want of memory.
@@ -215,7 +197,7 @@ impl SearchRoot {
         }
     }
 
-    /// How many shards the index has.
+    /// How many shards the index has. `task_work` asks it, which makes the reply of the answer.
     pub fn shards(&self) -> u32
         ensures { result ≡ self.now.shards }
     {

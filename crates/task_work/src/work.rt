@@ -145,7 +145,7 @@ impl Work {
         }
     }
 
-    /// Whether it waits for an answer. It takes no memory.
+    /// Whether it waits for an answer. It takes no memory, so a world asks it where it only notes who waits.
     pub fn waits(&self) -> bool
         ensures { (writes : List Doc) → result ≡ does_wait (next_of self.now writes) }
     {
