@@ -1,7 +1,7 @@
 //! What later kinds of searches ask of a shard: an older version, a slice, and what stands behind a cursor.
 
 ghost use Rattle.std.specs.Prelude.{◌≡◌, ◌<◌, false};
-ghost use Rattle.search_phase.specs.Queries.{IsQueried, has_ended};
+ghost use Rattle.search_phase.specs.Queries.{has_ended};
 
 use query_match::{Query, SearchBody, SortBy};
 use search_phase::{FetchAnswer, ShardFetch, ShardQuery, TurnAnswer};
@@ -77,8 +77,7 @@ fn ask(
 
 /// What a query finds in its next turn, if that is its last.
 fn turned(query: &mut ShardQuery, shard: &Shard) -> Option<ShardTop>
-    requires queried { IsQueried query.old shard.now }
-    requires not_ended { has_ended query.old shard.now ≡ false }
+    requires { has_ended query.old shard.now ≡ false }
 {
     match query.turn(shard) {
         Ok(TurnAnswer::Ready(top)) => Some(top),

@@ -29,11 +29,6 @@ are_none-queries_view (n ∷ ns) = grind (arith, nat_tests)
 
 -- ---- one key, and a key among others
 
-pub query_in-none : (path : List ℕ) (ms : Members) → None ≡ only_entry ms → query_in path ms ≡ Err (Bad path NotOneKey)
-query_in-none path no_members h = refl
-query_in-none path (member k d no_members) h = absurd cc
-query_in-none path (member k d (member l e ms)) h = refl
-
 entry_query : List ℕ → Option (List ℕ × Data) → Result Query QueryError
 entry_query path None = Err (Bad path NotOneKey)
 entry_query path (Some m) = query_of (form_named m.0) (under path m.0) m.1

@@ -6,7 +6,6 @@ use Rattle.serde_json.specs.Data.{Data, null, boolean, number, string, array, ob
 use Rattle.serde_json.specs.Find.{get_member}
 use Rattle.serde_json.specs.View.{view, items_view}
 use Rattle.serde_json.specs.declared.value.Value.{Value}
-use Rattle.query_parse.specs.Reading.{only_entry}
 
 abbrev mutual
   pub data_size : Data → ℕ
@@ -24,16 +23,6 @@ abbrev mutual
   pub members_size : Members → ℕ
   members_size no_members = 0
   members_size (member k d ms) = data_size d + members_size ms + 1
-
-second_or : Data → Option (List ℕ × Data) → Data
-second_or d None = d
-second_or d (Some p) = p.1
-
-pub size-only_entry : (ms : Members) (k : List ℕ) (d : Data) → Some (k, d) ≡ only_entry ms → data_size d < members_size ms
-unfolding second_or
-size-only_entry no_members k d h = absurd cc
-size-only_entry (member l e no_members) k d h = let same : d ≡ e = ap (second_or d) h in rw same (omega arith)
-size-only_entry (member l e (member m f ms)) k d h = absurd cc
 
 found_or : (o : Ordering) (k : List ℕ) (d e : Data) (ms : Members) → Some d ≡ match_ordering o (get_member k ms) (Some e) (get_member k ms) → (Some d ≡ get_member k ms → data_size d < members_size ms) → data_size d < data_size e + members_size ms + 1
 found_or Less k d e ms h later = let lt : data_size d < members_size ms = later h in omega arith

@@ -11,6 +11,7 @@ mod shape;
 mod sort_reading;
 
 pub use body_reading::read_body;
+pub use doc_match::sort_key;
 pub use fault::{BodyError, QueryError, QueryFault};
 pub use query_match::{Items, KeyPart, Query, Scalar, SearchBody, SortBy, SortKey, Text};
 pub use reading::read_query;

@@ -1,38 +1,28 @@
 -- The reply of a search, by its parts, and what is read off the fields of its root.
-use Rattle.std.specs.Prelude.{◌≡◌, ℕ, zero, suc, ◌-◌, ◌<◌, ◌==◌, List, [], ◌∷◌, true, false, Option, Some, None, map, filter_map, length, position, slice_get, slice_set, refl}
+use Rattle.std.specs.Prelude.{◌≡◌, ℕ, zero, suc, ◌-◌, ◌<◌, List, [], ◌∷◌, true, false, Option, Some, None, map, filter_map, length, position, slice_get, slice_set, refl}
 use Rattle.std.proofs.Common.{sym, ◌∙◌, ap, arith}
-use Rattle.std.proofs.lemmas.Bool.{eq-eqb, ne_eqb}
 use Rattle.std.proofs.lemmas.List.{length-set}
 use Rattle.std.specs.List.{sum_by, last_or}
 use Rattle.task_ids.specs.declared.task_id.TaskId.{TaskId}
 use Rattle.task_events.specs.declared.request.SearchAsk.{SearchAsk}
 use Rattle.task_events.specs.declared.reply.ShardTop.{ShardTop}
-use Rattle.task_events.specs.declared.reply.FailedShard.{FailedShard}
 use Rattle.task_events.specs.declared.reply.SearchReply.{SearchReply}
 use Rattle.task_events.specs.declared.reply.Reply.{Reply}
-use Rattle.task_events.specs.declared.reply.Reply.TheVariants.{Search, AllFailed}
 use Rattle.task_events.specs.declared.step.Asked.{Asked}
 use Rattle.task_events.specs.Answers.{context_of}
-use Rattle.task_events.specs.Searches.{tops_in, winners_among, failed_in, hit_in, counted, search_reply}
-use Rattle.search_phase.specs.Searching.{Searching, IsSearching, is_open, takes, with_answer, has_ended, next_step}
+use Rattle.task_events.specs.Searches.{tops_in, winners_among, failed_in, hit_in, counted}
+use Rattle.search_phase.specs.Searching.{Searching, IsSearching, search_answer, is_open, takes, with_answer, has_ended, next_step}
 use Rattle.search_phase.proofs.Roots.{takes_none, takes_place, answer_at_place}
 use Rattle.search_phase.specs.declared.fetching.Fetching.{Fetching}
 use Rattle.search_phase.specs.FetchPhase.{fetching_of}
 use Rattle.search_phase.specs.Roots.{IsRoot}
 use Rattle.search_phase.proofs.Requests.{slice_get_below, ended}
 
-module _ (task : TaskId) (ask : SearchAsk) (shards : ℕ) (asked : List Asked) where
-  pub all_failed : (failed : List FailedShard) → failed ≡ failed_in ask shards asked → length failed ≡ shards → AllFailed failed ≡ search_reply task ask shards asked
-  all_failed failed e l =
-      let all : (length (failed_in ask shards asked) == shards) ≡ true = eq-eqb (length (failed_in ask shards asked)) shards (ap length (sym e) ∙ l) in
-      rw all (ap AllFailed e)
-
-  pub reply_by_parts : (reply : SearchReply) → reply.context ≡ context_of task ask → reply.shards ≡ map counted (tops_in shards asked) → reply.failed ≡ failed_in ask shards asked
-      → reply.total ≡ sum_by (λ (t : ShardTop). t.count) (tops_in shards asked) → reply.hits ≡ filter_map (hit_in ask shards asked) (winners_among ask.body (tops_in shards asked))
-      → reply.last ≡ last_or None (winners_among ask.body (tops_in shards asked)) → (length reply.failed ≡ shards → ⊥) → Search reply ≡ search_reply task ask shards asked
-  reply_by_parts reply ec es ef et eh el some =
-      let others : (length (failed_in ask shards asked) == shards) ≡ false = ne_eqb (length (failed_in ask shards asked)) shards (λ e. some (ap length ef ∙ e)) in
-      rw others (λ i. Search (record { context = ec i; shards = es i; failed = ef i; total = et i; hits = eh i; last = el i }))
+pub answer_by_parts : (task : TaskId) (ask : SearchAsk) (shards : ℕ) (asked : List Asked) (answer : SearchReply) → answer.context ≡ context_of task ask → answer.shards ≡ map counted (tops_in shards asked)
+    → answer.failed ≡ failed_in ask shards asked → answer.total ≡ sum_by (λ (t : ShardTop). t.count) (tops_in shards asked)
+    → answer.hits ≡ filter_map (hit_in ask shards asked) (winners_among ask.body (tops_in shards asked)) → answer.last ≡ last_or None (winners_among ask.body (tops_in shards asked))
+    → answer ≡ search_answer task ask shards asked
+answer_by_parts task ask shards asked answer ec es ef et eh el = λ i. record { context = ec i; shards = es i; failed = ef i; total = et i; hits = eh i; last = el i }
 
 pub last_or_read : {X : Type 0} (xs : List X) (x : X) → slice_get xs (length xs - 1) ≡ Some x → last_or None xs ≡ Some x
 last_or_read [] x e = absurd cc

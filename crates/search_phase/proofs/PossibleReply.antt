@@ -6,6 +6,7 @@ use Rattle.std.proofs.lemmas.List.{length-take}
 use Rattle.std.proofs.lemmas.List.FromFn.{length-range_with_len}
 use Rattle.std.proofs.lemmas.List.Sums.{sum_by-cons}
 use Rattle.std.specs.List.{sum_by, flat_map, list_all, range_with_len}
+use Rattle.task_ids.specs.Limits.{IsShardCount}
 use Rattle.task_events.specs.declared.request.HitKey.{HitKey}
 use Rattle.task_events.specs.declared.request.Request.TheVariants as asks
 use Rattle.task_events.specs.declared.reply.ShardTop.{ShardTop}
@@ -62,24 +63,21 @@ module _ (s : Searching) (h : IsSearching s) where
           let can : is_top_for (query_of s.ask i) top ≡ true = h.possible i a (asks.Query (query_of s.ask i)) (Top top) there.0 (request_of_query s.ask s.shards s.asked i there.1) (answer_of_top a.answer top e) in
           ltb-true top.count (2 ^ 32) (third (top.shard == i) true (nat_lt top.count (2 ^ 32)) (nat_le (length top.keys) (window s.ask.body)) (list_all (λ (key : HitKey). (key.shard == i) && is_after None key) top.keys) (ascend top.keys) can)
 
-  total_at_most : sum_by (λ (t : ShardTop). t.count) (tops_in s.shards s.asked) ≤ 15 * (2 ^ 32)
-  total_at_most = bound (2 ^ 32) (sum_by (λ (t : ShardTop). t.count) (tops_in s.shards s.asked)) (length (tops_in s.shards s.asked)) (total_of_counts (2 ^ 32) 0 (take s.shards s.asked) counts_fit)
-      (let few : length (tops_in s.shards s.asked) ≤ s.shards = few_tops s.shards s.asked in let most : s.shards ≤ 15 = h.shards_in_range.1 in omega arith)
+  total_at_most : (shards : ℕ) → s.shards ≤ shards → sum_by (λ (t : ShardTop). t.count) (tops_in s.shards s.asked) ≤ shards * (2 ^ 32)
+  total_at_most shards most = bound (2 ^ 32) (sum_by (λ (t : ShardTop). t.count) (tops_in s.shards s.asked)) (length (tops_in s.shards s.asked)) (total_of_counts (2 ^ 32) 0 (take s.shards s.asked) counts_fit)
+      (let few : length (tops_in s.shards s.asked) ≤ s.shards = few_tops s.shards s.asked in omega arith)
     where
-      bound : (m total n : ℕ) → total ≤ n * m → n ≤ 15 → total ≤ 15 * m
+      bound : (m total n : ℕ) → total ≤ n * m → n ≤ shards → total ≤ shards * m
       bound m total n t l = grind (arith, mul-le-mul_right)
 
-  pub total_fits : sum_by (λ (t : ShardTop). t.count) (tops_in s.shards s.asked) < 2 ^ 64
-  total_fits = le_lt (15 * (2 ^ 32)) (2 ^ 64) total_at_most (lit< tt)
-    where
-      le_lt : (m n : ℕ) → sum_by (λ (t : ShardTop). t.count) (tops_in s.shards s.asked) ≤ m → m < n → sum_by (λ (t : ShardTop). t.count) (tops_in s.shards s.asked) < n
-      le_lt m n a b = omega arith
+  le_lt : (m n : ℕ) → sum_by (λ (t : ShardTop). t.count) (tops_in s.shards s.asked) ≤ m → m < n → sum_by (λ (t : ShardTop). t.count) (tops_in s.shards s.asked) < n
+  le_lt m n a b = omega arith
 
-  total_possible : nat_lt (sum_by (λ (t : ShardTop). t.count) (tops_in s.shards s.asked)) (2 ^ 36) ≡ true
-  total_possible = lt-ltb (sum_by (λ (t : ShardTop). t.count) (tops_in s.shards s.asked)) (2 ^ 36) (le_lt (15 * (2 ^ 32)) (2 ^ 36) total_at_most (lit< tt))
-    where
-      le_lt : (m n : ℕ) → sum_by (λ (t : ShardTop). t.count) (tops_in s.shards s.asked) ≤ m → m < n → sum_by (λ (t : ShardTop). t.count) (tops_in s.shards s.asked) < n
-      le_lt m n a b = omega arith
+  pub total_fits : sum_by (λ (t : ShardTop). t.count) (tops_in s.shards s.asked) < 2 ^ 64
+  total_fits = le_lt (4294967295 * (2 ^ 32)) (2 ^ 64) (total_at_most 4294967295 (let few : s.shards < 4294967296 = h.shards_in_range in omega arith)) (lit< tt)
+
+  total_possible : IsShardCount s.shards → nat_lt (sum_by (λ (t : ShardTop). t.count) (tops_in s.shards s.asked)) (2 ^ 36) ≡ true
+  total_possible few = lt-ltb (sum_by (λ (t : ShardTop). t.count) (tops_in s.shards s.asked)) (2 ^ 36) (le_lt (15 * (2 ^ 32)) (2 ^ 36) (total_at_most 15 few.1) (lit< tt))
 
   -- ---- the rest
 
@@ -104,14 +102,14 @@ module _ (s : Searching) (h : IsSearching s) where
       let all : length (range_with_len 0 s.shards) ≡ s.shards = length-range_with_len 0 s.shards in
       omega arith
 
-  pub reply_is_possible : can_have s.shards (asks.Search s.ask) (reply_of s) ≡ true
-  reply_is_possible =
+  pub reply_is_possible : IsShardCount s.shards → can_have s.shards (asks.Search s.ask) (reply_of s) ≡ true
+  reply_is_possible few =
       by_test (length (failed_in s.ask s.shards s.asked) == s.shards)
       (λ all. rw all refl)
       (λ some.
       let fewer : nat_lt (length (failed_in s.ask s.shards s.asked)) s.shards ≡ true =
       lt-ltb (length (failed_in s.ask s.shards s.asked)) s.shards (below (length (failed_in s.ask s.shards s.asked)) s.shards few_failed (eqb-false (length (failed_in s.ask s.shards s.asked)) s.shards some)) in
-      rw some (all_true contexts_agree fewer few_hits total_possible))
+      rw some (all_true contexts_agree fewer few_hits (total_possible few)))
     where
       below : (m n : ℕ) → m ≤ n → (m ≡ n → ⊥) → m < n
       below m n l e = omega arith

@@ -1,5 +1,5 @@
 -- What a query has come to after a turn, and what the turn answers.
-use Rattle.std.specs.Prelude.{◌≡◌, ℕ, ◌+◌, ◌*◌, ◌<◌, ◌≤◌, Bool, true, false, cond, List, Option, Some, None, IfSome, unwrap_or, length, refl}
+use Rattle.std.specs.Prelude.{◌≡◌, ℕ, ◌+◌, ◌*◌, ◌<◌, ◌≤◌, Bool, true, false, cond, List, Some, IfSome, length, refl}
 use Rattle.std.proofs.Common.{sym, ◌∙◌, ap, subst}
 use Rattle.std.proofs.lemmas.Bool.{le-leb, lt-leb}
 use Rattle.task_ids.specs.declared.doc.Doc.{Doc}
@@ -10,7 +10,7 @@ use Rattle.search_phase.specs.declared.query.TurnAnswer.TheVariants.{More, Ready
 use Rattle.search_phase.specs.Queries.{QueryState, version_at, first_keys, looked, queried, without_keys, IsQueried}
 use Rattle.search_phase.specs.TurnAnswers.{query_answer}
 use Rattle.search_phase.proofs.Rows.{keys_below-all}
-use Rattle.search_phase.proofs.Turns.{turn_is, done_after}
+use Rattle.search_phase.proofs.Turns.{turn_is, done_after, asked_again}
 
 -- ---- how far it has come
 
@@ -29,10 +29,6 @@ module _ (ask : ShardAsk) (version turns : ℕ) (writes : List Doc) where
       go : (b : Bool) → is_done turns version ≡ b → IsQueried (cond b (without_keys (looked ask version turns writes)) (looked ask version turns writes)) writes
       go true h = record { version_asked = asked; version_fixed = λ turned. refl; looked = queried_done h }
       go false h = record { version_asked = asked; version_fixed = λ turned. refl; looked = queried_open h }
-
-asked_again : (asked fixed : Option ℕ) (all : ℕ) → IfSome asked (λ version. fixed ≡ Some version) → IfSome asked (λ version. Some (unwrap_or fixed all) ≡ Some version)
-asked_again None fixed all h = tt
-asked_again (Some version) fixed all h = ap (λ o. Some (unwrap_or o all)) h
 
 -- after a turn what is known of a query still holds
 pub queried-holds : (q : QueryState) (writes : List Doc) (turns : ℕ) → IsQueried q writes → IsQueried (queried q.ask (version_at q writes) turns writes) writes

@@ -1,5 +1,5 @@
 -- How far the fetch phase of a search has come in a shard.
-use Rattle.std.specs.Prelude.{◌≡◌, ℕ, ◌*◌, ◌≤◌, List, [], ◌++◌, length, take, filter_map, Bool, if◌then◌else◌}
+use Rattle.std.specs.Prelude.{◌≡◌, ℕ, ◌+◌, ◌*◌, ◌≤◌, List, [], ◌++◌, length, take, filter_map, Bool, if◌then◌else◌}
 use Rattle.task_ids.specs.declared.doc.Doc.{Doc}
 use Rattle.task_events.specs.declared.request.FetchAsk.{FetchAsk}
 use Rattle.task_events.specs.declared.reply.Hit.{Hit}
@@ -34,6 +34,11 @@ fetched_in ask turns writes =
       turns = turns;
       hits = if is_done turns (length ask.places) then [] else hits_of_first ask (turns * rows_per_turn) writes;
     }
+
+-- One more turn was taken, whatever the turns were over.
+pub record HasTurned (before after : FetchState) : Type 0 where
+  pub same_ask : after.ask ≡ before.ask
+  pub one_more : after.turns ≡ before.turns + 1
 
 -- The fetch has come so far by turns over a shard with these writes.
 abbrev pub IsFetched : FetchState → List Doc → Type 0

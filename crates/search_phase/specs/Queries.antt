@@ -1,5 +1,5 @@
 -- How far the query phase of a search has come in a shard.
-use Rattle.std.specs.Prelude.{◌≡◌, ℕ, ◌*◌, ◌<◌, ◌≤◌, List, [], ◌++◌, length, take, filter, Bool, nat_lt, Option, Some, IsSome, IfSome, unwrap_or, if◌then◌else◌}
+use Rattle.std.specs.Prelude.{◌≡◌, ℕ, ◌+◌, ◌*◌, ◌<◌, ◌≤◌, List, [], ◌++◌, length, take, filter, Bool, nat_lt, Option, Some, IsSome, IfSome, unwrap_or, if◌then◌else◌}
 use Rattle.task_ids.specs.declared.doc.Doc.{Doc}
 use Rattle.task_ids.specs.Rows.{Row, rows_at}
 use Rattle.task_events.specs.declared.request.HitKey.{HitKey}
@@ -57,6 +57,23 @@ without_keys q = record q { keys = [] }
 -- a query after so many turns, which gives its keys out by the last of them
 abbrev pub queried : ShardAsk → ℕ → ℕ → List Doc → QueryState
 queried ask version turns writes = if is_done turns version then without_keys (looked ask version turns writes) else looked ask version turns writes
+
+-- What every query keeps, over whichever shards its turns were.
+pub record IsQuery (q : QueryState) : Type 0 where
+  -- it reads the version that is asked for
+  pub version_asked : IfSome q.ask.version (λ version. q.version ≡ Some version)
+  -- the first turn fixes the version
+  pub version_fixed : 0 < q.turns → IsSome q.version
+  -- a turn counts no more rows than a shard can have
+  pub few_counted : q.count ≤ q.turns * 4294967295
+  -- it keeps no more keys than are asked for
+  pub few_kept : length q.keys ≤ window q.ask.body
+
+-- One more turn was taken, over a shard with these writes, whatever the turns before were over.
+pub record HasTurned (before : QueryState) (writes : List Doc) (after : QueryState) : Type 0 where
+  pub same_ask : after.ask ≡ before.ask
+  pub version_fixed : after.version ≡ Some (version_at before writes)
+  pub one_more : after.turns ≡ before.turns + 1
 
 -- The query has come so far by turns over a shard with these writes.
 pub record IsQueried (q : QueryState) (writes : List Doc) : Type 0 where

@@ -1,22 +1,22 @@
 -- The state of a search: what it has asked for, and what was answered.
-use Rattle.std.specs.Prelude.{◌≡◌, ℕ, ◌≤◌, List, [], ◌∷◌, ◌++◌, Bool, true, false, not, ◌&&◌, ◌==◌, nat_lt, if◌then◌else◌, Option, Some, None, is_some, option_map, map, find, zip, slice_get, length}
-use Rattle.std.specs.List.{list_all}
+use Rattle.std.specs.Prelude.{◌≡◌, ℕ, ◌<◌, ◌≤◌, List, [], ◌∷◌, ◌++◌, Bool, true, false, not, ◌&&◌, ◌==◌, nat_lt, if◌then◌else◌, Option, Some, None, is_some, option_map, map, filter_map, find, zip, slice_get, length}
+use Rattle.std.specs.List.{list_all, sum_by, last_or}
 use Rattle.std.specs.Option.{option_map_or}
 use Rattle.task_ids.specs.declared.task_id.TaskId.{TaskId}
 use Rattle.task_ids.specs.declared.doc.Doc.{Doc}
-use Rattle.task_ids.specs.Limits.{IsShardCount}
 use Rattle.task_events.specs.declared.request.SearchAsk.{SearchAsk}
 use Rattle.task_events.specs.declared.request.Request.{Request}
 use Rattle.task_events.specs.declared.request.Request.TheVariants as asks
 use Rattle.task_events.specs.declared.reply.Reply.{Reply}
-use Rattle.task_events.specs.declared.reply.Reply.TheVariants.{Top, Hits}
+use Rattle.task_events.specs.declared.reply.Reply.TheVariants.{Search, Top, Hits, AllFailed}
+use Rattle.task_events.specs.declared.reply.SearchReply.{SearchReply}
 use Rattle.task_events.specs.declared.step.Asked.{Asked}
 use Rattle.task_events.specs.declared.step.Do.{Do}
 use Rattle.task_events.specs.declared.step.Do.TheVariants.{AskNext, Turn, Wait, Finish}
 use Rattle.task_events.specs.declared.reply.ShardTop.{ShardTop}
-use Rattle.task_events.specs.Answers.{ShardVersion, shard_top, fetched, plain_answer}
+use Rattle.task_events.specs.Answers.{ShardVersion, shard_top, fetched, plain_answer, context_of}
 use Rattle.task_events.specs.Possible.{can_have}
-use Rattle.task_events.specs.Searches.{requests_of, tops_in, failed_in, search_reply, search_step}
+use Rattle.task_events.specs.Searches.{requests_of, tops_in, winners_among, failed_in, hit_in, counted, search_reply, search_step}
 
 pub record Searching : Type 0 where
   pub task : TaskId
@@ -107,7 +107,7 @@ AreRising (a ∷ later) = (list_all (λ b. nat_lt a.ask b.ask) later ≡ true) �
 
 -- What holds of every search: it asks for its requests in order, and takes what they can have.
 pub record IsSearching (s : Searching) : Type 0 where
-  pub shards_in_range : IsShardCount s.shards
+  pub shards_in_range : s.shards < 4294967296
   pub numbers : AreRising s.asked
   pub in_order : length s.asked ≤ length (requests_of s.ask s.shards s.asked)
   pub possible : EachAnswer (λ request reply. can_have s.shards request reply ≡ true) s
@@ -121,6 +121,27 @@ version_of top = (top.shard, top.version)
 -- the plain answer over the shards that answered the query, at the versions of their answers
 abbrev pub plain_reply : (ℕ → List Doc) → Searching → Reply
 plain_reply writes s = plain_answer s.task s.ask s.shards writes (map version_of (tops_in s.shards s.asked)) (failed_in s.ask s.shards s.asked)
+
+-- The answer of a search whose asks are all answered. Its failed shards may be all.
+abbrev pub search_answer : TaskId → SearchAsk → ℕ → List Asked → SearchReply
+search_answer task ask shards asked =
+    let tops = tops_in shards asked in
+    let won = winners_among ask.body tops in
+    record {
+      context = context_of task ask;
+      shards = map counted tops;
+      failed = failed_in ask shards asked;
+      total = sum_by (λ top. top.count) tops;
+      hits = filter_map (hit_in ask shards asked) won;
+      last = last_or None won;
+    }
+
+abbrev pub answer_of : Searching → SearchReply
+answer_of s = search_answer s.task s.ask s.shards s.asked
+
+-- the reply with an answer, which tells of the failed shards alone where all have failed
+abbrev pub reply_with : ℕ → SearchReply → Reply
+reply_with shards answer = if length answer.failed == shards then AllFailed answer.failed else Search answer
 
 -- the reply of a search whose asks are all answered
 abbrev pub reply_of : Searching → Reply

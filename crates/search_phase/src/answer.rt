@@ -3,7 +3,8 @@
 ghost use Rattle.std.specs.Prelude.{◌≡◌, ◌==◌, ◌∷◌, [], ◌++◌, OnOk, find, None, ◌^◌, ◌<◌, ◌≤◌, IfOk, length, map, filter_map, position, slice_get, take, drop, option_copied, option_and_then};
 ghost use Rattle.std.specs.List.{sum_by, range_with_len, last_or};
 ghost use Rattle.task_events.specs.Answers.{context_of};
-ghost use Rattle.task_events.specs.Searches.{failure_of, counted, tops_in, search_reply};
+ghost use Rattle.task_events.specs.Searches.{failure_of, counted, tops_in};
+ghost use Rattle.search_phase.specs.Searching.{search_answer};
 ghost use Rattle.search_phase.specs.FetchPhase.{tops_of, fetching_of, answer_to, hits_in, failure_by, failed_by, hit_by};
 
 use crate::fetching::{Fetching, tops_of};
@@ -12,7 +13,7 @@ use task_events::{
     Asked, FailedShard, FetchAsk, Hit, HitKey, Reply, SearchAsk, SearchReply, ShardCount,
     ShardFailure, ShardTop,
 };
-use task_ids::{Boxed, Items, TaskId};
+use task_ids::{Items, TaskId};
 
 /// Why a task failed, where it did.
 fn failure_of(asked: Option<&Asked>) -> Option<ShardFailure>
@@ -242,40 +243,7 @@ fn shown(
     Ok((hits, last))
 }
 
-/// The reply of a search in which not all shards failed, given those that did.
-fn reply_with(
-    alloc: Global,
-    context: Option<TaskId>,
-    shards: u32,
-    asked: &[Asked],
-    fetching: &Fetching,
-    failed: Items<FailedShard>,
-) -> Result<Reply, AllocError>
-    requires all_asked { shards ≤ length asked.now }
-    requires total { sum_by (λ top. top.count) (tops_in shards asked.now) < 2 ^ 64 }
-    ensures { IfOk result (λ reply. reply ≡ Reply.Search (record {
-      context = context;
-      shards = map counted (tops_in shards asked.now);
-      failed = failed;
-      total = sum_by (λ top. top.count) (tops_in shards asked.now);
-      hits = filter_map (hit_by fetching.now.fetches (drop shards asked.now)) fetching.now.won;
-      last = last_or None fetching.now.won;
-    })) }
-{
-    let (counts, total) = counted_in(alloc, &asked[..shards as usize])?;
-    let (hits, last) = shown(alloc, fetching, &asked[shards as usize..])?;
-    let reply = SearchReply {
-        context,
-        shards: counts,
-        failed,
-        total,
-        hits,
-        last,
-    };
-    Ok(Reply::Search(Boxed::new(alloc, reply)?))
-}
-
-/// The reply of a search whose asks are all answered.
+/// The answer of a search whose asks are all answered. Its failed shards may be all.
 pub(crate) fn answer(
     alloc: Global,
     task: TaskId,
@@ -283,17 +251,21 @@ pub(crate) fn answer(
     shards: u32,
     asked: &[Asked],
     fetching: &Fetching,
-) -> Result<Reply, AllocError>
+) -> Result<SearchReply, AllocError>
     requires all_asked { shards ≤ length asked.now }
     requires fetching { fetching.now ≡ fetching_of ask.now (tops_in shards asked.now) }
     requires total { sum_by (λ top. top.count) (tops_in shards asked.now) < 2 ^ 64 }
-    ensures { IfOk result (λ reply. reply ≡ search_reply task ask.now shards asked.now) }
+    ensures { IfOk result (λ answer. answer ≡ search_answer task ask.now shards asked.now) }
 {
     let failed = failed_shards(alloc, fetching.fetches.as_slice(), shards, asked)?;
-    let failures = failed.as_slice().len();
-    if failures == shards as usize {
-        return Ok(Reply::AllFailed(failed));
-    }
-    let context = context_of(task, ask);
-    reply_with(alloc, context, shards, asked, fetching, failed)
+    let (counts, total) = counted_in(alloc, &asked[..shards as usize])?;
+    let (hits, last) = shown(alloc, fetching, &asked[shards as usize..])?;
+    Ok(SearchReply {
+        context: context_of(task, ask),
+        shards: counts,
+        failed,
+        total,
+        hits,
+        last,
+    })
 }

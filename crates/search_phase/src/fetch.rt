@@ -3,8 +3,8 @@
 ghost use Rattle.std.specs.Prelude.{◌≡◌, ◌+◌, ◌≤◌, List, [], ◌∷◌, ◌++◌, false, length, filter_map, slice_range, IfOk, OnOk, OnErr};
 ghost use Rattle.task_ids.specs.declared.doc.Doc.{Doc};
 ghost use Rattle.task_events.specs.Answers.{hit_at};
-ghost use Rattle.search_phase.specs.Fetches.{IsFetched, StaysFetched, new_fetch, has_fetched, fetched_in};
-ghost use Rattle.search_phase.specs.TurnAnswers.{fetch_answer};
+ghost use Rattle.search_phase.specs.Fetches.{IsFetched, StaysFetched, HasTurned, new_fetch, has_fetched, fetched_in};
+ghost use Rattle.search_phase.specs.TurnAnswers.{fetch_answer, has_all};
 
 use shard_docs::Shard;
 use std::alloc::{AllocError, Global};
@@ -98,7 +98,7 @@ impl ShardFetch {
         }
     }
 
-    /// What is asked for.
+    /// What is asked for. A world finds the shard by it.
     pub fn ask(&self) -> &FetchAsk
         ensures { result.now ≡ self.now.ask }
     {
@@ -107,13 +107,18 @@ impl ShardFetch {
 
     /// Looks up the next 1,024 places, or those that are left, and copies their documents. A place with no row alive at
     /// the version is passed over. It fails only for want of memory, and then nothing has changed.
+    ///
+    /// What it finds is what is asked for where all turns are over one shard, which may grow between them.
     pub fn turn(&mut self, shard: &Shard) -> Result<FetchAnswer, AllocError>
-        requires fetched { IsFetched self.old shard.now }
-        requires not_ended { has_fetched self.old ≡ false }
-        ensures ok { OnOk result (self.new ≡ fetched_in self.old.ask (self.old.turns + 1) shard.now) }
-        ensures goes_on { OnOk result (IsFetched self.new shard.now) }
-        ensures stays { OnOk result (StaysFetched self.new shard.now) }
-        ensures answer { IfOk result (λ answer. answer ≡ fetch_answer self.new shard.now) }
+        requires { has_fetched self.old ≡ false }
+        ensures turned { OnOk result (HasTurned self.old self.new) }
+        ensures ready { IfOk result (λ answer. has_all answer ≡ has_fetched self.new) }
+        ensures ok { IsFetched self.old shard.now
+            → OnOk result (self.new ≡ fetched_in self.old.ask (self.old.turns + 1) shard.now) }
+        ensures goes_on { IsFetched self.old shard.now → OnOk result (IsFetched self.new shard.now) }
+        ensures stays { IsFetched self.old shard.now → OnOk result (StaysFetched self.new shard.now) }
+        ensures answer { IsFetched self.old shard.now
+            → IfOk result (λ answer. answer ≡ fetch_answer self.new shard.now) }
         ensures err { OnErr result (self.new ≡ self.old) }
     {
         let all = self.ask.places.as_slice().len();

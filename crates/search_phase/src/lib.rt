@@ -17,3 +17,4 @@ pub use fetch::{FetchAnswer, ShardFetch};
 pub use merging::merge;
 pub use query::{ShardQuery, TurnAnswer};
 pub use root::{RootPlan, SearchRoot};
+pub use task_events::{FetchAsk, HitKey, SearchAsk, ShardAsk, ShardTop, SlicePick};

@@ -7,7 +7,6 @@ ghost use Rattle.search_phase.specs.Merged.{merged_keys};
 
 use std::alloc::{AllocError, Global};
 use task_events::{HitKey, ShardTop};
-use task_ids::Items;
 
 fn copy_keys(alloc: Global, keys: &[&HitKey]) -> Result<Vec<HitKey>, AllocError>
     ensures { IfOk result (λ copies. copies.items ≡ map (λ key. key.now) keys.now) }
@@ -44,15 +43,14 @@ pub(crate) fn cut_keys(
     mut keys: Vec<&HitKey>,
     from: u32,
     size: u32,
-) -> Result<Items<HitKey>, AllocError>
+) -> Result<Vec<HitKey>, AllocError>
     ensures { let found = in_hit_order (map (λ key. key.now) keys.entry.items) in
-        IfOk result (λ shown. shown ≡ take size (drop from found)) }
+        IfOk result (λ shown. shown.items ≡ take size (drop from found)) }
 {
     keys.sort_unstable();
     let start = keys.len().min(from as usize);
     let end = keys.len().min(start + size as usize);
-    let winners = copy_keys(alloc, &keys[start..end])?;
-    Ok(Items::from_vec(winners))
+    copy_keys(alloc, &keys[start..end])
 }
 
 /// Of the keys of all tops in hit order, those that a search shows: the first `from` are passed over, and the next
@@ -62,8 +60,8 @@ pub fn merge(
     tops: &[ShardTop],
     from: u32,
     size: u32,
-) -> Result<Items<HitKey>, AllocError>
-    ensures { IfOk result (λ keys. keys ≡ take size (drop from (merged_keys tops.now))) }
+) -> Result<Vec<HitKey>, AllocError>
+    ensures { IfOk result (λ keys. keys.items ≡ take size (drop from (merged_keys tops.now))) }
 {
     let keys = keys_of(alloc, tops)?;
     cut_keys(alloc, keys, from, size)

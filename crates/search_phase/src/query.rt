@@ -2,8 +2,8 @@
 
 ghost use Rattle.std.specs.Prelude.{◌≡◌, ◌+◌, List, false, IfOk, OnOk, OnErr};
 ghost use Rattle.task_ids.specs.declared.doc.Doc.{Doc};
-ghost use Rattle.search_phase.specs.Queries.{IsQueried, StaysQueried, new_query, version_at, has_ended, looked, queried, without_keys};
-ghost use Rattle.search_phase.specs.TurnAnswers.{query_answer};
+ghost use Rattle.search_phase.specs.Queries.{IsQueried, StaysQueried, HasTurned, new_query, version_at, has_ended, looked, queried, without_keys};
+ghost use Rattle.search_phase.specs.TurnAnswers.{query_answer, is_ready};
 
 use crate::keeping::keep_all;
 use crate::looking::keys_between;
@@ -43,7 +43,7 @@ pub struct ShardQuery {
 impl Model for ShardQuery {
     ghost use Rattle.std.specs.BinaryHeap.{heap_items, IsHeap};
     ghost use Rattle.task_events.specs.HitOrder.{hit_cmp, in_hit_order};
-    ghost use Rattle.search_phase.specs.Queries.{QueryState};
+    ghost use Rattle.search_phase.specs.Queries.{QueryState, IsQuery};
     ghost use Rattle.std.specs.Coded.{codes};
     ghost use Rattle.task_events.specs.contracts.request.ShardAsk as shard_ask;
     ghost use Rattle.task_events.specs.contracts.request.HitKey as hit_key;
@@ -60,7 +60,13 @@ impl Model for ShardQuery {
       keys = in_hit_order (heap_items q.first);
     } };
 
-    ghost invariant = { λ q. IsHeap hit_cmp (heap_items q.first) };
+    ghost invariant = { λ q. IsHeap hit_cmp (heap_items q.first) × IsQuery (record {
+      ask = q.ask;
+      version = q.version;
+      turns = q.turns;
+      count = q.count;
+      keys = in_hit_order (heap_items q.first);
+    }) };
 }
 
 impl ShardQuery {
@@ -80,7 +86,7 @@ impl ShardQuery {
         }
     }
 
-    /// What is asked for.
+    /// What is asked for. A world finds the shard by it.
     pub fn ask(&self) -> &ShardAsk
         ensures { result.now ≡ self.now.ask }
     {
@@ -89,13 +95,18 @@ impl ShardQuery {
 
     /// Looks at the rows of the next 1,024 places, or of those that are left. The first turn fixes the version, where
     /// the ask names none. It fails only for want of memory, and then nothing has changed.
+    ///
+    /// What it finds is what is asked for where all turns are over one shard, which may grow between them.
     pub fn turn(&mut self, shard: &Shard) -> Result<TurnAnswer, AllocError>
-        requires queried { IsQueried self.old shard.now }
-        requires not_ended { has_ended self.old shard.now ≡ false }
-        ensures ok { OnOk result (self.new ≡ queried self.old.ask (version_at self.old shard.now) (self.old.turns + 1) shard.now) }
-        ensures goes_on { OnOk result (IsQueried self.new shard.now) }
-        ensures stays { OnOk result (StaysQueried self.new shard.now) }
-        ensures answer { IfOk result (λ answer. answer ≡ query_answer self.new shard.now) }
+        requires { has_ended self.old shard.now ≡ false }
+        ensures turned { OnOk result (HasTurned self.old shard.now self.new) }
+        ensures ready { IfOk result (λ answer. is_ready answer ≡ has_ended self.new shard.now) }
+        ensures ok { IsQueried self.old shard.now
+            → OnOk result (self.new ≡ queried self.old.ask (version_at self.old shard.now) (self.old.turns + 1) shard.now) }
+        ensures goes_on { IsQueried self.old shard.now → OnOk result (IsQueried self.new shard.now) }
+        ensures stays { IsQueried self.old shard.now → OnOk result (StaysQueried self.new shard.now) }
+        ensures answer { IsQueried self.old shard.now
+            → IfOk result (λ answer. answer ≡ query_answer self.new shard.now) }
         ensures err { OnErr result (self.new ≡ self.old) }
     {
         let version = self.version.unwrap_or(shard.version());
@@ -107,10 +118,11 @@ impl ShardQuery {
     }
 
     fn look(&mut self, shard: &Shard, version: u32) -> Result<(), AllocError>
-        requires queried { IsQueried self.old shard.now }
         requires not_ended { has_ended self.old shard.now ≡ false }
         requires version { version ≡ version_at self.old shard.now }
-        ensures ok { OnOk result (self.new ≡ looked self.old.ask version (self.old.turns + 1) shard.now) }
+        ensures turned { OnOk result (HasTurned self.old shard.now self.new) }
+        ensures ok { IsQueried self.old shard.now
+            → OnOk result (self.new ≡ looked self.old.ask version (self.old.turns + 1) shard.now) }
         ensures err { OnErr result (self.new ≡ self.old) }
     {
         let start = self.turns * ROWS_PER_TURN;

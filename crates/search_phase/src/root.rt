@@ -1,12 +1,12 @@
 //! A search of all shards of an index.
 
-ghost use Rattle.std.specs.Prelude.{◌≡◌, ◌<◌, ℕ, List, ◌&&◌, IfOk, OnOk, OnErr, Some, is_some, true, length, position, slice_get, slice_set, vec_capacity};
+ghost use Rattle.std.specs.Prelude.{◌≡◌, ◌<◌, ℕ, List, IfOk, OnOk, OnErr, Some, is_some, true, length, position, slice_get, slice_set, vec_capacity};
 ghost use Rattle.task_ids.specs.declared.doc.Doc.{Doc};
 ghost use Rattle.task_ids.specs.Limits.{IsShardCount};
 ghost use Rattle.task_events.specs.declared.step.Asked.{Asked};
 ghost use Rattle.task_events.specs.Possible.{can_have};
 ghost use Rattle.task_events.specs.Searches.{are_answered};
-ghost use Rattle.search_phase.specs.Searching.{new_search, next_request, next_step, is_open, wants_to_ask, has_ended, does_wait, is_above, with_ask, takes, with_answer, AllHonest, plain_reply, reply_of};
+ghost use Rattle.search_phase.specs.Searching.{new_search, next_request, next_step, is_open, wants_to_ask, has_ended, does_wait, is_above, with_ask, takes, with_answer, AllHonest, plain_reply, answer_of, reply_with};
 ghost use Rattle.search_phase.specs.Plans.{plan_of};
 
 use crate::answer::answer;
@@ -14,7 +14,7 @@ use crate::asking::{can_answer, has_request, request_at};
 use crate::fetching::{Fetching, are_answered, fetching_in};
 use std::alloc::{AllocError, Global};
 use std::marker::Model;
-use task_events::{Asked, Reply, Request, SearchAsk};
+use task_events::{Asked, Reply, Request, SearchAsk, SearchReply};
 use task_ids::TaskId;
 
 /// What a search does next.
@@ -74,17 +74,6 @@ fn place_of(asked: &[Asked], ask: u32) -> Option<usize>
         .position(|a| a.ask == ask && a.answer.is_none())
 }
 
-fn is_above(asked: &[Asked], ask: u32) -> bool
-    ensures { result ≡ is_above ask asked.now }
-{
-    for a in asked {
-        if ask <= a.ask {
-            return false;
-        }
-    }
-    true
-}
-
 fn set_answer(asked: &mut Vec<Asked>, place: usize, answer: Option<Reply>)
     requires { place < length asked.old.items }
     ensures items { (a : Asked) → slice_get asked.old.items place ≡ Some a
@@ -104,17 +93,17 @@ impl SearchRoot {
         ask: &SearchAsk,
         shards: u32,
     ) -> Result<SearchRoot, AllocError>
-        requires { IsShardCount shards }
         ensures { IfOk result (λ root. root ≡ new_search task ask.now shards) }
     {
         let asked = Vec::with_capacity(alloc, 2 * shards as usize)?;
         let ask = ask.copy()?;
+        let fetching = fetching_in(alloc, &ask, shards, asked.as_slice())?;
         Ok(SearchRoot {
             task,
             ask,
             shards,
             asked,
-            fetching: None,
+            fetching,
         })
     }
 
@@ -141,18 +130,11 @@ impl SearchRoot {
     }
 
     /// Whether it waits for an answer: it has asked for all that it can ask for, and not all answers have come. It takes
-    /// no memory.
+    /// no memory, so a world asks it where it only notes who waits.
     pub fn waits(&self) -> bool
         ensures { result ≡ does_wait (next_step self.now) }
     {
         !self.has_next() && !self.has_all_answers()
-    }
-
-    /// Whether it plans to ask, and this number is above those of all its asks. It takes no memory.
-    pub fn can_ask(&self, ask: u32) -> bool
-        ensures { result ≡ (wants_to_ask (next_step self.now) && is_above ask self.now.asked) }
-    {
-        self.has_next() && is_above(self.asked.as_slice(), ask)
     }
 
     /// What it does next: it asks for the next request, waits for an answer, or ends. It fails only for want of memory.
@@ -215,15 +197,23 @@ impl SearchRoot {
         }
     }
 
-    /// The reply, once all asks are answered. Where every answer says what its shard's writes say, it is the plain
-    /// answer: one list of all rows that match, in hit order and cut. It fails only for want of memory.
-    pub fn finish(&self) -> Result<Reply, AllocError>
+    /// How many shards the index has. `task_work` asks it, which makes the reply of the answer.
+    pub fn shards(&self) -> u32
+        ensures { result ≡ self.now.shards }
+    {
+        self.shards
+    }
+
+    /// The answer, once all asks are answered; its failed shards may be all. Where every answer says what its shard's
+    /// writes say, it is the plain answer: one list of all rows that match, in hit order and cut. It fails only for want
+    /// of memory.
+    pub fn finish(&self) -> Result<SearchReply, AllocError>
         requires { has_ended (next_step self.now) ≡ true }
-        ensures reply { IfOk result (λ reply. reply ≡ reply_of self.now) }
+        ensures answer { IfOk result (λ answer. answer ≡ answer_of self.now) }
         ensures plain { (writes : ℕ → List Doc) → AllHonest writes self.now
-            → IfOk result (λ reply. reply ≡ plain_reply writes self.now) }
-        ensures possible { IfOk result (λ reply.
-            can_have self.now.shards (Request.Search self.now.ask) reply ≡ true) }
+            → IfOk result (λ answer. reply_with self.now.shards answer ≡ plain_reply writes self.now) }
+        ensures possible { IsShardCount self.now.shards → IfOk result (λ answer.
+            can_have self.now.shards (Request.Search self.now.ask) (reply_with self.now.shards answer) ≡ true) }
     {
         let Some(fetching) = &self.fetching else {
             unreachable!()

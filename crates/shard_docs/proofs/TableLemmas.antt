@@ -70,10 +70,6 @@ alive_if_written id first (doc ∷ later) =
     (λ alive. rw alive (ap (λ b. bytes_eq id doc.id || b) rest))
     (cases_Bool (has_id doc.id later))
   where
-    absorbed : (b c : Bool) → (b ≡ true → c ≡ true) → (b || c) ≡ c
-    absorbed true c h = sym (h refl)
-    absorbed false c h = refl
-
     written_later : has_id doc.id later ≡ true → (bytes_eq id doc.id || has_id id later) ≡ has_id id later
     written_later dead =
         ⊎_elim

@@ -12,7 +12,6 @@ IsTable-without_task table number kept =
     let stays : TaskInfo → Bool = λ row. not (has_number number row) in
     record {
       node_in_range = kept.node_in_range;
-      slots_in_range = kept.slots_in_range;
       last_in_range = kept.last_in_range;
       in_slots = omega (arith, kept.in_slots, length-filter stays table.live, count_by-le-length stays table.live);
       ascending = AllPairs-filter (λ a b. a.id.number < b.id.number) stays table.live kept.ascending;

@@ -1,6 +1,6 @@
 -- What contracts see of a table.
 use Rattle.std.specs.Prelude.{◌≡◌, ℕ, ◌≤◌, List, ◌∷◌, [], ◌++◌, length, Option, All, Any, map}
-use Rattle.task_ids.specs.Limits.{IsNode, IsSlotCount}
+use Rattle.task_ids.specs.Limits.{IsNode}
 use Rattle.task_ids.specs.declared.task_id.TaskId.{TaskId}
 use Rattle.task_ids.specs.declared.task_info.NewTask.{NewTask}
 use Rattle.task_ids.specs.declared.task_info.TaskInfo.{TaskInfo}
@@ -16,7 +16,6 @@ pub record Table : Type 0 where
 -- what every table keeps
 pub record IsTable (table : Table) : Type 0 where
   pub node_in_range : IsNode table.node
-  pub slots_in_range : IsSlotCount table.slots
   pub last_in_range : table.last ≤ 1048575
   pub in_slots : length table.live ≤ table.slots
   pub ascending : IsAscending table.live

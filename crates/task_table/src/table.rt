@@ -1,5 +1,5 @@
 ghost use Rattle.std.specs.Prelude.{◌≡◌, ◌+◌, ◌<◌, ◌≤◌, ◌↔◌, length, IsErrOf, IfOk, IfErr, OnErr, IfSome, IfNone, All, Any};
-ghost use Rattle.task_ids.specs.Limits.{IsNode, IsSlotCount, IsCancel};
+ghost use Rattle.task_ids.specs.Limits.{IsNode, IsCancel};
 ghost use Rattle.child_track.specs.Token.{token_parent};
 ghost use Rattle.child_track.specs.Track.{unanswered, sealed};
 ghost use Rattle.task_table.specs.Rows.{IsUnmarkedChild};
@@ -37,10 +37,9 @@ impl Model for TaskTable {
 }
 
 impl TaskTable {
-    /// An empty table of the node, with so many slots.
+    /// An empty table of the node, with so many slots. It fails only for want of memory.
     pub fn new(alloc: Global, node: u32, slots: u32) -> Result<TaskTable, AllocError>
-        requires node { IsNode node }
-        requires slots { IsSlotCount slots }
+        requires { IsNode node }
         ensures { IfOk result (λ table. table ≡ new_table node slots) }
     {
         let rows = Vec::with_capacity(alloc, slots as usize)?;

@@ -17,5 +17,6 @@ pub use line_print::{Idle, print_lines};
 pub use plans::{Plan, PlanError};
 pub use script_lang::{Command, Script};
 pub use status::Status;
+pub use task_ids::{Cause, Cluster};
 pub use top::sim_top;
 pub use words::plan;

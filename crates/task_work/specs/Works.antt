@@ -1,5 +1,5 @@
 -- What the work of a task does next, and what it is after an ask, an answer and a turn.
-use Rattle.std.specs.Prelude.{◌≡◌, ℕ, ◌+◌, List, Bool, false, ◌&&◌, Option, Some, None, if◌then◌else◌}
+use Rattle.std.specs.Prelude.{◌≡◌, ℕ, ◌+◌, List, Bool, false, ◌&&◌, ◌||◌, is_some, Option, Some, None, if◌then◌else◌}
 use Rattle.task_ids.specs.declared.task_id.TaskId.{TaskId}
 use Rattle.task_ids.specs.declared.doc.Doc.{Doc}
 use Rattle.task_events.specs.declared.request.Request.{Request}
@@ -11,7 +11,9 @@ use Rattle.task_events.specs.declared.step.Do.{Do}
 use Rattle.task_events.specs.declared.step.Do.TheVariants as steps
 use Rattle.task_events.specs.Answers.{shard_top, fetched}
 use Rattle.task_events.specs.Searches.{query_step, fetch_step}
+use Rattle.search_phase.specs.Queries as queries
 use Rattle.search_phase.specs.Queries.{QueryState, IsQueried, new_query, version_at, has_ended, queried}
+use Rattle.search_phase.specs.Fetches as fetches
 use Rattle.search_phase.specs.Fetches.{FetchState, IsFetched, new_fetch, has_fetched, fetched_in}
 use Rattle.search_phase.specs.Searching.{new_search, next_step, wants_to_ask, is_above, with_ask, takes, with_answer, AllHonest, plain_reply}
 pub use Rattle.search_phase.specs.Searching.{does_wait}
@@ -57,6 +59,13 @@ abbrev pub with_turn : Work → List Doc → Work
 with_turn (Search s) writes = Search s
 with_turn (Query q top) writes = query_after (queried q.ask (version_at q writes) (q.turns + 1) writes) writes
 with_turn (Fetch f hits) writes = fetch_after (fetched_in f.ask (f.turns + 1) writes) writes
+
+-- One more turn was taken, over a shard with these writes, whatever the turns before were over. What was found is there once
+-- all was looked at.
+abbrev pub HasTurned : Work → List Doc → Work → Type 0
+HasTurned (Query q top) writes (Query r found) = queries.HasTurned q writes r × (is_some found ≡ (is_some top || has_ended r writes))
+HasTurned (Fetch f hits) writes (Fetch g found) = fetches.HasTurned f g × (is_some found ≡ (is_some hits || has_fetched g))
+HasTurned before writes after = ⊥
 
 -- ---- asks and answers
 

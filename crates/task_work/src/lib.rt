@@ -3,4 +3,5 @@
 
 mod work;
 
+pub use task_events::Do;
 pub use work::Work;

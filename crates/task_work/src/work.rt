@@ -1,15 +1,17 @@
-ghost use Rattle.std.specs.Prelude.{◌≡◌, ◌+◌, List, None, IfOk, OnOk, OnErr, true, false};
+ghost use Rattle.std.specs.Prelude.{◌≡◌, ◌+◌, ◌||◌, List, None, is_some, IfOk, OnOk, OnErr, true, false};
+ghost use Rattle.search_phase.specs.Queries as queries;
 ghost use Rattle.search_phase.specs.Queries.{IsQueried, has_ended, version_at, queried};
+ghost use Rattle.search_phase.specs.Fetches as fetches;
 ghost use Rattle.search_phase.specs.Fetches.{IsFetched, has_fetched, fetched_in};
-ghost use Rattle.search_phase.specs.Searching.{next_step};
+ghost use Rattle.search_phase.specs.Searching.{next_step, reply_with};
 ghost use Rattle.task_ids.specs.declared.doc.Doc.{Doc};
 ghost use Rattle.task_events.specs.Tasks.{no_counts};
-ghost use Rattle.task_work.specs.Works.{new_work, IsWorkOn, next_of, with_turn, can_ask, work_with_ask, work_takes, work_with_answer, found_top, found_hits, EndsPlainly, does_wait};
+ghost use Rattle.task_work.specs.Works.{new_work, IsWorkOn, HasTurned, next_of, with_turn, can_ask, work_with_ask, work_takes, work_with_answer, found_top, found_hits, EndsPlainly, does_wait};
 
 use search_phase::{FetchAnswer, RootPlan, SearchRoot, ShardFetch, ShardQuery, TurnAnswer};
 use shard_docs::Shard;
 use std::alloc::{AllocError, Global};
-use task_events::{Do, Hit, Reply, Request, ShardTop, copy_hits};
+use task_events::{Do, Hit, Reply, Request, SearchReply, ShardTop, copy_hits};
 use task_ids::{Boxed, Cluster, Items, TaskId};
 
 fn top_reply(top: &ShardTop) -> Result<Reply, AllocError>
@@ -19,6 +21,17 @@ fn top_reply(top: &ShardTop) -> Result<Reply, AllocError>
     Ok(Reply::Top(Boxed::new(top.keys.allocator(), copy)?))
 }
 
+/// The reply with the answer of a search, which tells of the failed shards alone where all have failed.
+fn reply_with(shards: u32, answer: SearchReply) -> Result<Reply, AllocError>
+    ensures { IfOk result (λ reply. reply ≡ reply_with shards answer) }
+{
+    if answer.failed.as_slice().len() == shards as usize {
+        let SearchReply { failed, .. } = answer;
+        return Ok(Reply::AllFailed(failed));
+    }
+    Ok(Reply::Search(Boxed::new(answer.failed.allocator(), answer)?))
+}
+
 fn next_of_search(root: &SearchRoot) -> Result<Do, AllocError>
     ensures step { IfOk result (λ step. step ≡ next_step root.now) }
     ensures plain { IfOk result (λ step. EndsPlainly (Work.Search root.now) step) }
@@ -26,7 +39,7 @@ fn next_of_search(root: &SearchRoot) -> Result<Do, AllocError>
     match root.plan()? {
         RootPlan::Ask(request) => Ok(Do::AskNext(request)),
         RootPlan::Wait => Ok(Do::Wait(None)),
-        RootPlan::Finish => Ok(Do::Finish(root.finish()?)),
+        RootPlan::Finish => Ok(Do::Finish(reply_with(root.shards(), root.finish()?)?)),
     }
 }
 
@@ -35,13 +48,14 @@ fn turn_of_query(
     top: &mut Option<ShardTop>,
     shard: &Shard,
 ) -> Result<(), AllocError>
-    requires on { IsQueried query.old shard.now }
-    requires turns { has_ended query.old shard.now ≡ false }
-    requires no_top { top.old ≡ None }
-    ensures query { let q = query.old in
+    requires { has_ended query.old shard.now ≡ false }
+    ensures turned { OnOk result (queries.HasTurned query.old shard.now query.new) }
+    ensures ready { OnOk result (is_some top.new ≡ (is_some top.old || has_ended query.new shard.now)) }
+    ensures query { IsQueried query.old shard.now → let q = query.old in
         OnOk result (query.new ≡ queried q.ask (version_at q shard.now) (q.turns + 1) shard.now) }
-    ensures on { OnOk result (IsQueried query.new shard.now) }
-    ensures top { OnOk result (top.new ≡ found_top query.new shard.now) }
+    ensures on { IsQueried query.old shard.now → OnOk result (IsQueried query.new shard.now) }
+    ensures top { IsQueried query.old shard.now → top.old ≡ None
+        → OnOk result (top.new ≡ found_top query.new shard.now) }
     ensures same_query { OnErr result (query.new ≡ query.old) }
     ensures same_top { OnErr result (top.new ≡ top.old) }
 {
@@ -59,12 +73,13 @@ fn turn_of_fetch(
     hits: &mut Option<Items<Hit>>,
     shard: &Shard,
 ) -> Result<(), AllocError>
-    requires on { IsFetched fetch.old shard.now }
-    requires turns { has_fetched fetch.old ≡ false }
-    requires no_hits { hits.old ≡ None }
-    ensures fetch { let f = fetch.old in
+    requires { has_fetched fetch.old ≡ false }
+    ensures turned { OnOk result (fetches.HasTurned fetch.old fetch.new) }
+    ensures ready { OnOk result (is_some hits.new ≡ (is_some hits.old || has_fetched fetch.new)) }
+    ensures fetch { IsFetched fetch.old shard.now → let f = fetch.old in
         OnOk result (fetch.new ≡ fetched_in f.ask (f.turns + 1) shard.now) }
-    ensures hits { OnOk result (hits.new ≡ found_hits fetch.new shard.now) }
+    ensures hits { IsFetched fetch.old shard.now → hits.old ≡ None
+        → OnOk result (hits.new ≡ found_hits fetch.new shard.now) }
     ensures same_fetch { OnErr result (fetch.new ≡ fetch.old) }
     ensures same_hits { OnErr result (hits.new ≡ hits.old) }
 {
@@ -130,7 +145,7 @@ impl Work {
         }
     }
 
-    /// Whether it waits for an answer. It takes no memory.
+    /// Whether it waits for an answer. It takes no memory, so a world asks it where it only notes who waits.
     pub fn waits(&self) -> bool
         ensures { (writes : List Doc) → result ≡ does_wait (next_of self.now writes) }
     {
@@ -176,11 +191,13 @@ impl Work {
     }
 
     /// Takes a turn over its shard. It fails only for want of memory, and then nothing has changed.
+    ///
+    /// What it finds is what is asked for where all turns are over one shard, which may grow between them.
     pub fn turn(&mut self, shard: &Shard) -> Result<(), AllocError>
-        requires on { IsWorkOn self.old shard.now }
-        requires turns { next_of self.old shard.now ≡ Do.Turn }
-        ensures ok { OnOk result (self.new ≡ with_turn self.old shard.now) }
-        ensures holds_on { OnOk result (IsWorkOn self.new shard.now) }
+        requires { next_of self.old shard.now ≡ Do.Turn }
+        ensures turned { OnOk result (HasTurned self.old shard.now self.new) }
+        ensures ok { IsWorkOn self.old shard.now → OnOk result (self.new ≡ with_turn self.old shard.now) }
+        ensures holds_on { IsWorkOn self.old shard.now → OnOk result (IsWorkOn self.new shard.now) }
         ensures err { OnErr result (self.new ≡ self.old) }
     {
         match self {

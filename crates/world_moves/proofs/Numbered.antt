@@ -1,5 +1,5 @@
 -- A search whose asks are numbered from 1 asks in order, and takes what its requests can have.
-use Rattle.std.proofs.Common.{◌≡◌, ◌<◌, ℕ, ◌+◌, true, List, [], ◌∷◌, length, map, take, Option, refl, sym, ap, ◌∙◌, arith}
+use Rattle.std.proofs.Common.{◌≡◌, ◌<◌, ◌≤◌, ℕ, ◌+◌, true, List, [], ◌∷◌, length, map, take, Option, refl, sym, ap, ◌∙◌, arith}
 use Rattle.std.specs.Prelude.{nat_lt}
 use Rattle.std.specs.List.{list_all, range_with_len}
 use Rattle.std.proofs.lemmas.Bool.Decides.{nat_tests}
@@ -31,7 +31,7 @@ pub is_searching : (cluster : Cluster) (corpus : Corpus) (t : TaskId) (ask : Sea
     → SearchesFor cluster corpus t ask asked requests awaited (record { task = t; ask = ask; shards = cluster.shards; asked = asked })
     → IsSearching (record { task = t; ask = ask; shards = cluster.shards; asked = asked })
 is_searching cluster corpus t ask asked requests awaited x = record {
-  shards_in_range = cluster.shards_in_range;
+  shards_in_range = let few : cluster.shards ≤ 15 = cluster.shards_in_range.1 in omega arith;
   numbers = rising 1 asked x.numbered;
   in_order =
       let e : length (take (length asked) (requests_of ask cluster.shards asked)) ≡ length asked = sym (ap length x.planned) ∙ x.as_many in

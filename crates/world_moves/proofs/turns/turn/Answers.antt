@@ -16,16 +16,8 @@ unreachable-requires c =
     let s = c.args.state.now in
     is_kept s.cluster s.corpus.now s.script.now s.history _ _ _ c.requires.tied.ties c.args.task c.requires.live (sym c.get_mut.ensures.value ∙ ap option_copied_mut c.in_default.is)
 
-pub turn-requires-clause-on : goal.turn-requires-clause-on
-turn-requires-clause-on c =
-    let s = c.args.state.now in
-    let r = c.in-Some.running.now in
-    let was = sym c.get_mut.ensures.value ∙ ap option_copied_mut c.in-Some.is in
-    let runs = kept_running s.cluster s.corpus.now s.script.now s.history _ _ _ c.requires.tied.ties c.args.task c.requires.live r was in
-    rw (c.shard_of_work-shard.ensures, c.requires.shards.shards_are) (is_on s.cluster s.corpus.now c.args.task _ _ _ _ _ r.work runs.works)
-
-pub turn-requires-clause-turns : goal.turn-requires-clause-turns
-turn-requires-clause-turns c =
+pub turn-requires : goal.turn-requires
+turn-requires c =
     let s = c.args.state.now in
     let r = c.in-Some.running.now in
     let was = sym c.get_mut.ensures.value ∙ ap option_copied_mut c.in-Some.is in
@@ -43,9 +35,11 @@ returns-clause-tied c =
     let runs = kept_running s.cluster s.corpus.now s.script.now s.history _ _ _ c.requires.tied.ties c.args.task c.requires.live r was in
     let next = rw was at c.requires.next in
     let shard = c.shard_of_work-shard.ensures ∙ ap (λ stored. looked_at stored r.work) c.requires.shards.shards_are in
+    let on = is_on s.cluster s.corpus.now c.args.task _ _ _ _ _ r.work runs.works in
+    let was_on = subst (λ writes. IsWorkOn r.work writes) (sym shard) on in
     rw c.in_ok-append.ensures.ok (record {
       ties = after_turn s.cluster s.corpus.now s.script.now s.history _ _ _ c.requires.tied.ties c.args.task r c.turn.new.self _ c.requires.tied.awaits c.requires.live c.requires.passed c.requires.unmarked was
-          (next _ (is_on s.cluster s.corpus.now c.args.task _ _ _ _ _ r.work runs.works)) (c.in-Ok.ensures.ok ∙ ap (with_turn r.work) shard) (subst (λ writes. IsWorkOn c.turn.new.self writes) shard c.in-Ok.ensures.holds_on)
+          (next _ on) (c.in-Ok.ensures.ok was_on ∙ ap (with_turn r.work) shard) (subst (λ writes. IsWorkOn c.turn.new.self writes) shard (c.in-Ok.ensures.holds_on was_on))
           (at_changed c.args.task (Some w) (task_at s.tasks) _ changed) (off_changed c.args.task (Some w) (task_at s.tasks) _ changed);
       cancels = noted s.cluster (λ t. waiting_for t s.history) s.history _ _ _ _ _ c.requires.tied.cancels (Work c.args.task) refl refl;
       awaits = tt;

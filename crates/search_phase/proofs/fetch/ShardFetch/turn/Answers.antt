@@ -1,84 +1,98 @@
 -- After the turn places are left, or it was the last.
 use Rattle.std.proofs.Common.{◌≡◌, ◌+◌, ◌-◌, ◌*◌, ◌≤◌, ◌∙◌, List, length, min, ap, subst, arith}
 use Rattle.search_phase.specs.declared.fetch.FetchAnswer.TheVariants.{More, Ready}
-use Rattle.search_phase.specs.Fetches.{FetchState, fetched_in}
+use Rattle.search_phase.specs.Fetches.{FetchState, IsFetched, fetched_in}
 use Rattle.search_phase.specs.TurnAnswers.{fetch_answer}
 use Rattle.search_phase.proofs.Growing.{IsFetched-grow, fetched_in-fetched}
-use Rattle.search_phase.proofs.FetchTurns.{can_fetch, fetch_start, open_fetch, last_fetch}
+use Rattle.search_phase.proofs.FetchTurns.{can_fetch, fetch_start, goes_on, has_come, open_fetch, last_fetch}
 use Rattle.search_phase.proofs.fetch.ShardFetch.turn.Goals as goal
 
 pub overflow_mul-start : goal.overflow_mul-start
 overflow_mul-start c =
-    let start : c.self.inside.turns * 1024 ≤ length c.self.inside.ask.places = fetch_start _ _ (can_fetch _ _ _ c.self.view_is c.requires.fetched c.requires.not_ended) in
+    let start : c.self.inside.turns * 1024 ≤ length c.self.inside.ask.places = fetch_start _ _ c.self.view_is c.requires in
     omega (arith, start, ap length c.as_slice-all.ensures)
 
 pub overflow_sub-all : goal.overflow_sub-all
 overflow_sub-all c =
-    let start : c.self.inside.turns * 1024 ≤ length c.self.inside.ask.places = fetch_start _ _ (can_fetch _ _ _ c.self.view_is c.requires.fetched c.requires.not_ended) in
+    let start : c.self.inside.turns * 1024 ≤ length c.self.inside.ask.places = fetch_start _ _ c.self.view_is c.requires in
     omega (arith, start, ap length c.as_slice-all.ensures)
 
 pub overflow_add-end : goal.overflow_add-end
 overflow_add-end c =
-    let start : c.self.inside.turns * 1024 ≤ length c.self.inside.ask.places = fetch_start _ _ (can_fetch _ _ _ c.self.view_is c.requires.fetched c.requires.not_ended) in
+    let start : c.self.inside.turns * 1024 ≤ length c.self.inside.ask.places = fetch_start _ _ c.self.view_is c.requires in
     omega (arith, start, c.min.ensures, ap length c.as_slice-all.ensures)
 
 pub hits_at-requires-clause-within : goal.hits_at-requires-clause-within
 hits_at-requires-clause-within c =
-    let start : c.self.inside.turns * 1024 ≤ length c.self.inside.ask.places = fetch_start _ _ (can_fetch _ _ _ c.self.view_is c.requires.fetched c.requires.not_ended) in
+    let start : c.self.inside.turns * 1024 ≤ length c.self.inside.ask.places = fetch_start _ _ c.self.view_is c.requires in
     omega (arith, start, c.min.ensures, ap length c.as_slice-all.ensures)
 
 pub overflow_add-self : goal.overflow_add-self
 overflow_add-self c =
-    let start : c.self.inside.turns * 1024 ≤ length c.self.inside.ask.places = fetch_start _ _ (can_fetch _ _ _ c.self.view_is c.requires.fetched c.requires.not_ended) in
+    let start : c.self.inside.turns * 1024 ≤ length c.self.inside.ask.places = fetch_start _ _ c.self.view_is c.requires in
     omega (arith, start, ap length c.as_slice-all.ensures)
 
 -- places are left
-opens : (c : goal.After-drop-found-then-end-all) → (record { ask = c.self.inside.ask; turns = c.self.inside.turns + 1; hits = c.append.new.self.items } ≡ fetched_in c.args.self.now.ask (c.args.self.now.turns + 1) c.args.shard.now)
+opens : (c : goal.After-drop-found-then-end-all) → IsFetched c.args.self.now c.args.shard.now → (record { ask = c.self.inside.ask; turns = c.self.inside.turns + 1; hits = c.append.new.self.items } ≡ fetched_in c.args.self.now.ask (c.args.self.now.turns + 1) c.args.shard.now)
     × (More ≡ fetch_answer (record { ask = c.self.inside.ask; turns = c.self.inside.turns + 1; hits = c.append.new.self.items }) c.args.shard.now)
-opens c =
+opens c was =
     let shown : FetchState = record { ask = c.self.inside.ask; turns = c.self.inside.turns; hits = c.self.inside.hits.items } in
     let start = c.self.inside.turns * 1024 in
     let ends = ap (λ n. start + n) (c.min.ensures ∙ ap (λ (places : List Rattle.std.proofs.Common.ℕ). min (length places - start) 1024) c.as_slice-all.ensures) in
     let below = subst (λ (places : List Rattle.std.proofs.Common.ℕ). Rattle.std.proofs.Common.◌<◌ (start + c.min.result) (length places)) c.as_slice-all.ensures c.if-end-all.true in
-    let now = open_fetch shown c.args.shard.now (can_fetch _ _ _ c.self.view_is c.requires.fetched c.requires.not_ended) (start + c.min.result) ends c.in_ok-found.found.items c.in_ok-found.ensures below in (
+    let now = open_fetch shown c.args.shard.now (can_fetch _ _ _ c.self.view_is was c.requires) (start + c.min.result) ends c.in_ok-found.found.items c.in_ok-found.ensures below in (
       ap (λ hits. record { ask = c.self.inside.ask; turns = c.self.inside.turns + 1; hits = hits }) c.in_ok-append.ensures.items ∙ now.0 ∙ ap (λ (f : FetchState). fetched_in f.ask (f.turns + 1) c.args.shard.now) c.self.view_is,
       now.1,
     )
 
+pub returns-then-end-all-clause-ready : goal.returns-then-end-all-clause-ready
+returns-then-end-all-clause-ready c =
+    let start = c.self.inside.turns * 1024 in
+    let ends = ap (λ n. start + n) (c.min.ensures ∙ ap (λ (places : List Rattle.std.proofs.Common.ℕ). min (length places - start) 1024) c.as_slice-all.ensures) in
+    let below = subst (λ (places : List Rattle.std.proofs.Common.ℕ). Rattle.std.proofs.Common.◌<◌ (start + c.min.result) (length places)) c.as_slice-all.ensures c.if-end-all.true in
+    goes_on c.self.inside.turns (length c.self.inside.ask.places) (start + c.min.result) ends (fetch_start _ _ c.self.view_is c.requires) below
+
 pub returns-then-end-all-clause-ok : goal.returns-then-end-all-clause-ok
-returns-then-end-all-clause-ok c = (opens c).0
+returns-then-end-all-clause-ok c = λ was. (opens c was).0
 
 pub returns-then-end-all-clause-answer : goal.returns-then-end-all-clause-answer
-returns-then-end-all-clause-answer c = (opens c).1
+returns-then-end-all-clause-answer c = λ was. (opens c was).1
 
 pub returns-then-end-all-clause-goes_on : goal.returns-then-end-all-clause-goes_on
-returns-then-end-all-clause-goes_on c = fetched_in-fetched _ c.args.self.now.ask (c.args.self.now.turns + 1) c.args.shard.now (opens c).0
+returns-then-end-all-clause-goes_on c = λ was. fetched_in-fetched _ c.args.self.now.ask (c.args.self.now.turns + 1) c.args.shard.now (opens c was).0
 
 pub returns-then-end-all-clause-stays : goal.returns-then-end-all-clause-stays
-returns-then-end-all-clause-stays c = λ within more. IsFetched-grow _ c.args.shard.now more within (fetched_in-fetched _ c.args.self.now.ask (c.args.self.now.turns + 1) c.args.shard.now (opens c).0)
+returns-then-end-all-clause-stays c = λ was within more. IsFetched-grow _ c.args.shard.now more within (fetched_in-fetched _ c.args.self.now.ask (c.args.self.now.turns + 1) c.args.shard.now (opens c was).0)
 
 -- it was the last
-ends : (c : goal.After-drop-found-2) → (record { ask = c.self.inside.ask; turns = c.self.inside.turns + 1; hits = c.replace-hits.new.dest.items } ≡ fetched_in c.args.self.now.ask (c.args.self.now.turns + 1) c.args.shard.now)
+ends : (c : goal.After-drop-found-2) → IsFetched c.args.self.now c.args.shard.now → (record { ask = c.self.inside.ask; turns = c.self.inside.turns + 1; hits = c.replace-hits.new.dest.items } ≡ fetched_in c.args.self.now.ask (c.args.self.now.turns + 1) c.args.shard.now)
     × (Ready c.from_vec.result ≡ fetch_answer (record { ask = c.self.inside.ask; turns = c.self.inside.turns + 1; hits = c.replace-hits.new.dest.items }) c.args.shard.now)
-ends c =
+ends c was =
     let shown : FetchState = record { ask = c.self.inside.ask; turns = c.self.inside.turns; hits = c.self.inside.hits.items } in
     let start = c.self.inside.turns * 1024 in
     let ends = ap (λ n. start + n) (c.min.ensures ∙ ap (λ (places : List Rattle.std.proofs.Common.ℕ). min (length places - start) 1024) c.as_slice-all.ensures) in
     let past = subst (λ (places : List Rattle.std.proofs.Common.ℕ). length places ≤ start + c.min.result) c.as_slice-all.ensures c.if-end-all.false in
-    let now = last_fetch shown c.args.shard.now (can_fetch _ _ _ c.self.view_is c.requires.fetched c.requires.not_ended) (start + c.min.result) ends c.in_ok-found.found.items c.in_ok-found.ensures past in
+    let now = last_fetch shown c.args.shard.now (can_fetch _ _ _ c.self.view_is was c.requires) (start + c.min.result) ends c.in_ok-found.found.items c.in_ok-found.ensures past in
     let none = ap (λ v. v.items) c.replace-hits.ensures.after ∙ c.new.ensures.items in (
       ap (λ hits. record { ask = c.self.inside.ask; turns = c.self.inside.turns + 1; hits = hits }) none ∙ now.0 ∙ ap (λ (f : FetchState). fetched_in f.ask (f.turns + 1) c.args.shard.now) c.self.view_is,
       ap Ready (c.from_vec.ensures ∙ ap (λ v. v.items) c.replace-hits.ensures.value ∙ c.in_ok-append.ensures.items) ∙ now.1,
     )
 
+pub returns-clause-ready : goal.returns-clause-ready
+returns-clause-ready c =
+    let start = c.self.inside.turns * 1024 in
+    let ends = ap (λ n. start + n) (c.min.ensures ∙ ap (λ (places : List Rattle.std.proofs.Common.ℕ). min (length places - start) 1024) c.as_slice-all.ensures) in
+    let past = subst (λ (places : List Rattle.std.proofs.Common.ℕ). length places ≤ start + c.min.result) c.as_slice-all.ensures c.if-end-all.false in
+    has_come c.self.inside.turns (length c.self.inside.ask.places) (start + c.min.result) ends (fetch_start _ _ c.self.view_is c.requires) past
+
 pub returns-clause-ok : goal.returns-clause-ok
-returns-clause-ok c = (ends c).0
+returns-clause-ok c = λ was. (ends c was).0
 
 pub returns-clause-answer : goal.returns-clause-answer
-returns-clause-answer c = (ends c).1
+returns-clause-answer c = λ was. (ends c was).1
 
 pub returns-clause-goes_on : goal.returns-clause-goes_on
-returns-clause-goes_on c = fetched_in-fetched _ c.args.self.now.ask (c.args.self.now.turns + 1) c.args.shard.now (ends c).0
+returns-clause-goes_on c = λ was. fetched_in-fetched _ c.args.self.now.ask (c.args.self.now.turns + 1) c.args.shard.now (ends c was).0
 
 pub returns-clause-stays : goal.returns-clause-stays
-returns-clause-stays c = λ within more. IsFetched-grow _ c.args.shard.now more within (fetched_in-fetched _ c.args.self.now.ask (c.args.self.now.turns + 1) c.args.shard.now (ends c).0)
+returns-clause-stays c = λ was within more. IsFetched-grow _ c.args.shard.now more within (fetched_in-fetched _ c.args.self.now.ask (c.args.self.now.turns + 1) c.args.shard.now (ends c was).0)
