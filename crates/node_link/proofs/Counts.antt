@@ -1,5 +1,5 @@
 -- Where as many letters were taken as were sent, each sender's letters were all taken.
-use Rattle.std.proofs.Common.{take, get_or, ◌≡◌, ◌≢◌, ◌⊎◌, ℕ, zero, suc, ◌+◌, ◌<◌, ◌≤◌, ◌==◌, eqb, Bool, true, false, List, [], ◌∷◌, ◌++◌, length, Some, None, sym, refl, inl, inr, ap, ◌∙◌, subst, ⊎_elim, append-nil, length-append, eq-eqb, ne_eqb, arith}
+use Rattle.std.proofs.Common.{◌≡◌, ◌≢◌, ◌⊎◌, ℕ, zero, suc, ◌+◌, ◌<◌, ◌≤◌, ◌==◌, Bool, true, false, List, [], ◌∷◌, ◌++◌, length, Some, sym, refl, inl, inr, ap, ◌∙◌, subst, ⊎_elim, append-nil, length-append, eq-eqb, ne_eqb, arith}
 use Rattle.std.specs.Prelude.{slice_get}
 use Rattle.node_link.specs.declared.rule.Tagged.{Tagged}
 use Rattle.node_link.specs.Rule.{kept, of, total}

@@ -15,6 +15,8 @@ mod letter;
 mod name;
 mod rule;
 mod steps;
+#[cfg(test)]
+mod tests;
 
 pub use body::{Answered, Asked, Body, Page, Place, RootAnswered, SentToken, Start};
 pub use ends::{Back, Receiver, Sender, SenderEnd, Tally, inbox};

@@ -1,4 +1,4 @@
-use Rattle.std.proofs.Common.{◌≡◌, ap, ◌∙◌, sym}
+use Rattle.std.proofs.Common.{ap, ◌∙◌, sym}
 use Rattle.node_link.proofs.Moves.{sends, nothing}
 use Rattle.node_link.proofs.steps.send_one.Goals as goal
 

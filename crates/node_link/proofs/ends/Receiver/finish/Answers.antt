@@ -1,9 +1,9 @@
-use Rattle.std.proofs.Common.{◌≡◌, ℕ, ◌+◌, ◌<◌, ◌≤◌, List, [], ◌∷◌, ◌++◌, length, Some, arith, ap, sym, subst, ◌∙◌, append_assoc, length-append}
+use Rattle.std.proofs.Common.{◌≡◌, ℕ, ◌+◌, ◌<◌, List, [], ◌∷◌, ◌++◌, length, Some, arith, ap, sym, ◌∙◌, append_assoc}
 use Rattle.std.specs.Prelude.{slice_get}
 use Rattle.node_link.specs.declared.ends.SenderEnd.{SenderEnd}
-use Rattle.node_link.specs.Rule.{of, total}
-use Rattle.node_link.specs.Inbox.{got, senders_of, sent_by, TookAll, sent_total}
-use Rattle.node_link.proofs.Counts.{Each, added, each_more, counts, all_or_less, get_at, total_append, no_more}
+use Rattle.node_link.specs.Rule.{of}
+use Rattle.node_link.specs.Inbox.{got, senders_of, sent_by}
+use Rattle.node_link.proofs.Counts.{added, each_more, counts, all_or_less, get_at, total_append, no_more}
 use Rattle.std.proofs.lemmas.Option.{slice_get_within}
 use Rattle.node_link.proofs.ends.Receiver.finish.Goals as goal
 

@@ -1,4 +1,4 @@
-use Rattle.std.proofs.Common.{rules, arith, ◌≡◌, ℕ, [], ◌∷◌, ◌++◌, Some, length, vec_len, ap, ◌∙◌, sym, subst}
+use Rattle.std.proofs.Common.{arith, ◌≡◌, ℕ, [], Some, length, ap, ◌∙◌, sym, subst}
 use Rattle.std.specs.Prelude.{slice_get}
 use Rattle.crossbeam_channel.specs.Ends.{sends_on}
 use Rattle.node_link.specs.declared.ends.Sender.{Sender}
