@@ -3,3 +3,4 @@ pub mod Bytes
 pub mod Count
 pub mod Memory
 pub mod ReadAll
+pub mod Worker

@@ -3,7 +3,7 @@ ghost use Rattle.std.specs.Prelude.{◌≡◌, ℕ, ◌<◌, ◌≤◌, List, []
 ghost use Rattle.es_io.specs.Bytes.{Appends, Loses};
 ghost use Rattle.es_io.specs.Count.{Rose};
 
-/// A read or a write failed: no byte was taken or given by that call.
+/// A read, a write or the start of a job failed: that call took or gave no byte, or started nothing.
 #[derive(Clone, Copy, PartialEq, Eq)]
 pub struct Failed;
 

@@ -3,6 +3,7 @@
 #![tactic(auto)]
 
 mod action;
+mod board_name;
 mod boxed;
 mod cause;
 mod cluster;
@@ -14,6 +15,7 @@ mod task_info;
 mod text;
 
 pub use action::Action;
+pub use board_name::{AnyCancel, BoardName};
 pub use boxed::Boxed;
 pub use cause::Cause;
 pub use cluster::Cluster;

@@ -1,0 +1,24 @@
+//! Inboxes, by which the threads of a run send letters to one another.
+//!
+//! An [`inbox`] has some senders and one receiver. Whatever the threads do, what the receiver took of one sender is a
+//! beginning of what that sender sent, in its order and each letter once; where as many letters were taken as were
+//! sent, it is all of them. [`Receiver::finish`] says so, once it has what each sender left. There is no order between
+//! senders, and no clause says that a call returns.
+//!
+//! A [`Letter`] is what the threads of a run send. What it says is its [`Body`], and its type keeps the fact that the
+//! run's name, a [`RunName`], asks of each letter of the run.
+#![tactic(auto)]
+
+mod body;
+mod ends;
+mod letter;
+mod name;
+mod rule;
+mod steps;
+#[cfg(test)]
+mod tests;
+
+pub use body::{Answered, Asked, Body, Page, Place, RootAnswered, SentToken, Start};
+pub use ends::{Back, Receiver, Sender, SenderEnd, Tally, inbox};
+pub use letter::Letter;
+pub use name::RunName;
