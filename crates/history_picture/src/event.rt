@@ -16,26 +16,79 @@ pub enum Ending {
 /// An event of a history: what the picture has to know of it. Nodes are numbers from 1, commands and asks are numbers too.
 #[derive(Clone, Copy)]
 pub enum Event {
-    Root { command: u32, task: TaskId },
-    RootRejected { command: u32, node: u32 },
-    Ask { parent: TaskId, ask: u32, to: u32 },
-    Put { task: TaskId, parent: TaskId, ask: u32 },
-    Reject { node: u32, parent: TaskId, ask: u32 },
-    Pass { task: TaskId },
-    Refuse { task: TaskId },
-    Cancel { cancel: u32, task: TaskId },
-    NotFound { cancel: u32 },
-    Mark { task: TaskId },
-    BanPut { node: u32, parent: TaskId },
-    Listed { node: u32, parent: TaskId },
-    Acked { parent: TaskId, from: u32 },
-    BanGone { node: u32, parent: TaskId },
-    Work { task: TaskId },
+    Root {
+        command: u32,
+        task: TaskId,
+    },
+    RootRejected {
+        command: u32,
+        node: u32,
+    },
+    Ask {
+        parent: TaskId,
+        ask: u32,
+        to: u32,
+    },
+    Put {
+        task: TaskId,
+        parent: TaskId,
+        ask: u32,
+    },
+    Reject {
+        node: u32,
+        parent: TaskId,
+        ask: u32,
+    },
+    Pass {
+        task: TaskId,
+    },
+    Refuse {
+        task: TaskId,
+    },
+    Cancel {
+        cancel: u32,
+        task: TaskId,
+    },
+    NotFound {
+        cancel: u32,
+    },
+    Mark {
+        task: TaskId,
+    },
+    BanPut {
+        node: u32,
+        parent: TaskId,
+    },
+    Listed {
+        node: u32,
+        parent: TaskId,
+    },
+    Acked {
+        parent: TaskId,
+        from: u32,
+    },
+    BanGone {
+        node: u32,
+        parent: TaskId,
+    },
+    Work {
+        task: TaskId,
+    },
     Write,
-    Answered { parent: TaskId, ask: u32 },
-    End { task: TaskId, how: Ending },
-    AnswerPlaced { cancel: u32 },
-    AnswerDone { cancel: u32 },
+    Answered {
+        parent: TaskId,
+        ask: u32,
+    },
+    End {
+        task: TaskId,
+        how: Ending,
+    },
+    AnswerPlaced {
+        cancel: u32,
+    },
+    AnswerDone {
+        cancel: u32,
+    },
     Tick,
 }
 

@@ -15,11 +15,16 @@ pub enum Fault {
     /// Standard input has more bytes than the program reads.
     TooLong,
     /// A line is no UTF-8 or no JSON, or nests deeper than JSON is read.
-    NotJson { line: usize },
+    NotJson {
+        line: usize,
+    },
     /// No line has the reply of a `history`.
     NoHistory,
     /// The newest history has more events than a picture shows.
-    TooManyEvents { line: usize, events: usize },
+    TooManyEvents {
+        line: usize,
+        events: usize,
+    },
     /// The newest history has something that is not the text of an event.
     UnknownEvent {
         line: usize,
@@ -66,7 +71,10 @@ impl fmt::Display for Fault {
                 "picture: line {line}: {events} events are more than {MAX_EVENTS}; ask for the history earlier in the script, or run a shorter one"
             ),
             Fault::UnknownEvent { line, event, text } => {
-                write!(f, "picture: line {line}: event {event} is not known: {text}")
+                write!(
+                    f,
+                    "picture: line {line}: event {event} is not known: {text}"
+                )
             }
             Fault::ReadFault => f.write_str("picture: read failed"),
             Fault::WriteFault => f.write_str("picture: write failed"),

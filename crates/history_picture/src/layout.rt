@@ -20,11 +20,17 @@ pub const TEXT_LEFT: Px = Px(42);
 pub const MAX_CELLS: usize = 34;
 
 const EDGE: Px = Px(12);
+
 const LANE_GAP: Px = Px(6);
+
 const LANE_PAD: Px = Px(4);
+
 const LEAST_LANE: Px = Px(74);
+
 const COMMAND_GAP: Px = Px(24);
+
 const LEAST_GAP: Px = Px(16);
+
 const MOST_GAP: Px = Px(200);
 
 /// A lane: that of the commands or of a node.
@@ -222,7 +228,11 @@ fn place_lanes(
 
 /// Places the columns of a lane of one kind from here on, and gives their right edge.
 fn place_columns(columns: &mut Vec<Column>, lane: u32, kind: Kind, left: Px, gap: Px) -> Px {
-    let gap = if kind == Kind::Command { COMMAND_GAP } else { gap };
+    let gap = if kind == Kind::Command {
+        COMMAND_GAP
+    } else {
+        gap
+    };
     let half = half_width(kind) + gap / 2;
     let mut right = left;
     for column in columns.iter_mut() {

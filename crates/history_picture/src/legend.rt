@@ -6,19 +6,58 @@ use std::alloc::AllocError;
 
 /// A sample and what it means. A sample stands round the middle of its left edge, and is 30 wide.
 const LEGEND: [(&str, &str); 26] = [
-    (r##"<path class="line request" d="M0 0H29" marker-end="url(#request-tip)"/>"##, "request"),
-    (r##"<path class="line answer" d="M0 0H29" marker-end="url(#answer-tip)"/>"##, "answer"),
-    (r##"<path class="line ban" d="M0 0H29" marker-end="url(#ban-tip)"/>"##, "ban"),
-    (r##"<path class="line ack" d="M0 0H29" marker-end="url(#ack-tip)"/>"##, "acknowledgement"),
-    (r##"<path class="line unban" d="M0 0H29" marker-end="url(#unban-tip)"/>"##, "unban"),
-    (r##"<path class="line request" d="M0 0H29" marker-end="url(#request-open)"/>"##, "not delivered yet"),
-    (r##"<path class="line link" d="M0 0H29" marker-end="url(#link-tip)"/>"##, "acts on a task"),
-    (r##"<rect class="bar new" x="2" y="-7" width="26" height="14" rx="2"/>"##, "task is new"),
-    (r##"<rect class="bar running" x="2" y="-7" width="26" height="14" rx="2"/>"##, "task runs"),
-    (r##"<rect class="bar marked" x="2" y="-7" width="26" height="14" rx="2"/>"##, "task is marked"),
-    (r##"<path class="tail" d="M15 -8V8"/>"##, "over, bans still up"),
-    (r##"<rect class="bar stands" x="2" y="-7" width="26" height="14" rx="2"/>"##, "ban on the node"),
-    (r##"<rect class="bar waits" x="2" y="-7" width="26" height="14" rx="2"/>"##, "command waits"),
+    (
+        r##"<path class="line request" d="M0 0H29" marker-end="url(#request-tip)"/>"##,
+        "request",
+    ),
+    (
+        r##"<path class="line answer" d="M0 0H29" marker-end="url(#answer-tip)"/>"##,
+        "answer",
+    ),
+    (
+        r##"<path class="line ban" d="M0 0H29" marker-end="url(#ban-tip)"/>"##,
+        "ban",
+    ),
+    (
+        r##"<path class="line ack" d="M0 0H29" marker-end="url(#ack-tip)"/>"##,
+        "acknowledgement",
+    ),
+    (
+        r##"<path class="line unban" d="M0 0H29" marker-end="url(#unban-tip)"/>"##,
+        "unban",
+    ),
+    (
+        r##"<path class="line request" d="M0 0H29" marker-end="url(#request-open)"/>"##,
+        "not delivered yet",
+    ),
+    (
+        r##"<path class="line link" d="M0 0H29" marker-end="url(#link-tip)"/>"##,
+        "acts on a task",
+    ),
+    (
+        r##"<rect class="bar new" x="2" y="-7" width="26" height="14" rx="2"/>"##,
+        "task is new",
+    ),
+    (
+        r##"<rect class="bar running" x="2" y="-7" width="26" height="14" rx="2"/>"##,
+        "task runs",
+    ),
+    (
+        r##"<rect class="bar marked" x="2" y="-7" width="26" height="14" rx="2"/>"##,
+        "task is marked",
+    ),
+    (
+        r##"<path class="tail" d="M15 -8V8"/>"##,
+        "over, bans still up",
+    ),
+    (
+        r##"<rect class="bar stands" x="2" y="-7" width="26" height="14" rx="2"/>"##,
+        "ban on the node",
+    ),
+    (
+        r##"<rect class="bar waits" x="2" y="-7" width="26" height="14" rx="2"/>"##,
+        "command waits",
+    ),
     (r##"<use href="#pass" x="15"/>"##, "passes"),
     (r##"<use href="#work" x="15"/>"##, "turn of work"),
     (r##"<use href="#write" x="15"/>"##, "document written"),
@@ -52,7 +91,10 @@ pub fn push_legend(layout: &Layout, top: Px, out: &mut String) -> Result<(), All
     for (sample, meaning) in LEGEND {
         let x = LEFT + step * (place % COLUMNS);
         let y = top + LINE * (place / COLUMNS) + LINE / 2;
-        write!(out, "<g transform=\"translate({x} {y})\">{sample}<text class=\"word\" x=\"38\" y=\"4\">{meaning}</text></g>\n")?;
+        writeln!(
+            out,
+            r#"<g transform="translate({x} {y})">{sample}<text class="word" x="38" y="4">{meaning}</text></g>"#
+        )?;
         place = place.saturating_add(1);
     }
     Ok(())

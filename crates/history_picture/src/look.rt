@@ -85,8 +85,10 @@ text{fill:#e6edf3}
 </style>
 ";
 
-/// The hatching of marked tasks, and the signs: each stands round its middle.
-pub const SIGNS: &str = r##"<pattern id="hatch" width="6" height="6" patternUnits="userSpaceOnUse" patternTransform="rotate(45)"><rect class="hatched" width="6" height="6"/><path class="hatch" d="M0 0V6"/></pattern>
+/// The hatching of marked tasks, the head of the lines within a row, and the signs: each stands round its middle.
+pub const SIGNS: &str =
+    r##"<pattern id="hatch" width="6" height="6" patternUnits="userSpaceOnUse" patternTransform="rotate(45)"><rect class="hatched" width="6" height="6"/><path class="hatch" d="M0 0V6"/></pattern>
+<marker id="link-tip" markerUnits="userSpaceOnUse" markerWidth="7" markerHeight="8" refX="6" refY="4" orient="auto"><path class="link-tip" d="M0 .8L6.6 4L0 7.2Z"/></marker>
 <g id="pass"><path class="sign" d="M-3 -4.5L4.5 0L-3 4.5Z"/></g>
 <g id="work"><circle class="solid" r="3.2"/></g>
 <g id="write"><path class="sign" d="M-4 4L-3.2 1L2.5 -4.6L4.8 -2.4L-1 3.2Z"/></g>

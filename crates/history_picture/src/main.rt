@@ -4,6 +4,7 @@
 //! status says which kind it was.
 #![tactic(auto)]
 
+mod bars;
 mod draw;
 mod event;
 mod fault;
@@ -13,11 +14,14 @@ mod lines;
 mod look;
 mod px;
 mod steps;
+#[cfg(test)]
+mod tests;
 mod text;
 mod trace;
+mod ways;
 
 use draw::picture;
-use es_io::{StdSink, StdSource, read_all, write_all_of};
+use es_io::{Sink, Source, StdSink, StdSource, read_all, write_all_of};
 use fault::Fault;
 use layout::Layout;
 use lines::newest_history;
@@ -48,19 +52,29 @@ fn drawn(alloc: Global, bytes: &[u8]) -> Result<String, Fault> {
     let history = newest_history(alloc, bytes)?;
     let events = history.events(alloc)?;
     let trace = Trace::of(alloc, events.as_slice())?;
-    let cells = history.texts().iter().filter_map(Value::as_str).map(shown_cells).max();
+    let cells = history
+        .texts()
+        .iter()
+        .filter_map(Value::as_str)
+        .map(shown_cells)
+        .max();
     let layout = Layout::of(alloc, &trace, cells.unwrap_or(0))?;
     Ok(picture(alloc, history.texts(), &trace, &layout)?)
+}
+
+/// Reads printed lines and writes the picture of their newest history. Nothing is written where there is none.
+fn draw_all<S: Source, K: Sink>(alloc: Global, source: &mut S, sink: &mut K) -> Result<(), Fault> {
+    let bytes = read_all(alloc, source, MAX_BYTES)?;
+    let text = drawn(alloc, bytes.as_slice())?;
+    write_all_of(sink, text.as_bytes())?;
+    Ok(())
 }
 
 fn run(rt: &HostRuntime) -> Result<(), Fault> {
     no_words(rt)?;
     let mut input = StdSource::new(rt.stdin());
-    let bytes = read_all(rt.alloc(), &mut input, MAX_BYTES)?;
-    let text = drawn(rt.alloc(), bytes.as_slice())?;
     let mut out = StdSink::new(rt.stdout());
-    write_all_of(&mut out, text.as_bytes())?;
-    Ok(())
+    draw_all(rt.alloc(), &mut input, &mut out)
 }
 
 fn main(rt: HostRuntime) -> ExitCode {

@@ -80,9 +80,8 @@ impl Message {
     /// The node to which it goes.
     pub fn node(&self) -> u32 {
         match self {
-            Message::Request { to, .. }
-            | Message::Ban { to, .. }
-            | Message::Unban { to, .. } => *to,
+            Message::Request { to, .. } | Message::Ban { to, .. } | Message::Unban { to, .. } =>
+                *to,
             Message::Answer { parent, .. } | Message::Ack { parent, .. } => parent.node,
         }
     }
@@ -189,7 +188,10 @@ impl Trace {
     }
 
     pub fn sign(&mut self, bar: usize, shape: Shape) -> Result<(), AllocError> {
-        let at = Spot { row: self.rows, bar };
+        let at = Spot {
+            row: self.rows,
+            bar,
+        };
         self.signs.push(Sign { shape, at })?;
         Ok(())
     }
@@ -202,7 +204,10 @@ impl Trace {
 
     pub fn send(&mut self, message: Message, bar: usize) -> Result<(), AllocError> {
         self.nodes = self.nodes.max(message.node());
-        let from = Spot { row: self.rows, bar };
+        let from = Spot {
+            row: self.rows,
+            bar,
+        };
         self.arrows.push(Arrow {
             message,
             from,
@@ -213,7 +218,10 @@ impl Trace {
 
     /// The message is delivered here, if it is in flight.
     pub fn deliver(&mut self, message: Message, bar: usize) {
-        let to = Spot { row: self.rows, bar };
+        let to = Spot {
+            row: self.rows,
+            bar,
+        };
         for arrow in self.arrows.iter_mut() {
             if arrow.to.is_none() && arrow.message == message {
                 arrow.to = Some(to);
