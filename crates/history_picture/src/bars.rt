@@ -102,31 +102,23 @@ fn name_of(alloc: Global, thing: &Thing) -> Result<Option<String>, AllocError> {
     Ok(Some(name))
 }
 
-/// A name in a bar's first row, over the lines that pass behind it. One that is too long is set narrower.
+/// A name in a bar's first row, over the lines that pass behind it.
 fn push_name(name: &str, bar: &Bar, at: Place, out: &mut String) -> Result<(), AllocError> {
     let middle = at.middle;
-    let room = at.half + at.half - Px(6);
+    let left = middle - at.half + Px(2);
     let row = middle_of(bar.from);
-    let left = middle - room / 2 - Px(1);
+    let top = row - Px(7);
+    let width = at.half + at.half - Px(4);
     write!(
         out,
-        r#"<rect class="plate {}" x="{left}" y="{}""#,
-        plate_of(bar),
-        row - Px(7)
+        r#"<rect class="plate {}" x="{left}" y="{top}" width="{width}" height="13"/>"#,
+        plate_of(bar)
     )?;
-    write!(out, r#" width="{}" height="13"/>"#, room + Px(2))?;
-    write!(
+    writeln!(
         out,
-        r#"<text class="name" x="{middle}" y="{}""#,
+        r#"<text class="name" x="{middle}" y="{}">{name}</text>"#,
         row + Px(4)
-    )?;
-    if Px(7) * name.len() > room + Px(4) {
-        write!(
-            out,
-            r#" textLength="{room}" lengthAdjust="spacingAndGlyphs""#
-        )?;
-    }
-    writeln!(out, ">{name}</text>")
+    )
 }
 
 /// How a bar looks in its first row, behind its name.

@@ -1,7 +1,8 @@
 // The picture: its head, its lanes, its rows, and what stands on them.
 
 use crate::bars::{push_bars, push_names, push_signs};
-use crate::layout::{Lane, Layout, ROW, TEXT_LEFT, TOP, middle_of};
+use crate::columns::Lane;
+use crate::layout::{Layout, ROW, TEXT_LEFT, TOP, middle_of};
 use crate::legend::{legend_height, push_legend};
 use crate::look::{SIGNS, STYLE};
 use crate::px::Px;

@@ -5,6 +5,7 @@
 #![tactic(auto)]
 
 mod bars;
+mod columns;
 mod draw;
 mod event;
 mod fault;

@@ -22,8 +22,14 @@ pub fn push_lines(trace: &Trace, layout: &Layout, out: &mut String) -> Result<()
 }
 
 fn push_link(link: &Link, layout: &Layout, out: &mut String) -> Result<(), AllocError> {
-    let (from, to) = layout.between(link.from, link.to);
-    let y = middle_of(link.row);
+    let row = link.row;
+    let start = Spot {
+        row,
+        bar: link.from,
+    };
+    let end = Spot { row, bar: link.to };
+    let (from, to) = layout.between(&start, &end);
+    let y = middle_of(row);
     writeln!(
         out,
         r#"<path class="line link" d="M{from} {y}H{to}" marker-end="url(#link-tip)"/>"#
@@ -48,7 +54,7 @@ fn push_arrow(
     out: &mut String,
 ) -> Result<(), AllocError> {
     let name = style_of(&arrow.message);
-    let (x, end) = layout.between(arrow.from.bar, to.bar);
+    let (x, end) = layout.between(&arrow.from, to);
     let y = middle_of(arrow.from.row);
     let bottom = middle_of(to.row);
     writeln!(
