@@ -1,0 +1,136 @@
+// The picture: its head, its lanes, its rows, and what stands on them.
+
+use crate::bars::{push_bars, push_names, push_signs};
+use crate::columns::Lane;
+use crate::layout::{Layout, ROW, TEXT_LEFT, TOP, middle_of};
+use crate::legend::{legend_height, push_legend};
+use crate::look::{SIGNS, STYLE};
+use crate::px::Px;
+use crate::text::push_shown;
+use crate::trace::Trace;
+use crate::ways::push_lines;
+use serde_json::Value;
+use std::alloc::{AllocError, Global};
+
+/// The kinds of messages, as the styles name them.
+const MESSAGES: [&str; 5] = ["request", "answer", "ban", "ack", "unban"];
+
+/// The SVG of what a history tells.
+pub fn picture(
+    alloc: Global,
+    texts: &[Value],
+    trace: &Trace,
+    layout: &Layout,
+) -> Result<String, AllocError> {
+    let mut out = String::new(alloc);
+    let flying = trace.arrows.iter().any(|arrow| arrow.to.is_none());
+    let last = layout.bottom() + if flying { ROW } else { Px(0) };
+    push_head(trace, layout, last, &mut out)?;
+    push_lanes(layout, last, &mut out)?;
+    push_rows(texts, layout, &mut out)?;
+    if flying {
+        let y = middle_of(trace.rows) + Px(4);
+        writeln!(
+            out,
+            r#"<text class="word" x="{TEXT_LEFT}" y="{y}">in flight</text>"#
+        )?;
+    }
+    push_lines(trace, layout, &mut out)?;
+    push_bars(trace, layout, &mut out)?;
+    out.push_str("<g class=\"behind\">\n")?;
+    push_lines(trace, layout, &mut out)?;
+    out.push_str("</g>\n")?;
+    push_names(trace, layout, &mut out)?;
+    push_signs(trace, layout, &mut out)?;
+    push_legend(layout, last + Px(8), &mut out)?;
+    out.push_str("</svg>\n")?;
+    Ok(out)
+}
+
+/// The head, with the styles and what is used more than once, and the page.
+fn push_head(trace: &Trace, layout: &Layout, last: Px, out: &mut String) -> Result<(), AllocError> {
+    let width = layout.width;
+    let height = last + legend_height();
+    let events = trace.rows;
+    let nodes = trace.nodes;
+    let plural = if nodes == 1 { "" } else { "s" };
+    writeln!(
+        out,
+        r#"<svg xmlns="http://www.w3.org/2000/svg" width="{width}" height="{height}" viewBox="0 0 {width} {height}" role="img">"#
+    )?;
+    writeln!(
+        out,
+        "<title>A history of {events} events on {nodes} node{plural}</title>"
+    )?;
+    out.push_str(STYLE)?;
+    out.push_str("<defs>\n")?;
+    for name in MESSAGES {
+        writeln!(
+            out,
+            r#"<marker id="{name}-tip" markerUnits="userSpaceOnUse" markerWidth="10" markerHeight="10" refX="9" refY="5" orient="auto"><path class="{name}-tip" d="M0 .6L9.6 5L0 9.4Z"/></marker>"#
+        )?;
+        writeln!(
+            out,
+            r#"<marker id="{name}-open" markerUnits="userSpaceOnUse" markerWidth="12" markerHeight="12" refX="10" refY="6" orient="auto"><path class="open {name}-open" d="M1 1L11 6L1 11Z"/></marker>"#
+        )?;
+    }
+    out.push_str(SIGNS)?;
+    out.push_str("</defs>\n")?;
+    writeln!(
+        out,
+        r#"<rect class="page" x=".5" y=".5" width="{}" height="{}" rx="6"/>"#,
+        width - Px(1),
+        height - Px(1)
+    )
+}
+
+/// The lanes with their names.
+fn push_lanes(layout: &Layout, last: Px, out: &mut String) -> Result<(), AllocError> {
+    let mut node = 0_u32;
+    for lane in layout.lanes.iter() {
+        push_lane(lane, node, last, out)?;
+        node = node.saturating_add(1);
+    }
+    Ok(())
+}
+
+fn push_lane(lane: &Lane, node: u32, last: Px, out: &mut String) -> Result<(), AllocError> {
+    let left = lane.left;
+    let width = lane.right - left;
+    let middle = left + width / 2;
+    let top = TOP - Px(34);
+    let height = last - top;
+    write!(
+        out,
+        r#"<rect class="lane" x="{left}" y="{top}" width="{width}" height="{height}" rx="5"/><text class="head" x="{middle}" y="30">"#
+    )?;
+    if node == 0 {
+        out.push_str("commands</text>\n")
+    } else {
+        write!(out, "n{node}</text>\n")
+    }
+}
+
+/// The events' texts, each at its row.
+fn push_rows(texts: &[Value], layout: &Layout, out: &mut String) -> Result<(), AllocError> {
+    let width = layout.width - Px(12);
+    let mut row = 0_usize;
+    for text in texts {
+        let y = middle_of(row) + Px(4);
+        if row % 2 == 1 {
+            let top = TOP + ROW * row;
+            write!(
+                out,
+                r#"<rect class="stripe" x="6" y="{top}" width="{width}" height="{ROW}"/>"#
+            )?;
+        }
+        row = row.saturating_add(1);
+        write!(
+            out,
+            r#"<text class="place" x="34" y="{y}">{row}</text><text x="{TEXT_LEFT}" y="{y}">"#
+        )?;
+        push_shown(text.as_str().unwrap_or(""), out)?;
+        out.push_str("</text>\n")?;
+    }
+    Ok(())
+}

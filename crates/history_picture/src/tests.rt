@@ -1,0 +1,136 @@
+//! What the stored run and the pictures of the examples do not show: limits, streams that fail, and each status.
+
+use crate::fault::Fault;
+use crate::{draw_all, drawn};
+use es_io::{MemSink, MemSource};
+use std::alloc::{AllocError, Global};
+use std::test::Fail;
+
+const LINE: &str = r#"{"command":1,"reply":["root 1 n1:1","ask n1:1 1 n1","put n1:2 n1:1 1"]}"#;
+
+/// A line with a history of so many turns of work.
+fn works(alloc: Global, events: usize) -> Result<String, AllocError> {
+    let mut line = String::from_str(alloc, r#"{"command":1,"reply":["root 1 n1:1""#)?;
+    for _ in 1..events {
+        line.push_str(r#","work n1:1""#)?;
+    }
+    line.push_str("]}\n")?;
+    Ok(line)
+}
+
+/// Whether a text stands in the picture of a line.
+fn shows(alloc: Global, line: &str, part: &str) -> bool {
+    match drawn(alloc, line.as_bytes()) {
+        Ok(svg) => svg.as_str().contains(part),
+        Err(_) => false,
+    }
+}
+
+/// Whether a line has more events than are drawn, and so many.
+fn has_too_many(alloc: Global, line: &str, many: usize) -> bool {
+    match drawn(alloc, line.as_bytes()) {
+        Err(Fault::TooManyEvents { line, events }) => line == 1 && events == many,
+        _ => false,
+    }
+}
+
+#[test]
+fn two_thousand_events_have_a_picture_and_one_more_has_none(rt: HostRuntime) -> Result<(), Fail> {
+    let title = "<title>A history of 2000 events on 1 node</title>";
+    let line = works(rt.alloc(), 2000)?;
+    assert!(rt; shows(rt.alloc(), line.as_str(), title));
+    let line = works(rt.alloc(), 2001)?;
+    assert!(rt; has_too_many(rt.alloc(), line.as_str(), 2001));
+    Ok(())
+}
+
+#[test]
+fn the_newest_history_is_drawn(rt: HostRuntime) {
+    let two = r#"{"command":1,"reply":["root 1 n1:1","pass n9:8"]}
+{"command":2,"reply":[]}
+{"command":3,"reply":["ask n1:1 1 n1"]}
+"#;
+    assert!(rt;
+        shows(
+            rt.alloc(),
+            two,
+            "<title>A history of 0 events on 1 node</title>"
+        )
+    );
+}
+
+#[test]
+fn texts_are_escaped(rt: HostRuntime) {
+    let hostile = r#"{"reply":["refuse n1:1 1 <b>&\"\u0000\n\u202e"]}"#;
+    assert!(rt; drawn(rt.alloc(), hostile.as_bytes()).is_err());
+    let hostile = r#"{"reply":["root 1 n1:1","refuse n1:1 1 <b>&\"\u0000\n\u202e"]}"#;
+    assert!(rt;
+        shows(
+            rt.alloc(),
+            hostile,
+            ">refuse n1:1 1 &lt;b&gt;&amp;&quot;␀␊\u{fffd}</text>"
+        )
+    );
+}
+
+#[test]
+fn a_message_goes_from_the_event_that_sent_it_to_the_one_that_delivered_it(rt: HostRuntime) {
+    // Rows are 24 high and the first has its middle at 56. The bars' middles are at 368 and 612, and each is 44 wide.
+    let way = r#"<path class="line request" d="M390 80L590 104" marker-end="url(#request-tip)"/>"#;
+    assert!(rt; shows(rt.alloc(), LINE, way));
+}
+
+/// How drawing ends over input in pieces, with a read and a write that fail at these calls (0 is none), and how many bytes are
+/// written.
+fn ends(
+    alloc: Global,
+    failing_read: u64,
+    failing_write: u64,
+) -> Option<(Result<(), Fault>, usize)> {
+    let input = Vec::from_slice(alloc, LINE.as_bytes()).ok()?;
+    let failing_read = Vec::from_slice(alloc, &[failing_read]).ok()?;
+    let failing_write = Vec::from_slice(alloc, &[failing_write]).ok()?;
+    let mut source = MemSource::new(input, 7, failing_read);
+    let mut sink = MemSink::new(alloc, 100, failing_write);
+    let end = draw_all(alloc, &mut source, &mut sink);
+    Some((end, sink.bytes().len()))
+}
+
+#[test]
+fn a_failing_read_writes_nothing_and_a_failing_write_leaves_what_came_before(rt: HostRuntime) {
+    assert!(rt; matches!(ends(rt.alloc(), 2, 0), Some((Err(Fault::ReadFault), 0))));
+    assert!(rt; matches!(ends(rt.alloc(), 0, 3), Some((Err(Fault::WriteFault), 200))));
+    assert!(rt; matches!(ends(rt.alloc(), 0, 0), Some((Ok(()), _))));
+}
+
+/// Whether a fault has this exit status and tells this text.
+fn tells(alloc: Global, fault: &Fault, code: u8, text: &str) -> bool {
+    fault.exit_code() == code
+        && fault
+            .to_string(alloc)
+            .is_ok_and(|told| told.as_str() == text)
+}
+
+#[test]
+fn each_fault_has_its_status_and_text(rt: HostRuntime) {
+    let alloc = rt.alloc();
+    let many = Fault::TooManyEvents {
+        line: 3,
+        events: 2345,
+    };
+    let advice =
+        "picture: line 3: 2345 events are more than 2000; ask for the history earlier in the script, or run a shorter one";
+    assert!(rt;
+        tells(
+            alloc,
+            &Fault::Usage,
+            1,
+            "usage: picture <LINES >PICTURE.svg"
+        )
+    );
+    assert!(rt; tells(alloc, &Fault::TooLong, 2, "picture: input is too long"));
+    assert!(rt; tells(alloc, &many, 2, advice));
+    assert!(rt; tells(alloc, &Fault::ReadFault, 3, "picture: read failed"));
+    assert!(rt; tells(alloc, &Fault::WriteFault, 4, "picture: write failed"));
+    assert!(rt; tells(alloc, &Fault::Memory, 5, "picture: out of memory"));
+}

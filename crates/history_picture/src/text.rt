@@ -1,0 +1,67 @@
+// Texts of events in the picture.
+
+use crate::layout::MAX_CELLS;
+use std::alloc::AllocError;
+
+/// The most characters of the whole text that stands behind a cut one.
+const MAX_WHOLE: usize = 400;
+
+/// How wide a character is: some scripts take two cells.
+fn cells_of(c: char) -> usize {
+    if c < '\u{1100}' { 1 } else { 2 }
+}
+
+/// How many cells a text takes in the picture.
+pub fn shown_cells(text: &str) -> usize {
+    let mut cells = 0_usize;
+    for c in text.chars().take(MAX_CELLS) {
+        cells = cells.saturating_add(cells_of(c));
+    }
+    cells.min(MAX_CELLS)
+}
+
+/// Appends a text, and an ellipsis in place of what there is no room for. The whole text then stands behind it.
+pub fn push_shown(text: &str, out: &mut String) -> Result<(), AllocError> {
+    let mut cells = 0_usize;
+    let mut shown = String::new(*out.allocator());
+    for c in text.chars() {
+        cells = cells.saturating_add(cells_of(c));
+        if cells > MAX_CELLS {
+            out.push_str("<title>")?;
+            push_escaped(text, MAX_WHOLE, out)?;
+            out.push_str("</title>")?;
+            shown.pop();
+            shown.push('…')?;
+            break;
+        }
+        shown.push(c)?;
+    }
+    push_escaped(shown.as_str(), MAX_CELLS, out)
+}
+
+/// Appends the first characters of a text, at most so many, as XML has them.
+fn push_escaped(text: &str, most: usize, out: &mut String) -> Result<(), AllocError> {
+    for c in text.chars().take(most) {
+        match c {
+            '&' => out.push_str("&amp;")?,
+            '<' => out.push_str("&lt;")?,
+            '>' => out.push_str("&gt;")?,
+            '"' => out.push_str("&quot;")?,
+            _ => out.push(visible(c))?,
+        }
+    }
+    Ok(())
+}
+
+/// A character that XML has and that moves no other: a sign for a control or for one that turns the direction of writing.
+fn visible(c: char) -> char {
+    match c {
+        '\0'..='\u{1f}' => char::from_u32((c as u32).saturating_add(0x2400)).unwrap_or('?'),
+        '\u{7f}'..='\u{9f}'
+        | '\u{200e}'..='\u{200f}'
+        | '\u{202a}'..='\u{202e}'
+        | '\u{2066}'..='\u{2069}'
+        | '\u{fffe}'..='\u{ffff}' => '\u{fffd}',
+        _ => c,
+    }
+}
