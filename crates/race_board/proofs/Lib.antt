@@ -1,0 +1,10 @@
+pub mod Parts
+pub mod Boards
+pub mod Holders
+pub mod Controls
+pub mod Moments
+pub mod Follows
+pub mod Turns
+pub mod DataSteps
+pub mod ControlSteps
+pub mod Joined
