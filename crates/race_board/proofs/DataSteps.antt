@@ -42,14 +42,14 @@ module _ (A : ℕ → Type 0) (z key : Size) (same : key ≡ z) (slots id : ℕ)
       → Allows (Rule A key) slots id me 0 (λ n. (n + 1) % 2 ^ 64) (λ n m'. after_draw (step slots 0 1 0 none) me n m' × Turned (step slots 0 1 0 none) me m' n ((n + 1) % 2 ^ 64) [])
   draws_turn free untold = turns A z key same slots id me 0 (λ n. (n + 1) % 2 ^ 64) (after_draw (step slots 0 1 0 none) me) (λ _. []) size
       (λ s ok there. let y : ℕ = (get_or s.words 0 0 + 1) % 2 ^ 64 in same_follows z s.words (set s.words 0 y) [] tt (λ i _. get_or-set_other s.words 0 (i + 1) y 0 (λ e. omega arith)) (λ j _. get_or-set_other s.words 0 (z.slots + j + 1) y 0 (λ e. omega arith)))
-      (λ s ok name. let y : ℕ = (get_or s.words 0 0 + 1) % 2 ^ 64 in stays_named A z s.words (set s.words 0 y) name (λ i _. inr (get_or-set_other s.words 0 (i + 1) y 0 (λ e. omega arith))) (λ j _. inr (get_or-set_other s.words 0 (z.slots + j + 1) y 0 (λ e. omega arith))))
+      (λ s ok there name. let y : ℕ = (get_or s.words 0 0 + 1) % 2 ^ 64 in stays_named A z s.words (set s.words 0 y) name (λ i _. inr (get_or-set_other s.words 0 (i + 1) y 0 (λ e. omega arith))) (λ j _. inr (get_or-set_other s.words 0 (z.slots + j + 1) y 0 (λ e. omega arith))))
       (draws z slots id me lead bare free untold)
 
   pub claims_turn : (i word : ℕ) → length me.0.held ≡ z.slots → i < z.slots → me.0.drawn ≢ 0 → number word ≡ me.0.drawn → cancel word ≡ 0
       → Allows (Rule A key) slots id me (i + 1) (λ n. either (eqb n 0) word n) (λ n m'. after_claim (step slots (i + 1) 0 word none) me n m' × Turned (step slots (i + 1) 0 word none) me m' n (either (eqb n 0) word n) (of_claim n word))
   claims_turn i word wide inside drawn is free = turns A z key same slots id me (i + 1) (λ n. either (eqb n 0) word n) (after_claim (step slots (i + 1) 0 word none) me) (λ n. of_claim n word) size
       (λ s (c, r) there. let n : ℕ = task s.words i in claim_follows z c s r i inside word (λ e. drawn (sym is ∙ (ap number e ∙ zero_number))) free (either (eqb n 0) word n) (hit_is n 0 word) (miss_is n 0 word))
-      (λ s (c, r) name. let n : ℕ = task s.words i in let w : ℕ = either (eqb n 0) word n in let all = r.wide in stays_named A z s.words (set s.words (i + 1) w) name
+      (λ s (c, r) there name. let n : ℕ = task s.words i in let w : ℕ = either (eqb n 0) word n in let all = r.wide in stays_named A z s.words (set s.words (i + 1) w) name
       (λ k l. dite (ℕ_discrete k i)
       (λ e. let here : task (set s.words (i + 1) w) k ≡ w = ap (task (set s.words (i + 1) w)) e ∙ get_or-set_same s.words (i + 1) w 0 (omega arith) in dite (ℕ_discrete n 0)
       (λ hit. inl (λ some_mark. absurd (some_mark (ap cancel (here ∙ hit_is n 0 word hit) ∙ free))))
@@ -99,12 +99,12 @@ module _ (A : ℕ → Type 0) (z key : Size) (same : key ≡ z) (slots id : ℕ)
       → Allows (Rule A key) slots id me (z.slots + z.bans + i + 1) (λ n. bit_or n k) (λ n m'. after_track (step slots (z.slots + z.bans + i + 1) k 0 none) me n m' × Turned (step slots (z.slots + z.bans + i + 1) k 0 none) me m' n (bit_or n k) [])
   tracks_turn i k wide full free = let x : ℕ = z.slots + z.bans + i + 1 in turns A z key same slots id me x (λ n. bit_or n k) (after_track (step slots x k 0 none) me) (λ _. []) size
       (λ s ok there. let y : ℕ = bit_or (get_or s.words x 0) k in same_follows z s.words (set s.words x y) [] tt (λ q l. get_or-set_other s.words x (q + 1) y 0 (λ e. omega arith)) (λ j l. get_or-set_other s.words x (z.slots + j + 1) y 0 (λ e. omega arith)))
-      (λ s ok name. let y : ℕ = bit_or (get_or s.words x 0) k in stays_named A z s.words (set s.words x y) name (λ q l. inr (get_or-set_other s.words x (q + 1) y 0 (λ e. omega arith))) (λ j l. inr (get_or-set_other s.words x (z.slots + j + 1) y 0 (λ e. omega arith))))
+      (λ s ok there name. let y : ℕ = bit_or (get_or s.words x 0) k in stays_named A z s.words (set s.words x y) name (λ q l. inr (get_or-set_other s.words x (q + 1) y 0 (λ e. omega arith))) (λ j l. inr (get_or-set_other s.words x (z.slots + j + 1) y 0 (λ e. omega arith))))
       (tracks z slots id me i k lead bare wide full free size)
 
   pub untracks_turn : (i k : ℕ) → length me.0.held ≡ z.slots → (hold me.0 i).number ≢ 0
       → Allows (Rule A key) slots id me (z.slots + z.bans + i + 1) (λ n. bit_and n k) (λ n m'. after_untrack (step slots (z.slots + z.bans + i + 1) k 0 none) me n m' × Turned (step slots (z.slots + z.bans + i + 1) k 0 none) me m' n (bit_and n k) [])
   untracks_turn i k wide full = let x : ℕ = z.slots + z.bans + i + 1 in turns A z key same slots id me x (λ n. bit_and n k) (after_untrack (step slots x k 0 none) me) (λ _. []) size
       (λ s ok there. let y : ℕ = bit_and (get_or s.words x 0) k in same_follows z s.words (set s.words x y) [] tt (λ q l. get_or-set_other s.words x (q + 1) y 0 (λ e. omega arith)) (λ j l. get_or-set_other s.words x (z.slots + j + 1) y 0 (λ e. omega arith)))
-      (λ s ok name. let y : ℕ = bit_and (get_or s.words x 0) k in stays_named A z s.words (set s.words x y) name (λ q l. inr (get_or-set_other s.words x (q + 1) y 0 (λ e. omega arith))) (λ j l. inr (get_or-set_other s.words x (z.slots + j + 1) y 0 (λ e. omega arith))))
+      (λ s ok there name. let y : ℕ = bit_and (get_or s.words x 0) k in stays_named A z s.words (set s.words x y) name (λ q l. inr (get_or-set_other s.words x (q + 1) y 0 (λ e. omega arith))) (λ j l. inr (get_or-set_other s.words x (z.slots + j + 1) y 0 (λ e. omega arith))))
       (untracks z slots id me i k lead bare wide full size)

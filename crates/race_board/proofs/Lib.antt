@@ -7,4 +7,8 @@ pub mod Follows
 pub mod Turns
 pub mod DataSteps
 pub mod ControlSteps
+pub mod Gained
+pub mod Listed
+pub mod Checking
+pub mod Marks
 pub mod Joined

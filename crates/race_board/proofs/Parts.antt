@@ -90,3 +90,7 @@ zero_by = omega arith
 pub mark_some : (w c : ℕ) → w ≢ 0 → with_mark w c ≢ 0
 unfolding with_mark
 mark_some w c h = λ e. h (omega arith)
+
+pub banned_some : (w : ℕ) → banned w ≢ 0 → w ≢ 0
+unfolding banned
+banned_some w h = λ e. h (omega arith)

@@ -47,14 +47,14 @@ module _ (A : ℕ → Type 0) (z key : Size) (same : key ≡ z) (slots id : ℕ)
 
   pub turns : me.0.size ≡ z
       → ((s : Moment) → BoardOk z s → get_elem? s.views id ≡ some me.0 → Follows z s.words (set s.words x (f (get_or s.words x 0))) (es (get_or s.words x 0)))
-      → ((s : Moment) → BoardOk z s → Named A z s.words → Named A z (set s.words x (f (get_or s.words x 0))))
+      → ((s : Moment) → BoardOk z s → get_elem? s.views id ≡ some me.0 → Named A z s.words → Named A z (set s.words x (f (get_or s.words x 0))))
       → Allows (BoardOk z) slots id me x f then
       → Allows (Rule A key) slots id me x f (λ n m'. then n m' × Turn me.0.size me.0 m'.0 x n (f n) (es n))
   turns size follows named allows = subst (λ (q : Size). Allows (Rule A q) slots id me x f (λ n m'. then n m' × Turn me.0.size me.0 m'.0 x n (f n) (es n))) (sym same) (λ s (ok, name) deep there small. let n : ℕ = get_or s.words x 0 in let t = allows s ok deep there small in let after : Moment = stepped s x (f n) id me.1 t.0 t.1 in (
     t.0,
     t.1,
     t.2,
-    (t.3, named s ok name),
+    (t.3, named s ok there name),
     (
       t.4,
       subst (λ (q : Size). Turn q me.0 t.0 x n (f n) (es n)) (sym size)
@@ -76,10 +76,10 @@ module _ (A : ℕ → Type 0) (z key : Size) (same : key ≡ z) (slots id : ℕ)
 -- each word that may carry a number is as it was, or has one that is allowed
 pub stays_named : (A : ℕ → Type 0) (z : Size) (ws ws' : List ℕ) → Named A z ws
     → ((i : ℕ) → i < z.slots → (cancel (task ws' i) ≢ 0 → A (cancel (task ws' i))) ⊎ (task ws' i ≡ task ws i))
-    → ((j : ℕ) → j < z.bans → (by (get_or ws' (z.slots + j + 1) 0) ≢ 0 → A (by (get_or ws' (z.slots + j + 1) 0))) ⊎ (get_or ws' (z.slots + j + 1) 0 ≡ get_or ws (z.slots + j + 1) 0))
+    → ((j : ℕ) → j < z.bans → (get_or ws' (z.slots + j + 1) 0 ≢ 0 → A (by (get_or ws' (z.slots + j + 1) 0)) × (by (get_or ws' (z.slots + j + 1) 0) < 65536)) ⊎ (get_or ws' (z.slots + j + 1) 0 ≡ get_or ws (z.slots + j + 1) 0))
     → Named A z ws'
 stays_named A z ws ws' name tasks bans = record {
   marks = λ i l n. ⊎_elim (λ (h : cancel (task ws' i) ≢ 0 → A (cancel (task ws' i))). h n) (λ (e : task ws' i ≡ task ws i). subst (λ (q : ℕ). A (cancel q)) (sym e) (name.marks i l (λ f. n (ap cancel e ∙ f)))) (tasks i l);
-  bans = λ j l n. ⊎_elim (λ (h : by (get_or ws' (z.slots + j + 1) 0) ≢ 0 → A (by (get_or ws' (z.slots + j + 1) 0))). h n)
-      (λ (e : get_or ws' (z.slots + j + 1) 0 ≡ get_or ws (z.slots + j + 1) 0). subst (λ (q : ℕ). A (by q)) (sym e) (name.bans j l (λ f. n (ap by e ∙ f)))) (bans j l);
+  bans = λ j l n. ⊎_elim (λ (h : get_or ws' (z.slots + j + 1) 0 ≢ 0 → A (by (get_or ws' (z.slots + j + 1) 0)) × (by (get_or ws' (z.slots + j + 1) 0) < 65536)). h n)
+      (λ (e : get_or ws' (z.slots + j + 1) 0 ≡ get_or ws (z.slots + j + 1) 0). subst (λ (q : ℕ). A (by q) × (by q < 65536)) (sym e) (name.bans j l (λ f. n (e ∙ f)))) (bans j l);
 }

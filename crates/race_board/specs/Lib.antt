@@ -5,3 +5,8 @@ pub mod Events
 pub mod StepEvents
 pub mod Theorem
 pub mod Turn
+pub mod Keys
+pub mod Seats
+pub mod Calls
+pub mod Checks
+pub mod Lists

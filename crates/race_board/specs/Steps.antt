@@ -168,10 +168,3 @@ abbrev pub after_mark : At → Sat → ℕ → Sat → Type 0
 after_mark st m n m' =
     (n ≡ st.first → Goes m' (noted (struck m.0 (st.word - 1) (number n)) (did st.word n st.second)))
     × (n ≢ st.first → Goes m' (noted (missed m.0) (did st.word n n)))
-
--- a step that the view gained from v to w saw this value in this word
-pub record Saw (v w : View) (word seen : ℕ) : Type 0 where
-  pub turn : ℕ
-  pub of_this_call : length v.steps ≤ turn
-  pub left : ℕ
-  pub there : get_elem? w.steps turn ≡ some (did word seen left)

@@ -29,7 +29,7 @@ module _ (allowed : ℕ → Type 0) (z : Size) where
   -- each mark and each ban has a number that the board's name allows
   pub record Named (ws : List ℕ) : Type 0 where
     pub marks : (i : ℕ) → i < z.slots → cancel (task ws i) ≢ 0 → allowed (cancel (task ws i))
-    pub bans : (j : ℕ) → j < z.bans → by (slice_index ws (z.slots + j + 1)) ≢ 0 → allowed (by (slice_index ws (z.slots + j + 1)))
+    pub bans : (j : ℕ) → j < z.bans → slice_index ws (z.slots + j + 1) ≢ 0 → allowed (by (slice_index ws (z.slots + j + 1))) × (by (slice_index ws (z.slots + j + 1)) < 65536)
 
   abbrev pub Rule : State (Unit {0}) View → Type 0
   Rule s = BoardOk z s × Named s.words
@@ -39,4 +39,4 @@ abbrev pub MayMark : (ℕ → Type 0) → ℕ → Type 0
 MayMark allowed n = cancel n ≢ 0 → allowed (cancel n)
 
 abbrev pub MayBan : (ℕ → Type 0) → ℕ → Type 0
-MayBan allowed n = by n ≢ 0 → allowed (by n)
+MayBan allowed n = n ≢ 0 → allowed (by n) × (by n < 65536)

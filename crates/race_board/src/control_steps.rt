@@ -1,5 +1,5 @@
 //! The steps of the control seat.
-ghost use Rattle.std.specs.Prelude.{◌≡◌, ◌≢◌, ℕ, ◌+◌, ◌*◌, ◌-◌, ◌<◌, [], ◌==◌, cond, length};
+ghost use Rattle.std.specs.Prelude.{◌≡◌, ◌≢◌, ℕ, ◌+◌, ◌*◌, ◌-◌, ◌<◌, ◌⊎◌, [], ◌==◌, cond, length};
 ghost use prog.Atomic.{either};
 ghost use Rattle.race_board.specs.Words.{number, parent, cancel, banned, by, with_mark, ban_word};
 ghost use Rattle.race_board.specs.Board.{ban, no_ban, In};
@@ -19,7 +19,7 @@ impl<N: BoardName> BoardWords<N> {
     pub(crate) fn put(&self, seat: &mut Place, place: usize, word: u64) -> u64
         requires fits { (seat.old.table_id ≡ self.now.table.shared.table_id) × (seat.old.me.1 ≡ []) × (seat.old.me.0.size ≡ self.now.size) }
         requires control { (seat.old.me.0.lead ≡ 1) × (length seat.old.me.0.bans ≡ self.now.size.bans) × (place < self.now.size.bans) }
-        requires word { (banned word ≢ 0) × N.allowed (by word) }
+        requires word { (banned word ≢ 0) × N.allowed (by word) × (by word < 65536) }
         requires free { (ban seat.old.me.0 place).parent ≡ 0 }
         ensures fits { (seat.new.table_id ≡ seat.old.table_id) × (seat.new.me.1 ≡ []) }
         ensures free { result ≡ 0 }
@@ -74,7 +74,8 @@ impl<N: BoardName> BoardWords<N> {
         requires control { (seat.old.me.0.lead ≡ 1) × (slot < self.now.size.slots) × (seat.old.me.0.half ≡ 0) }
         requires word { (old ≢ 0) × (cancel old ≡ 0) }
         requires about { seat.old.me.0.about ≢ 0 → (seat.old.me.0.about ≡ slot + 1) × (seat.old.me.0.loaded ≡ old) }
-        requires mark { (mark ≢ 0) × (mark < 65536) × N.allowed mark }
+        requires mark { (mark ≢ 0) × (mark < 65536) }
+        requires allowed { N.allowed mark ⊎ ((j : ℕ) × (j < self.now.size.bans) × ((ban seat.old.me.0 j).parent ≢ 0) × ((ban seat.old.me.0 j).cancel ≡ mark)) }
         ensures fits { (seat.new.table_id ≡ seat.old.table_id) × (seat.new.me.1 ≡ []) }
         ensures marks { result ≡ old → seat.new.me.0 ≡ noted (struck seat.old.me.0 slot (number old)) (did (slot + 1) old (with_mark old mark)) }
         ensures misses { result ≢ old → seat.new.me.0 ≡ noted (missed seat.old.me.0) (did (slot + 1) result result) }
@@ -92,7 +93,8 @@ impl<N: BoardName> BoardWords<N> {
         requires control { (seat.old.me.0.lead ≡ 1) × (slot < self.now.size.slots) × (seat.old.me.0.half ≡ 0) }
         requires word { (old ≢ 0) × (cancel old ≡ 0) }
         requires about { seat.old.me.0.about ≢ 0 → (seat.old.me.0.about ≡ slot + 1) × (seat.old.me.0.loaded ≡ old) }
-        requires mark { (mark ≢ 0) × (mark < 65536) × N.allowed mark }
+        requires mark { (mark ≢ 0) × (mark < 65536) }
+        requires allowed { N.allowed mark }
         ensures fits { (seat.new.table_id ≡ seat.old.table_id) × (seat.new.me.1 ≡ []) }
         ensures marks { result ≡ old → seat.new.me.0 ≡ noted (struck seat.old.me.0 slot (number old)) (did (slot + 1) old (with_mark old mark)) }
         ensures misses { result ≢ old → seat.new.me.0 ≡ noted (missed seat.old.me.0) (did (slot + 1) result result) }
@@ -114,7 +116,8 @@ impl<N: BoardName> BoardWords<N> {
         requires control { (seat.old.me.0.lead ≡ 1) × (slot < self.now.size.slots) × (seat.old.me.0.half ≡ 0) }
         requires word { (old ≢ 0) × (cancel old ≡ 0) }
         requires loaded { seat.old.me.0.about ≢ 0 → (seat.old.me.0.about ≡ slot + 1) × (seat.old.me.0.loaded ≡ old) }
-        requires mark { (mark ≢ 0) × (mark < 65536) × N.allowed mark }
+        requires mark { (mark ≢ 0) × (mark < 65536) }
+        requires ban { (place < self.now.size.bans) × ((ban seat.old.me.0 place).parent ≢ 0) × ((ban seat.old.me.0 place).cancel ≡ mark) }
         ensures fits { (seat.new.table_id ≡ seat.old.table_id) × (seat.new.me.1 ≡ []) }
         ensures marks { result ≡ old → seat.new.me.0 ≡ noted (struck seat.old.me.0 slot (number old)) (did (slot + 1) old (with_mark old mark)) }
         ensures misses { result ≢ old → seat.new.me.0 ≡ noted (missed seat.old.me.0) (did (slot + 1) result result) }
@@ -136,7 +139,8 @@ impl<N: BoardName> BoardWords<N> {
         requires control { (seat.old.me.0.lead ≡ 1) × (slot < self.now.size.slots) × (seat.old.me.0.half ≡ 0) }
         requires word { (old ≢ 0) × (cancel old ≡ 0) }
         requires about { seat.old.me.0.about ≢ 0 → (seat.old.me.0.about ≡ slot + 1) × (seat.old.me.0.loaded ≡ old) }
-        requires mark { (mark ≢ 0) × (mark < 65536) × N.allowed mark }
+        requires mark { (mark ≢ 0) × (mark < 65536) }
+        requires ban { (place < self.now.size.bans) × ((ban seat.old.me.0 place).parent ≢ 0) × ((ban seat.old.me.0 place).cancel ≡ mark) }
         ensures fits { (seat.new.table_id ≡ seat.old.table_id) × (seat.new.me.1 ≡ []) }
         ensures marks { result ≡ old → seat.new.me.0 ≡ noted (struck seat.old.me.0 slot (number old)) (did (slot + 1) old (with_mark old mark)) }
         ensures misses { result ≢ old → seat.new.me.0 ≡ noted (missed seat.old.me.0) (did (slot + 1) result result) }

@@ -1,10 +1,15 @@
 //! Words and their parts.
-ghost use Rattle.std.specs.Prelude.{◌≡◌, ◌<◌, ◌+◌, ◌*◌, ◌^◌};
+ghost use Rattle.std.specs.Prelude.{◌≡◌, ◌<◌, ◌+◌, ◌*◌, ◌^◌, ◌≢◌};
+
+ghost use Rattle.race_board.specs.Keys.{task_key, parent_key, mark_in};
 ghost use Rattle.race_board.specs.Words.{number, parent, cancel, banned, by, task_word, ban_word, with_mark};
+
+use task_ids::TaskId;
 
 #[tactic(auto, unfolding(crate::specs::Words::number))]
 pub(crate) fn number_of(word: u64) -> u64
-    ensures { result ≡ number word }
+    ensures number { result ≡ number word }
+    ensures small { result < 1048576 }
 {
     word % 1_048_576
 }
@@ -59,4 +64,33 @@ pub(crate) fn mark_of(word: u64, c: u64) -> u64
     ensures { result ≡ with_mark word c }
 {
     word + 17_592_186_044_416 * c
+}
+
+/// The key of a task, by which words name parents.
+#[tactic(auto, unfolding(crate::specs::Keys::task_key))]
+pub(crate) fn key_of(task: TaskId) -> u64
+    ensures key { result ≡ task_key task }
+    ensures some { (result ≢ 0) × (result < 16777216) }
+{
+    u64::from(task.number) + 1_048_576 * u64::from(task.node)
+}
+
+/// The key of a task's parent, or 0 for a root.
+pub(crate) fn parent_key_of(parent: Option<TaskId>) -> u64
+    ensures key { result ≡ parent_key parent }
+    ensures small { result < 16777216 }
+{
+    match parent {
+        Some(task) => key_of(task),
+        None => 0,
+    }
+}
+
+/// The mark in a task word.
+#[tactic(auto, unfolding(crate::specs::Words::cancel))]
+pub(crate) fn mark_in(word: u64) -> Option<u32>
+    ensures { result ≡ mark_in word }
+{
+    let mark = word / 17_592_186_044_416;
+    if mark == 0 { None } else { Some(mark as u32) }
 }
