@@ -1,6 +1,6 @@
 -- The calls of the control seat, over one step.
-use Rattle.std.proofs.Common.{◌≡◌, ◌≢◌, ℕ, ◌+◌, ◌-◌, ◌<◌, List, [], ◌∷◌, ◌++◌, length, get_or, set, sym, refl, ap, ◌∙◌, subst, arith, Option, None, Some, get_or-set_other, get_or-set_same}
-use Rattle.std.proofs.lemmas.List.{set-set}
+use Rattle.std.proofs.Common.{◌≡◌, ◌≢◌, ℕ, ◌+◌, ◌-◌, ◌<◌, List, [], ◌∷◌, ◌++◌, length, get_or, set, sym, refl, ap, ◌∙◌, subst, arith, Option, None, Some, get_or-set_other, get_or-set_same, take, append-nil}
+use Rattle.std.proofs.lemmas.List.{set-set, set-get_or}
 use mathlib.Core.Logic.{dite}
 use native.Mathlib.Decide.{ℕ_discrete}
 use Rattle.race_board.specs.Words.{number, banned, by, ban_word}
@@ -66,3 +66,14 @@ pub none_seen : (v u w : View) (i n x : ℕ) → Longer v u → SawNone v u i n 
 none_seen v u w i n x long none other e k l = dite (ℕ_discrete k i)
     (λ f. (x, subst (λ (q : ℕ). Saw v w (q + 1) x) (sym f) (saw_now v u w (i + 1) x x long (ap (λ (q : View). q.steps) e)), other))
     (λ f. let t = none k (omega arith) in (t.0, saw_more v u w (did (i + 1) x x) (k + 1) t.0 (ap (λ (q : View). q.steps) e) t.1, t.2))
+
+-- the ban that a word puts
+pub put_is : (v w : View) (j x p c y : ℕ) → p < 16777216 → y ≡ ban_word p c → w ≡ noted (with_ban v j (banning (banned y) (by y) 0)) (did x 0 y) → w ≡ noted (with_ban v j (banning p c 0)) (did x 0 (ban_word p c))
+put_is v w j x p c y small is e = e ∙ ((λ k. noted (with_ban v j (banning (banned (is k)) (by (is k)) 0)) (did x 0 (is k))) ∙ (λ k. noted (with_ban v j (banning (banned_ban p c small k) (by_ban p c small k) 0)) (did x 0 (ban_word p c))))
+
+-- no slot is passed yet
+pub listing_first : (v : View) (j : ℕ) (found : List ℕ) → j < length v.bans → (ban v j).next ≡ 0 → v.about ≡ 0 → v.loaded ≡ 0 → Listing v v j 0 (v.marked ++ take 0 found)
+listing_first v j found l none about loaded = let same : ban v j ≡ banning (ban v j).parent (ban v j).cancel 0 = (λ k. banning (ban v j).parent (ban v j).cancel (none k)) in
+    let bans : v.bans ≡ set v.bans j (banning (ban v j).parent (ban v j).cancel 0) = sym (set-get_or v.bans j no_ban) ∙ ap (set v.bans j) same in
+    let marked : v.marked ≡ v.marked ++ take 0 found = sym (append-nil v.marked) in
+    λ k. let r : View = record v { bans = bans k; about = about k; loaded = loaded k; marked = marked k } in r

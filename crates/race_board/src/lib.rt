@@ -7,6 +7,7 @@ mod board_words;
 mod control_steps;
 mod data_steps;
 mod living;
+mod marking;
 mod name;
 mod opening;
 mod plays;
