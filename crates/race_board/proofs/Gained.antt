@@ -85,3 +85,9 @@ pub calm_set : (hs : List Hold) (i : ℕ) (h : Hold) → i < length hs → h.see
 calm_set hs i h l free all k = dite (ℕ_discrete k i)
     (λ e. ap (λ (q : ℕ). (get_or (set hs i h) q no_hold).seek) e ∙ (ap (λ (x : Hold). x.seek) (get_or-set_same hs i h no_hold l) ∙ free))
     (λ e. ap (λ (x : Hold). x.seek) (get_or-set_other hs i k h no_hold e) ∙ all k)
+
+pub saw_longer : (v u w : View) (x n : ℕ) → Longer u w → Saw v u x n → Saw v w x n
+saw_longer v u w x n long s = record { turn = s.turn; of_this_call = s.of_this_call; left = s.left; there = ap (λ (l : List Did). get_elem? l s.turn) long.1 ∙ at_longer u.steps long.0 s.turn (did x n s.left) s.there }
+
+pub saw_later : (v u w : View) (x n : ℕ) → Longer v u → Saw u w x n → Saw v w x n
+saw_later v u w x n long s = record { turn = s.turn; of_this_call = (let a = s.of_this_call in let b = ap length long.1 in let d = length-append v.steps long.0 in omega arith); left = s.left; there = s.there }

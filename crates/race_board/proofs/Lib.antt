@@ -9,6 +9,8 @@ pub mod DataSteps
 pub mod ControlSteps
 pub mod Gained
 pub mod Listed
+pub mod MarkSteps
+pub mod Tracked
 pub mod Checking
 pub mod Marks
 pub mod Joined

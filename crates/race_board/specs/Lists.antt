@@ -67,3 +67,9 @@ pub record Masks (v w : View) (z : Size) (n nodes i : ℕ) : Type 0 where
   pub bits : number seen ≡ n → (x : ℕ) → x < 16 → bit_at nodes x ≡ bit_at loaded x
   pub kept : number seen ≡ n → w ≡ record v { steps = w.steps; masks = record { number = n; nodes = loaded } ∷ v.masks }
   pub none : number seen ≢ n → nodes ≡ 0
+
+-- the word of the slot i was seen before, and a try to mark it is made where it has no mark
+abbrev pub MarksSeen : View → View → ℕ → ℕ → MarkAnswer → Type 0
+MarksSeen v w i seen Marked = (cancel seen ≡ 0) × (w ≡ record v { steps = w.steps; marked = v.marked ++ number seen ∷ []; last = slice_set v.last i (number seen) })
+MarksSeen v w i seen (Already k) = (w ≡ v) × (cancel seen ≡ k) × (k ≢ 0)
+MarksSeen v w i seen NotFound = OnlySteps v w × ((after : ℕ) × Saw v w (i + 1) after × (seen ≢ after))

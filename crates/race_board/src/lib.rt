@@ -1,6 +1,7 @@
 //! One node's words: data seats register and check tasks, the control seat puts bans and marks, and no seat waits.
 #![tactic(auto)]
 
+mod asking;
 mod banning;
 mod board;
 mod board_words;

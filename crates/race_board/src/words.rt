@@ -1,5 +1,5 @@
 //! Words and their parts.
-ghost use Rattle.std.specs.Prelude.{◌≡◌, ◌<◌, ◌+◌, ◌*◌, ◌^◌, ◌≢◌};
+ghost use Rattle.std.specs.Prelude.{◌≡◌, ◌<◌, ◌+◌, ◌*◌, ◌^◌, ◌≢◌, MatchBool};
 
 ghost use Rattle.race_board.specs.Keys.{task_key, parent_key, mark_in};
 ghost use Rattle.race_board.specs.Words.{number, parent, cancel, banned, by, task_word, ban_word, with_mark};
@@ -93,4 +93,11 @@ pub(crate) fn mark_in(word: u64) -> Option<u32>
 {
     let mark = word / 17_592_186_044_416;
     if mark == 0 { None } else { Some(mark as u32) }
+}
+
+/// Whether it is the word of the live task with that number.
+pub(crate) fn is_word_of(word: u64, sought: u32) -> bool
+    ensures { MatchBool result ((word ≢ 0) × (number word ≡ sought)) (word ≢ 0 → number word ≢ sought) }
+{
+    word != 0 && number_of(word) == u64::from(sought)
 }
