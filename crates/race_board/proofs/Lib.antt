@@ -1,0 +1,16 @@
+pub mod Parts
+pub mod Boards
+pub mod Holders
+pub mod Controls
+pub mod Moments
+pub mod Follows
+pub mod Turns
+pub mod DataSteps
+pub mod ControlSteps
+pub mod Gained
+pub mod Listed
+pub mod MarkSteps
+pub mod Tracked
+pub mod Checking
+pub mod Marks
+pub mod Joined

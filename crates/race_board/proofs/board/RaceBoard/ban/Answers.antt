@@ -1,0 +1,42 @@
+use Rattle.std.proofs.Common.{rules, arith, ◌≡◌, ◌≢◌, ℕ, ◌+◌, ◌<◌, ◌≤◌, List, [], ◌∷◌, ◌++◌, length, take, slice_index, get_or, set, length-set, sym, refl, ap, ◌∙◌, subst, append_assoc, inl, inr}
+use Rattle.std.proofs.lemmas.Grind.{get_or_default_zero}
+use Rattle.std.proofs.lemmas.List.{take_more_set}
+use Rattle.race_board.specs.Words.{number, parent, cancel, banned, by, ban_word}
+use Rattle.race_board.specs.Board.{ban, no_ban}
+use Rattle.race_board.specs.Steps.{did, noted, banning, with_ban, past, struck, missed}
+use Rattle.race_board.specs.Calls.{Longer, OnlySteps}
+use Rattle.race_board.specs.Lists.{Listing, with_one, last_with}
+use Rattle.race_board.specs.declared.views.Did.{Did}
+use Rattle.race_board.specs.declared.views.Size.{Size}
+use Rattle.race_board.specs.declared.views.Ban.{Ban}
+use Rattle.race_board.specs.declared.views.View.{View}
+use Rattle.race_board.proofs.Parts.{zero_parent, zero_number, banned_ban, by_ban, ban_none}
+use Rattle.race_board.proofs.Gained.{longer_same, longer_more, longer_trans, only_more, saw_now, saw_more}
+use Rattle.race_board.proofs.Listed.{put_is, bans_set, bans_again, listing_ban, listing_passes, listing_marked, none_seen}
+use Rattle.race_board.proofs.board.RaceBoard.ban.Goals as goal
+
+pub put-requires-clause-word : goal.put-requires-clause-word
+put-requires-clause-word g c = let p : ℕ = c.key_of.result in let k : ℕ = c.args.cancel in let y : ℕ = c.ban_of-word.result in let is : y ≡ ban_word p k = search rules in
+    let child : banned y ≡ p = ap banned is ∙ banned_ban p k c.key_of.ensures.some.1 in let number_is : by y ≡ k = ap by is ∙ by_ban p k c.key_of.ensures.some.1 in
+    ((λ e. c.key_of.ensures.some.0 (sym child ∙ e)), subst g.N.BoardName.allowed (sym number_is) c.requires.cancel.1, (let a = c.requires.cancel.0 in omega arith))
+
+pub returns-clause-put : goal.returns-clause-put
+returns-clause-put g c = let v : View = c.args.seat.now.place.me.0 in let w : View = c.put.new.seat.me.0 in let z : Size = c.args.self.now.words.size in let p : ℕ = c.key_of.result in let k : ℕ = c.args.cancel in let y : ℕ = c.ban_of-word.result in let is : y ≡ ban_word p k = search rules in
+    let j : ℕ = c.in-Some.place in let t = c.in-Some.ensures.found in
+    ((let a = t.0 in let b = c.args.seat.now.sized.0 in let d = ap (λ (q : Size). q.bans) c.requires.fits.1 in omega arith), t.1,
+      subst (λ (q : ℕ). w ≡ noted (with_ban v j (banning q k 0)) (did (z.slots + j + 1) 0 (ban_word q k))) c.key_of.ensures.key (put_is v w j (z.slots + j + 1) p k y c.key_of.ensures.some.1 is c.put.ensures.puts))
+
+pub invariant_of-seat : goal.invariant_of-seat
+invariant_of-seat g c = let seat = c.args.seat.now in let v : View = seat.place.me.0 in let w : View = c.put.new.seat.me.0 in let z : Size = c.args.self.now.words.size in let p : ℕ = c.key_of.result in let k : ℕ = c.args.cancel in let y : ℕ = c.ban_of-word.result in let is : y ≡ ban_word p k = search rules in
+    let j : ℕ = c.in-Some.place in let b : Ban = banning p k 0 in let near : j < length seat.bans.items = c.in-Some.ensures.found.0 in let inside : j < length v.bans = (let a = seat.sized in omega arith) in
+    let e : w ≡ noted (with_ban v j b) (did (z.slots + j + 1) 0 (ban_word p k)) = put_is v w j (z.slots + j + 1) p k y c.key_of.ensures.some.1 is c.put.ensures.puts in
+    let bans_are : w.bans ≡ set v.bans j b = ap (λ (q : View). q.bans) e in let size : w.size ≡ v.size = ap (λ (q : View). q.size) e in
+    record {
+      bare = c.put.ensures.fits.1;
+      role = ap (λ (q : View). q.lead) e ∙ seat.role;
+      sized = (length-set seat.bans.items j y ∙ (seat.sized.0 ∙ sym (ap (λ (q : Size). q.bans) size)), ap length bans_are ∙ (length-set v.bans j b ∙ (seat.sized.1 ∙ sym (ap (λ (q : Size). q.bans) size))));
+      latest = (seat.latest.0 ∙ sym (ap (λ (q : Size). q.slots) size), seat.latest.1 ∙ sym (ap (λ (q : View). q.last) e));
+      idle = (ap (λ (q : View). q.about) e ∙ seat.idle.0, ap (λ (q : View). q.loaded) e ∙ seat.idle.1, ap (λ (q : View). q.half) e ∙ seat.idle.2);
+      standing = subst (λ (x : ℕ × List Ban). (i : ℕ) → (slice_index (set seat.bans.items j x.0) i ≡ ban_word (get_or x.1 i no_ban).parent (get_or x.1 i no_ban).cancel) × ((get_or x.1 i no_ban).parent < 16777216) × ((get_or x.1 i no_ban).cancel < 65536) × ((get_or x.1 i no_ban).parent ≢ 0 → (get_or x.1 i no_ban).cancel ≢ 0))
+          (λ i. (sym is i, sym bans_are i)) (bans_set seat.bans.items v.bans j b near inside c.key_of.ensures.some.1 (let a = c.requires.cancel.0 in let small : k < 65536 = omega arith in small) (λ _ f. let a = c.requires.cancel.0 in absurd (omega arith)) seat.standing);
+    }

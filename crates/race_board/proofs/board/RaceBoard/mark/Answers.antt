@@ -1,0 +1,36 @@
+use Rattle.std.proofs.Common.{rules, arith, ◌≡◌, ◌≢◌, ℕ, ◌+◌, ◌<◌, ◌≤◌, List, [], ◌∷◌, ◌++◌, length, take, slice_index, get_or, set, length-set, sym, refl, ap, ◌∙◌, subst, append_assoc, inl, inr}
+use Rattle.std.proofs.lemmas.Grind.{get_or_default_zero}
+use Rattle.std.proofs.lemmas.List.{take_more_set}
+use Rattle.race_board.specs.Words.{number, parent, cancel, banned, by, ban_word}
+use Rattle.race_board.specs.Board.{ban, no_ban}
+use Rattle.race_board.specs.Steps.{did, noted, banning, with_ban, past, struck, missed}
+use Rattle.race_board.specs.Calls.{Longer, OnlySteps}
+use Rattle.race_board.specs.Lists.{Listing, with_one, last_with}
+use Rattle.race_board.specs.declared.views.Did.{Did}
+use Rattle.race_board.specs.declared.views.Size.{Size}
+use Rattle.race_board.specs.declared.views.Ban.{Ban}
+use Rattle.race_board.specs.declared.views.View.{View}
+use Rattle.race_board.proofs.Parts.{zero_parent, zero_number, banned_ban, by_ban, ban_none}
+use Rattle.race_board.proofs.Gained.{longer_same, longer_more, longer_trans, only_more, saw_now, saw_more}
+use Rattle.race_board.proofs.Listed.{put_is, bans_set, bans_again, listing_ban, listing_passes, listing_marked, none_seen}
+use Rattle.race_board.proofs.MarkSteps.{marks_then}
+use Rattle.race_board.proofs.board.RaceBoard.mark.Goals as goal
+
+pub loop-slot-preserved : goal.loop-slot-preserved
+loop-slot-preserved g c = let v : View = c.args.seat.now.place.me.0 in let u : View = c.loop-slot.seat.place.me.0 in let w : View = c.note-seen.new.seat.me.0 in let n : ℕ = c.note-seen.result in let i : ℕ = c.loop-slot.slot in let inv = c.loop-slot.invariant in
+    let e : w ≡ noted u (did (i + 1) n n) = c.note-seen.ensures.notes in record {
+      table = search rules;
+      only = only_more v u w (did (i + 1) n n) inv.only e;
+      longer = longer_more v u w (did (i + 1) n n) inv.longer (ap (λ (q : View). q.steps) e);
+      none = none_seen v u w i c.args.number n inv.longer inv.none (search rules) e;
+    }
+
+pub returns-then-is_word_of-clause-marks : goal.returns-then-is_word_of-clause-marks
+returns-then-is_word_of-clause-marks g c = let v : View = c.args.seat.now.place.me.0 in let u : View = c.loop-slot.seat.place.me.0 in let w : View = c.note-seen.new.seat.me.0 in let x : View = c.mark_seen.new.seat.place.me.0 in let n : ℕ = c.note-seen.result in let i : ℕ = c.loop-slot.slot in let inv = c.loop-slot.invariant in
+    let e : w ≡ noted u (did (i + 1) n n) = c.note-seen.ensures.notes in
+    marks_then v w x c.args.self.now.words.size i c.args.number n c.mark_seen.result (only_more v u w (did (i + 1) n n) inv.only e) (longer_more v u w (did (i + 1) n n) inv.longer (ap (λ (q : View). q.steps) e)) c.mark_seen.ensures.steps
+    (saw_now v u w (i + 1) n n inv.longer (ap (λ (q : View). q.steps) e)) (search rules) c.mark_seen.ensures.marks
+
+pub returns-then-is_word_of-clause-steps : goal.returns-then-is_word_of-clause-steps
+returns-then-is_word_of-clause-steps g c = let v : View = c.args.seat.now.place.me.0 in let u : View = c.loop-slot.seat.place.me.0 in let w : View = c.note-seen.new.seat.me.0 in let x : View = c.mark_seen.new.seat.place.me.0 in let n : ℕ = c.note-seen.result in let i : ℕ = c.loop-slot.slot in let inv = c.loop-slot.invariant in
+    let e : w ≡ noted u (did (i + 1) n n) = c.note-seen.ensures.notes in longer_trans v w x (longer_more v u w (did (i + 1) n n) inv.longer (ap (λ (q : View). q.steps) e)) c.mark_seen.ensures.steps

@@ -1,0 +1,27 @@
+use Rattle.std.proofs.Common.{rules, arith, ◌≡◌, ◌≢◌, ℕ, ◌+◌, ◌<◌, ◌≤◌, List, [], ◌∷◌, ◌++◌, length, take, slice_index, get_or, set, length-set, sym, refl, ap, ◌∙◌, subst, append_assoc, inl, inr}
+use Rattle.std.proofs.lemmas.Grind.{get_or_default_zero}
+use Rattle.std.proofs.lemmas.List.{take_more_set}
+use Rattle.race_board.specs.Words.{number, parent, cancel, banned, by, ban_word}
+use Rattle.race_board.specs.Board.{ban, no_ban}
+use Rattle.race_board.specs.Steps.{did, noted, banning, with_ban, past, struck, missed}
+use Rattle.race_board.specs.Calls.{Longer, OnlySteps}
+use Rattle.race_board.specs.Lists.{Listing, with_one, last_with}
+use Rattle.race_board.specs.declared.views.Did.{Did}
+use Rattle.race_board.specs.declared.views.Size.{Size}
+use Rattle.race_board.specs.declared.views.Ban.{Ban}
+use Rattle.race_board.specs.declared.views.View.{View}
+use Rattle.race_board.proofs.Parts.{zero_parent, zero_number, banned_ban, by_ban, ban_none}
+use Rattle.race_board.proofs.Gained.{longer_same, longer_more, longer_trans, only_more, saw_now, saw_more}
+use Rattle.race_board.proofs.Listed.{put_is, bans_set, bans_again, listing_ban, listing_passes, listing_marked, none_seen}
+use Rattle.race_board.proofs.board.RaceBoard.pass_slot.Goals as goal
+
+pub strike_child-requires-clause-word : goal.strike_child-requires-clause-word
+strike_child-requires-clause-word g c = let n : ℕ = c.scan-seen.result in let child : parent n ≡ c.args.parent = sym c.parent_of.ensures ∙ c.if-parent_of-parent.false in let free : cancel n ≡ 0 = sym c.cancel_of.ensures ∙ c.if-cancel_of-ne0.false in
+    ((λ e. c.requires.ban.3 (sym child ∙ (ap parent e ∙ zero_parent))), free)
+
+pub returns-then-strike_child-seen-clause-steps : goal.returns-then-strike_child-seen-clause-steps
+returns-then-strike_child-seen-clause-steps g c = let v : View = c.args.seat.now.me.0 in let u : View = c.scan-seen.new.seat.me.0 in let w : View = c.strike_child.new.seat.me.0 in let i : ℕ = c.args.slot in let n : ℕ = c.scan-seen.result in let m : ℕ = c.strike_child.result in
+    let child : parent n ≡ c.args.parent = sym c.parent_of.ensures ∙ c.if-parent_of-parent.false in let free : cancel n ≡ 0 = sym c.cancel_of.ensures ∙ c.if-cancel_of-ne0.false in
+    let e : u ≡ noted (past v c.args.place i (i + 1) n) (did (i + 1) n n) = c.scan-seen.ensures.child (child ∙ sym c.requires.ban.0, free) in
+    let f : w ≡ noted (missed u) (did (i + 1) m m) = c.strike_child.ensures.misses c.if-strike_child-seen.true in
+    longer_more v u w (did (i + 1) m m) (longer_more v v u (did (i + 1) n n) (longer_same v) (ap (λ (q : View). q.steps) e)) (ap (λ (q : View). q.steps) f)

@@ -1,0 +1,56 @@
+use Rattle.std.proofs.Common.{rules, arith, ◌≡◌, ◌≢◌, ℕ, ◌+◌, ◌<◌, ◌^◌, bit_or, length, set, length-set, sym, refl, ap, ◌∙◌, subst}
+use Rattle.race_board.specs.Words.{cancel}
+use Rattle.race_board.specs.Board.{hold, no_hold}
+use Rattle.race_board.specs.Steps.{noted, did, with_hold, seeking, cleared_hold}
+use Rattle.race_board.specs.Checks.{Becomes, Tracks}
+use Rattle.race_board.specs.declared.views.Did.{Did}
+use Rattle.race_board.specs.declared.views.Size.{Size}
+use Rattle.race_board.specs.declared.views.Hold.{Hold}
+use Rattle.race_board.specs.declared.views.View.{View}
+use Rattle.race_board.proofs.Gained.{longer_same, longer_more, saw_now}
+use Rattle.race_board.proofs.Marks.{cleared_mark, cancelled_mark}
+use Rattle.race_board.proofs.Tracked.{twice, after_both, becomes_fields}
+use Rattle.race_board.proofs.board.RaceBoard.track.Goals as goal
+
+pub invariant_of-seat : goal.invariant_of-seat
+invariant_of-seat g c = let seat = c.args.seat.now in let v : View = seat.place.me.0 in let u : View = c.set_bits.new.seat.me.0 in let w : View = c.track_look.new.seat.me.0 in let i : ℕ = c.slot_of-slot.result in let b : ℕ = c.node_bit.result in let n : ℕ = c.track_look.result in let z : Size = c.args.self.now.words.size in
+    let inside : i < length v.held = (let p = c.slot_of-slot.ensures.0 in let q = seat.sized in omega arith) in let m : ℕ = c.set_bits.result in
+    let t = after_both v u w i b n (did (z.slots + z.bans + i + 1) m (bit_or m b)) (did (i + 1) n n) inside c.set_bits.ensures.sets c.track_look.ensures.cleared c.track_look.ensures.marked in
+    let fields = becomes_fields v w i t.0 inside t.1 t.2 t.3 t.4 seat.calm in let e = t.1 in
+    record {
+      bare = c.track_look.ensures.fits.1;
+      role = ap (λ (q : View). q.lead) e ∙ seat.role;
+      sized = (seat.sized.0 ∙ sym (ap (λ (q : View). q.size.slots) e), ap (λ (q : View). length q.held) e ∙ (length-set v.held i t.0 ∙ (seat.sized.1 ∙ sym (ap (λ (q : View). q.size.slots) e))));
+      tickets = λ q. let k = seat.tickets q in (k.0 ∙ sym (fields q).0, k.1 ∙ sym (fields q).1);
+      distinct = λ q r some f. seat.distinct q r (λ x. some ((fields q).0 ∙ x)) (sym (fields q).0 ∙ (f ∙ (fields r).0));
+      calm = λ q. (fields q).2;
+      refused = subst (λ (k : ℕ). (seat.told ≡ Rattle.std.specs.Prelude.false → k ≡ 0) × (seat.told ≡ Rattle.std.specs.Prelude.true → k ≡ 1)) (sym (ap (λ (q : View). q.told) e)) seat.refused;
+      drawn = subst (λ (k : ℕ). k < 1048576) (sym (ap (λ (q : View). q.drawn) e)) seat.drawn;
+      greatest = ap (λ (q : View). q.most) e ∙ seat.greatest;
+    }
+
+pub returns-in-None-clause-tracks : goal.returns-in-None-clause-tracks
+returns-in-None-clause-tracks g c = let seat = c.args.seat.now in let v : View = seat.place.me.0 in let u : View = c.set_bits.new.seat.me.0 in let w : View = c.track_look.new.seat.me.0 in let i : ℕ = c.slot_of-slot.result in let b : ℕ = c.node_bit.result in let n : ℕ = c.track_look.result in let z : Size = c.args.self.now.words.size in
+    let inside : i < length v.held = (let p = c.slot_of-slot.ensures.0 in let q = seat.sized in omega arith) in let m : ℕ = c.set_bits.result in let d : Did = did (z.slots + z.bans + i + 1) m (bit_or m b) in
+    let free : cancel n ≡ 0 = cleared_mark n (sym c.mark_in.ensures ∙ c.in-None.is) in let e = c.track_look.ensures.cleared free in
+    (i, c.slot_of-slot.ensures.1 ∙ ap (λ x. x.number) c.id.ensures, subst (λ (q : ℕ). Becomes v w i (cleared_hold (seeking (hold v i) q))) c.node_bit.ensures.bit (twice v u w i (seeking (hold v i) b) cleared_hold d (did (i + 1) n n) inside c.set_bits.ensures.sets e),
+      (n, saw_now v u w (i + 1) n n (longer_more v v u d (longer_same v) (ap (λ (q : View). q.steps) c.set_bits.ensures.sets)) (ap (λ (q : View). q.steps) e), free))
+
+pub returns-in-None-clause-steps : goal.returns-in-None-clause-steps
+returns-in-None-clause-steps g c = let seat = c.args.seat.now in let v : View = seat.place.me.0 in let u : View = c.set_bits.new.seat.me.0 in let w : View = c.track_look.new.seat.me.0 in let i : ℕ = c.slot_of-slot.result in let b : ℕ = c.node_bit.result in let n : ℕ = c.track_look.result in let z : Size = c.args.self.now.words.size in
+    let m : ℕ = c.set_bits.result in let d : Did = did (z.slots + z.bans + i + 1) m (bit_or m b) in
+    let free : cancel n ≡ 0 = cleared_mark n (sym c.mark_in.ensures ∙ c.in-None.is) in let e = c.track_look.ensures.cleared free in
+    longer_more v u w (did (i + 1) n n) (longer_more v v u d (longer_same v) (ap (λ (q : View). q.steps) c.set_bits.ensures.sets)) (ap (λ (q : View). q.steps) e)
+
+pub returns-in-Some-clause-tracks : goal.returns-in-Some-clause-tracks
+returns-in-Some-clause-tracks g c = let seat = c.args.seat.now in let v : View = seat.place.me.0 in let u : View = c.set_bits.new.seat.me.0 in let w : View = c.track_look.new.seat.me.0 in let i : ℕ = c.slot_of-slot.result in let b : ℕ = c.node_bit.result in let n : ℕ = c.track_look.result in let z : Size = c.args.self.now.words.size in
+    let inside : i < length v.held = (let p = c.slot_of-slot.ensures.0 in let q = seat.sized in omega arith) in let m : ℕ = c.set_bits.result in let d : Did = did (z.slots + z.bans + i + 1) m (bit_or m b) in
+    let mark = cancelled_mark n c.in-Some.mark (sym c.mark_in.ensures ∙ c.in-Some.is) in let e = c.track_look.ensures.marked (λ f. mark.1 (sym mark.0 ∙ f)) in
+    (i, c.slot_of-slot.ensures.1 ∙ ap (λ x. x.number) c.id.ensures, twice v u w i (seeking (hold v i) b) (λ q. seeking q 0) d (did (i + 1) n n) inside c.set_bits.ensures.sets e,
+      (n, saw_now v u w (i + 1) n n (longer_more v v u d (longer_same v) (ap (λ (q : View). q.steps) c.set_bits.ensures.sets)) (ap (λ (q : View). q.steps) e), mark.0, mark.1))
+
+pub returns-in-Some-clause-steps : goal.returns-in-Some-clause-steps
+returns-in-Some-clause-steps g c = let seat = c.args.seat.now in let v : View = seat.place.me.0 in let u : View = c.set_bits.new.seat.me.0 in let w : View = c.track_look.new.seat.me.0 in let i : ℕ = c.slot_of-slot.result in let b : ℕ = c.node_bit.result in let n : ℕ = c.track_look.result in let z : Size = c.args.self.now.words.size in
+    let m : ℕ = c.set_bits.result in let d : Did = did (z.slots + z.bans + i + 1) m (bit_or m b) in
+    let mark = cancelled_mark n c.in-Some.mark (sym c.mark_in.ensures ∙ c.in-Some.is) in let e = c.track_look.ensures.marked (λ f. mark.1 (sym mark.0 ∙ f)) in
+    longer_more v u w (did (i + 1) n n) (longer_more v v u d (longer_same v) (ap (λ (q : View). q.steps) c.set_bits.ensures.sets)) (ap (λ (q : View). q.steps) e)

@@ -1,0 +1,31 @@
+use Rattle.std.proofs.Common.{rules, arith, ◌≡◌, ◌≢◌, ℕ, ◌+◌, ◌<◌, ◌≤◌, List, [], ◌∷◌, ◌++◌, length, take, slice_index, get_or, set, length-set, sym, refl, ap, ◌∙◌, subst, append_assoc, inl, inr}
+use Rattle.std.proofs.lemmas.Grind.{get_or_default_zero}
+use Rattle.std.proofs.lemmas.List.{take_more_set}
+use Rattle.race_board.specs.Words.{number, parent, cancel, banned, by, ban_word}
+use Rattle.race_board.specs.Board.{ban, no_ban}
+use Rattle.race_board.specs.Steps.{did, noted, banning, with_ban, past, struck, missed}
+use Rattle.race_board.specs.Calls.{Longer, OnlySteps}
+use Rattle.race_board.specs.Lists.{Listing, with_one, last_with}
+use Rattle.race_board.specs.declared.views.Did.{Did}
+use Rattle.race_board.specs.declared.views.Size.{Size}
+use Rattle.race_board.specs.declared.views.Ban.{Ban}
+use Rattle.race_board.specs.declared.views.View.{View}
+use Rattle.race_board.proofs.Parts.{zero_parent, zero_number, banned_ban, by_ban, ban_none}
+use Rattle.race_board.proofs.Gained.{longer_same, longer_more, longer_trans, only_more, saw_now, saw_more}
+use Rattle.race_board.proofs.Listed.{put_is, bans_set, bans_again, listing_ban, listing_passes, listing_marked, none_seen}
+use Rattle.race_board.proofs.board.RaceBoard.unban.Goals as goal
+
+pub invariant_of-seat : goal.invariant_of-seat
+invariant_of-seat g c = let seat = c.args.seat.now in let v : View = seat.place.me.0 in let w : View = c.lift.new.seat.me.0 in let z : Size = c.args.self.now.words.size in let j : ℕ = c.in-Some.place in
+    let near : j < length seat.bans.items = c.in-Some.ensures.found.0 in let inside : j < length v.bans = (let a = seat.sized in omega arith) in
+    let e : w ≡ noted (with_ban v j no_ban) (did (z.slots + j + 1) c.lift.result 0) = c.lift.ensures.lifts in
+    let bans_are : w.bans ≡ set v.bans j no_ban = ap (λ (q : View). q.bans) e in let size : w.size ≡ v.size = ap (λ (q : View). q.size) e in
+    record {
+      bare = c.lift.ensures.fits.1;
+      role = ap (λ (q : View). q.lead) e ∙ seat.role;
+      sized = (length-set seat.bans.items j 0 ∙ (seat.sized.0 ∙ sym (ap (λ (q : Size). q.bans) size)), ap length bans_are ∙ (length-set v.bans j no_ban ∙ (seat.sized.1 ∙ sym (ap (λ (q : Size). q.bans) size))));
+      latest = (seat.latest.0 ∙ sym (ap (λ (q : Size). q.slots) size), seat.latest.1 ∙ sym (ap (λ (q : View). q.last) e));
+      idle = (ap (λ (q : View). q.about) e ∙ seat.idle.0, ap (λ (q : View). q.loaded) e ∙ seat.idle.1, ap (λ (q : View). q.half) e ∙ seat.idle.2);
+      standing = subst (λ (x : ℕ × List Ban). (i : ℕ) → (slice_index (set seat.bans.items j x.0) i ≡ ban_word (get_or x.1 i no_ban).parent (get_or x.1 i no_ban).cancel) × ((get_or x.1 i no_ban).parent < 16777216) × ((get_or x.1 i no_ban).cancel < 65536) × ((get_or x.1 i no_ban).parent ≢ 0 → (get_or x.1 i no_ban).cancel ≢ 0))
+          (λ i. (ban_none 0 0 refl refl i, sym bans_are i)) (bans_set seat.bans.items v.bans j no_ban near inside (omega arith) (omega arith) (λ f. absurd (f refl)) seat.standing);
+    }

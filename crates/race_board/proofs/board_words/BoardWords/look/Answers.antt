@@ -1,0 +1,16 @@
+use Rattle.std.proofs.Common.{rules, arith, ◌≡◌, ◌≢◌, ℕ, ◌+◌, ◌-◌, ◌<◌, ◌⊎◌, refl, sym, ap, ◌∙◌, subst}
+use Rattle.race_board.specs.Words.{number, parent, banned, by}
+use Rattle.race_board.specs.Board.{hold, no_hold}
+use Rattle.race_board.specs.Steps.{Sat, did, noted, took, with_check, with_hold}
+use Rattle.race_board.specs.StepEvents.{of_end}
+use Rattle.race_board.specs.Turn.{Turn}
+use Rattle.race_board.specs.declared.views.Size.{Size}
+use Rattle.race_board.specs.declared.views.Progress.{Progress}
+use Rattle.race_board.specs.declared.views.Progress.TheVariants.{Next, Clear, Banned}
+use Rattle.race_board.specs.declared.views.View.{View}
+use Rattle.race_board.proofs.DataSteps.{glances_turn}
+use Rattle.race_board.proofs.board_words.BoardWords.look.Goals as goal
+
+pub load-requires : goal.load-requires
+load-requires g c = let seat = c.args.seat.now in let self = c.args.self.now in let key : self.table.shared.key ≡ self.size = search rules in
+    (search rules, search rules, glances_turn g.N.BoardName.allowed self.size self.table.shared.key key self.table.shared.table_id.slots seat.id seat.me c.requires.fits.2 c.requires.data.0 c.requires.fits.1 c.args.slot c.requires.data.1 c.requires.ticket)

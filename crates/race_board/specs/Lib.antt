@@ -1,0 +1,12 @@
+pub mod Words
+pub mod Board
+pub mod Steps
+pub mod Events
+pub mod StepEvents
+pub mod Theorem
+pub mod Turn
+pub mod Keys
+pub mod Seats
+pub mod Calls
+pub mod Checks
+pub mod Lists

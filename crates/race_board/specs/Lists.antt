@@ -1,0 +1,75 @@
+-- What the control seat's calls say.
+use Rattle.std.specs.Prelude.{◌≡◌, ◌≢◌, ℕ, ◌+◌, ◌<◌, ◌⊎◌, List, ◌++◌, ◌∷◌, [], slice_index, slice_set, Option, Some, None}
+use Rattle.std.specs.Int.{bit_at}
+use Rattle.task_table.specs.declared.ended.MarkAnswer.{MarkAnswer}
+use Rattle.task_table.specs.declared.ended.MarkAnswer.TheVariants.{Marked, Already, NotFound}
+use Rattle.race_board.specs.Words.{number, cancel, ban_word}
+use Rattle.race_board.specs.Board.{ban, no_ban}
+use Rattle.race_board.specs.Steps.{did, noted, banning, with_ban}
+use Rattle.race_board.specs.Calls.{Saw, OnlySteps}
+use Rattle.race_board.specs.declared.views.Size.{Size}
+use Rattle.race_board.specs.declared.views.View.{View}
+
+-- the ban is put in a free place by one step
+abbrev pub Bans : View → View → Size → ℕ → ℕ → ℕ → Type 0
+Bans v w z p c j = (j < z.bans) × ((ban v j).parent ≡ 0) × (w ≡ noted (with_ban v j (banning p c 0)) (did (z.slots + j + 1) 0 (ban_word p c)))
+
+-- no ban of the seat has that parent; a free place has the parent 0
+abbrev pub NoneOf : View → Size → ℕ → Type 0
+NoneOf v z p = (j : ℕ) → j < z.bans → (ban v j).parent ≢ p
+
+-- the ban is taken away by one step
+abbrev pub Unbans : View → View → Size → ℕ → Type 0
+Unbans v w z p = (j : ℕ) × (j < z.bans) × ((ban v j).parent ≡ p) × (w ≡ noted (with_ban v j no_ban) (did (z.slots + j + 1) (ban_word p (ban v j).cancel) 0))
+
+-- what was marked
+abbrev pub with_one : List ℕ → Option ℕ → List ℕ
+with_one l (Some n) = l ++ n ∷ []
+with_one l None = l
+
+abbrev pub last_with : List ℕ → ℕ → Option ℕ → List ℕ
+last_with l i (Some n) = slice_set l i n
+last_with l i None = l
+
+-- the scan of the ban at j has come to the slot i, and these numbers are marked
+abbrev pub Listing : View → View → ℕ → ℕ → List ℕ → Type 0
+Listing v w j i ns = w ≡ record v { steps = w.steps; bans = slice_set v.bans j (banning (ban v j).parent (ban v j).cancel i); about = 0; loaded = 0; marked = ns; last = w.last }
+
+-- the scan of the ban at j goes past the slot i
+abbrev pub Passes : View → View → ℕ → ℕ → Option ℕ → Type 0
+Passes v w j i got = w ≡ record v { steps = w.steps; bans = slice_set v.bans j (banning (ban v j).parent (ban v j).cancel (i + 1)); about = 0; loaded = 0; marked = with_one v.marked got; last = last_with v.last i got }
+
+-- one scan of the call met no live word of that number
+abbrev pub SawNone : View → View → ℕ → ℕ → Type 0
+SawNone v w slots n = (i : ℕ) → i < slots → (seen : ℕ) × Saw v w (i + 1) seen × (seen ≢ 0 → number seen ≢ n)
+
+-- the task was seen, and its word had changed before the exchange
+abbrev pub SawGo : View → View → ℕ → Type 0
+SawGo v w n = (i : ℕ) × (before : ℕ) × (after : ℕ) × Saw v w (i + 1) before × Saw v w (i + 1) after × (number before ≡ n) × (before ≢ after)
+
+abbrev pub Marks : View → View → Size → ℕ → MarkAnswer → Type 0
+Marks v w z n Marked = (i : ℕ) × (seen : ℕ) × Saw v w (i + 1) seen × (number seen ≡ n) × (cancel seen ≡ 0) × (w ≡ record v { steps = w.steps; marked = v.marked ++ n ∷ []; last = slice_set v.last i n })
+Marks v w z n (Already k) = OnlySteps v w × ((i : ℕ) × (seen : ℕ) × Saw v w (i + 1) seen × (number seen ≡ n) × (cancel seen ≡ k) × (k ≢ 0))
+Marks v w z n NotFound = OnlySteps v w × (SawNone v w z.slots n ⊎ SawGo v w n)
+
+abbrev pub AlreadyBy : (ℕ → Type 0) → MarkAnswer → Type 0
+AlreadyBy allowed Marked = Unit {0}
+AlreadyBy allowed (Already c) = allowed c
+AlreadyBy allowed NotFound = Unit {0}
+
+-- the task was marked last in the slot i: the mask has the bits of nodes that were loaded, where the word after it was still the task's, and else no bit
+pub record Masks (v w : View) (z : Size) (n nodes i : ℕ) : Type 0 where
+  pub slot : slice_index v.last i ≡ n
+  pub loaded : ℕ
+  pub seen : ℕ
+  pub saw_mask : Saw v w (z.slots + z.bans + i + 1) loaded
+  pub saw_word : Saw v w (i + 1) seen
+  pub bits : number seen ≡ n → (x : ℕ) → x < 16 → bit_at nodes x ≡ bit_at loaded x
+  pub kept : number seen ≡ n → w ≡ record v { steps = w.steps; masks = record { number = n; nodes = loaded } ∷ v.masks }
+  pub none : number seen ≢ n → nodes ≡ 0
+
+-- the word of the slot i was seen before, and a try to mark it is made where it has no mark
+abbrev pub MarksSeen : View → View → ℕ → ℕ → MarkAnswer → Type 0
+MarksSeen v w i seen Marked = (cancel seen ≡ 0) × (w ≡ record v { steps = w.steps; marked = v.marked ++ number seen ∷ []; last = slice_set v.last i (number seen) })
+MarksSeen v w i seen (Already k) = (w ≡ v) × (cancel seen ≡ k) × (k ≢ 0)
+MarksSeen v w i seen NotFound = OnlySteps v w × ((after : ℕ) × Saw v w (i + 1) after × (seen ≢ after))

@@ -1,0 +1,62 @@
+//! The calls of the control seat on marks and masks. Each takes `&self` and no memory, and none waits.
+ghost use Rattle.std.specs.Prelude.{◌≡◌, ◌≢◌, ℕ, ◌+◌, ◌<◌, ◌⊎◌};
+ghost use Rattle.task_ids.specs.Limits.{IsCancel};
+ghost use Rattle.race_board.specs.Words.{number, cancel};
+ghost use Rattle.race_board.specs.Seats.{control_view, board_size, IsControlOf};
+ghost use Rattle.race_board.specs.Calls.{Longer};
+ghost use Rattle.race_board.specs.Turn.{MayMark};
+ghost use Rattle.race_board.specs.Lists.{Marks, MarksSeen, AlreadyBy};
+
+use crate::board::RaceBoard;
+use crate::name::BoardName;
+use crate::seats::ControlSeat;
+use crate::words::{is_word_of, mark_in, number_of};
+use task_table::MarkAnswer;
+
+impl<N: BoardName> RaceBoard<N> {
+    /// Marks the live task with that number, unless it is marked already. It is not found where one scan of the slots
+    /// met no live word of that number, or where the task ended before the exchange.
+    pub fn mark(&self, seat: &mut ControlSeat<N>, number: u32, cancel: u32) -> MarkAnswer
+        requires fits { IsControlOf self.now seat.old }
+        requires cancel { IsCancel cancel × N.allowed cancel }
+        ensures fits { IsControlOf self.now seat.new }
+        ensures steps { Longer (control_view seat.old) (control_view seat.new) }
+        ensures marks { Marks (control_view seat.old) (control_view seat.new) (board_size self.now) number result }
+        ensures allowed { AlreadyBy N.allowed result }
+    {
+        for slot in 0..self.words.size.slots {
+            let seen = self.words.note(&mut seat.place, slot);
+            if is_word_of(seen, number) {
+                return self.mark_seen(seat, slot, seen, cancel);
+            }
+        }
+        MarkAnswer::NotFound
+    }
+
+    // Marks a slot where its word is still the one that was seen.
+    fn mark_seen(
+        &self,
+        seat: &mut ControlSeat<N>,
+        slot: usize,
+        seen: u64,
+        cancel: u32,
+    ) -> MarkAnswer
+        requires fits { IsControlOf self.now seat.old }
+        requires slot { slot < (board_size self.now).slots }
+        requires seen { (seen ≢ 0) × MayMark N.allowed seen }
+        requires cancel { IsCancel cancel × N.allowed cancel }
+        ensures fits { IsControlOf self.now seat.new }
+        ensures steps { Longer (control_view seat.old) (control_view seat.new) }
+        ensures marks { MarksSeen (control_view seat.old) (control_view seat.new) slot seen result }
+        ensures allowed { AlreadyBy N.allowed result }
+    {
+        if let Some(mark) = mark_in(seen) {
+            return MarkAnswer::Already(mark);
+        }
+        if self.words.strike(&mut seat.place, slot, seen, cancel) != seen {
+            return MarkAnswer::NotFound;
+        }
+        seat.marked[slot] = number_of(seen) as u32;
+        MarkAnswer::Marked
+    }
+}
