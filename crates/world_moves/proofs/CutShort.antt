@@ -1,6 +1,6 @@
 -- What was to be done is cut short where the history is full.
-use Rattle.std.proofs.Common.{◌≡◌, ◌++◌, ◌∷◌, List, [], length, ap, subst, sym, refl, inr, ◌⊎◌, ◌∙◌, ◌↔◌}
-use Rattle.std.specs.Prelude.{Result, Ok, Err, OnErr}
+use Rattle.std.proofs.Common.{◌≡◌, ◌++◌, ◌∷◌, List, [], length, ap, subst, sym, refl, inr, ◌∙◌}
+use Rattle.std.specs.Prelude.{Result, Err, OnErr}
 use Rattle.task_events.specs.declared.event.Event.{Event}
 use Rattle.task_events.specs.declared.history.TheConstants.{MAX_EVENTS}
 use Rattle.world_moves.specs.Moves.{IsPartOf, IsPartly, IsCutShort}

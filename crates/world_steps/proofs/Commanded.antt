@@ -126,7 +126,7 @@ module _ (cluster : Cluster) (corpus : Corpus) (index : List ℕ) (body : Data) 
   pub comes : (found : SearchBody) (h new : List Event) → body_or_none (body_at false 0 body) ≡ Some found → has_index corpus.lines index ≡ true → (started : Bool) → Starts cluster h k node started new → Where h new
   comes found h new good known started s = subst (λ b. StartsWhere cluster b k node h new) (sym (both_hold good known)) (started, s)
 
--- ---- early ends
+  -- ---- early ends
 
   pub partly_comes : (found : SearchBody) (h new : List Event) → body_or_none (body_at false 0 body) ≡ Some found → has_index corpus.lines index ≡ true
       → IsPartly (λ x y. (started : Bool) × Starts cluster x k node started y) h new → IsPartly Where h new

@@ -1,4 +1,4 @@
-use Rattle.std.proofs.Common.{◌≡◌, rules, length, ◌∙◌, ◌∷◌, [], ◌++◌, Some, refl, sym, ap, subst, arith}
+use Rattle.std.proofs.Common.{◌≡◌, rules, length, ◌∙◌, ◌∷◌, [], ◌++◌, Some, sym, ap, subst, arith}
 use Rattle.std.specs.Prelude.{Contains, remove, reverse, unwrap_or}
 use Rattle.std.proofs.lemmas.Option.{get_or_from_slice_get}
 use Rattle.cancel_core.specs.Acts.{due_acts}

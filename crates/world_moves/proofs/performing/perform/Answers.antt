@@ -59,6 +59,9 @@ pub returns-in-Err-clause-full : goal.returns-in-Err-clause-full
 returns-in-Err-clause-full c = λ failed.
     let acts = c.args.acts.now in
     let same = c.in-Err.ensures.err in
-    let found = c.in-Err.ensures.full failed in
-    (ap length same ∙ found.0, found.1, subst (λ past. IsPartOf c.args.history.now (found.1 ∷ past) (answers_in acts ++ c.args.history.now)) (sym same)
-    (cut_there acts c.loop-act.act-index c.act-item.result found.1 c.args.history.now c.loop-act.history c.loop-act-test.true c.act-item.is c.loop-act.invariant.answered found.2))
+    let found = c.in-Err.ensures.full failed in (
+      ap length same ∙ found.0,
+      found.1,
+      subst (λ past. IsPartOf c.args.history.now (found.1 ∷ past) (answers_in acts ++ c.args.history.now)) (sym same)
+          (cut_there acts c.loop-act.act-index c.act-item.result found.1 c.args.history.now c.loop-act.history c.loop-act-test.true c.act-item.is c.loop-act.invariant.answered found.2),
+    )

@@ -1,5 +1,4 @@
-use Rattle.std.proofs.Common.{◌≡◌, ◌∷◌, [], ◌∙◌, length, ap, sym, refl}
-use Rattle.std.specs.Prelude.{◌↔◌}
+use Rattle.std.proofs.Common.{◌∷◌, [], ap}
 use Rattle.cancel_core.specs.declared.act.Act.{Act}
 use Rattle.task_events.specs.declared.event.Event.TheVariants.{AnswerPlaced, AnswerDone}
 use Rattle.world_moves.specs.Acts.{answers_in}

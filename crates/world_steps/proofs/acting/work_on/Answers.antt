@@ -1,4 +1,4 @@
-use Rattle.std.proofs.Common.{◌∷◌, ◌∙◌, refl, sym, subst, rules, ◌≡◌, length, Err}
+use Rattle.std.proofs.Common.{◌∷◌, ◌∙◌, refl, sym, subst, rules, ◌≡◌, length}
 use Rattle.task_events.specs.declared.event.Event.TheVariants.{End}
 use Rattle.task_events.specs.declared.step.Do.TheVariants.{AskNext, Turn, Wait, Finish}
 use Rattle.world_moves.specs.Ties.{DoesNext, task_at}
