@@ -79,6 +79,14 @@ module _ (cluster : Cluster) where
   HasCause NumbersSpent kept source sink = StopsRun cluster kept.corpus kept.script kept.history stops.NumbersSpent
   HasCause _ kept source sink = Unit {0}
 
+-- the input was read to its end
+abbrev pub IsReadWhole : Status → Type 0
+IsReadWhole Done = Unit {0}
+IsReadWhole WriteFault = Unit {0}
+IsReadWhole HistoryFull = Unit {0}
+IsReadWhole NumbersSpent = Unit {0}
+IsReadWhole _ = ⊥
+
 -- A whole run is over with all that it began.
 abbrev pub Rests : Status → Kept → Type 0
 Rests Done kept = IsOver kept.history

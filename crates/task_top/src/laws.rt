@@ -7,9 +7,11 @@ ghost use Rattle.task_ids.specs.declared.task_id.TaskId.{TaskId};
 ghost use Rattle.task_events.specs.declared.event.Event.{Event};
 ghost use Rattle.task_events.specs.Bans.{standing_ban};
 ghost use Rattle.task_events.specs.Lawful.{Lawful};
+ghost use Rattle.task_events.specs.declared.history.TheConstants.{MAX_EVENTS};
 ghost use Rattle.task_events.specs.Laws.{IsDrained};
 ghost use Rattle.script_lang.specs.declared.command.Mode.{Mode};
 ghost use Rattle.script_lang.specs.declared.command.Script.{Script};
+ghost use Rattle.world_moves.specs.Moves.{greatest_number};
 ghost use Rattle.task_top.specs.Promises.{CancelsExactly, KeepsAllLaws};
 ghost use Rattle.task_top.specs.Reading.{max_input, Reads, Refuses, IsRead, IsRefused};
 
@@ -31,6 +33,16 @@ pub fn one_reading()
 
     // No line is to blame exactly where the input is too long.
     ensures too_long { (mode : Mode) (cluster : Cluster) (input : List ℕ) → Refuses mode cluster input 0 TooLong ↔ (max_input < length input) }
+{}
+
+/// The limits that the other contracts name, as numbers: a history has at most 4,000,000 events, a node gives at most 1,048,575
+/// numbers, and an input has at most 67,108,864 bytes.
+///
+/// It computes nothing: its contract is the law.
+pub fn limits()
+    ensures events { MAX_EVENTS ≡ 4000000 }
+    ensures numbers { greatest_number ≡ 1048575 }
+    ensures bytes { max_input ≡ 67108864 }
 {}
 
 /// The laws of cancellation hold at a moment of a lawful history; where it is drained no ban stands; and a command's task

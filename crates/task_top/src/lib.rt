@@ -12,7 +12,7 @@ mod top;
 mod words;
 
 pub use kept::Kept;
-pub use laws::one_reading;
+pub use laws::{limits, one_reading};
 pub use line_print::{Idle, print_lines};
 pub use plans::{Plan, PlanError};
 pub use script_lang::{Command, Script};

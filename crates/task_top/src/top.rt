@@ -1,10 +1,10 @@
-ghost use Rattle.std.specs.Prelude.{◌<◌, ◌≡◌, ◌≤◌, ◌++◌, List, length, IfSome};
+ghost use Rattle.std.specs.Prelude.{◌<◌, ◌≡◌, ◌≤◌, ◌++◌, List, [], length, IfSome, Some};
 ghost use Rattle.es_io.specs.Count.{Rose};
 ghost use Rattle.task_events.specs.declared.event.Event.{Event};
 ghost use Rattle.task_events.specs.Lawful.{Lawful};
 ghost use Rattle.world_moves.specs.Plain.{AnswersPlainly};
 ghost use Rattle.world_steps.specs.Scripts.{CanRun};
-ghost use Rattle.task_top.specs.Kept.{AnswersInput, RanAsRead, Rests, WritesLines, HasCause, IsAfterReading, early_status};
+ghost use Rattle.task_top.specs.Kept.{AnswersInput, IsReadWhole, RanAsRead, Rests, WritesLines, HasCause, IsAfterReading, early_status};
 ghost use Rattle.task_top.specs.Progress.{EndsWhole};
 ghost use Rattle.task_top.specs.Promises.{KeepsAllLaws, CancelsExactly};
 
@@ -40,6 +40,8 @@ pub fn sim_top<S: Source, K: Sink>(
 ) -> (Status, Kept)
     // Where the source tells its bytes: they were read as what is kept, or they are refused so.
     ensures input { IfSome (S.left input.old) (λ bytes. AnswersInput cluster.now bytes result.0 result.1) }
+    // Once something has happened, nothing of it is left.
+    ensures ended { IsReadWhole result.0 → IfSome (S.left input.old) (λ _. S.left input.new ≡ Some []) }
     // What happened is the run of what was read.
     ensures run { RanAsRead cluster.now result.0 result.1 }
     // Each event of it was allowed when it came.
