@@ -1,5 +1,5 @@
 -- The steps of the control seat, each between two moments.
-use Rattle.std.proofs.Common.{◌≡◌, ◌≢◌, ℕ, ◌+◌, ◌-◌, ◌*◌, ◌<◌, ◌⊎◌, ◌&&◌, List, [], ◌∷◌, length, get_or, set, sym, refl, ap, ◌∙◌, subst, ⊎_elim, inl, inr, arith, eqb, eq-eqb, ne_eqb, get_or-set_other, get_or-set_same}
+use Rattle.std.proofs.Common.{◌≡◌, ◌≢◌, ℕ, ◌+◌, ◌-◌, ◌<◌, ◌⊎◌, ◌&&◌, [], length, get_or, set, sym, ap, ◌∙◌, subst, ⊎_elim, inl, inr, arith, eqb, get_or-set_other, get_or-set_same}
 use mathlib.Core.Logic.{dite}
 use mathlib.Core.Option.{none, some}
 use native.Mathlib.Decide.{ℕ_discrete}
@@ -13,9 +13,8 @@ use Rattle.race_board.specs.Steps.{Sat, after_note, after_ban, after_scan, after
 use Rattle.race_board.specs.Events.{listed}
 use Rattle.race_board.specs.StepEvents.{of_ban, of_scan, of_mark, of_unban}
 use Rattle.race_board.specs.Theorem.{Moment}
-use Rattle.race_board.specs.Turn.{Turned, Named, Rule, MayMark, MayBan}
+use Rattle.race_board.specs.Turn.{Turned, Named, Rule, MayMark}
 use Rattle.race_board.specs.declared.views.Size.{Size}
-use Rattle.race_board.specs.declared.views.Ban.{Ban}
 use Rattle.race_board.specs.declared.views.View.{View}
 use Rattle.race_board.proofs.Parts.{by_ban, ban_some, ban_none, cancel_mark, mark_some}
 use Rattle.race_board.proofs.Controls.{as_first, control_notes, puts, scans, strikes, halves, wholes, lifts}

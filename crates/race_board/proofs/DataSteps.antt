@@ -1,23 +1,20 @@
 -- The steps of a data seat, each between two moments.
-use Rattle.std.proofs.Common.{◌≡◌, ◌≢◌, ℕ, ◌+◌, ◌-◌, ◌*◌, ◌%◌, ◌^◌, ◌<◌, ◌⊎◌, List, [], length, get_or, set, sym, refl, ap, ◌∙◌, subst, inl, inr, bit_or, bit_and, arith, eqb, eq-eqb, ne_eqb, get_or-set_other, get_or-set_same}
+use Rattle.std.proofs.Common.{◌≡◌, ◌≢◌, ℕ, ◌+◌, ◌-◌, ◌%◌, ◌^◌, ◌<◌, ◌⊎◌, [], length, get_or, set, sym, ap, ◌∙◌, subst, inl, inr, bit_or, bit_and, arith, eqb, eq-eqb, ne_eqb, get_or-set_other, get_or-set_same}
 use mathlib.Core.Logic.{dite}
-use mathlib.Core.Option.{none, some}
+use mathlib.Core.Option.{none}
 use native.Mathlib.Decide.{ℕ_discrete}
-use lib.ListN.{get_elem?}
 use lib.Seq.{set-get_or}
 use prog.Atomic.{either}
 use Rattle.atomic_table.specs.Table.{step, Allows}
-use Rattle.race_board.specs.Words.{number, parent, cancel, banned, by}
-use Rattle.race_board.specs.Board.{hold, task, BoardOk}
+use Rattle.race_board.specs.Words.{number, cancel, banned}
+use Rattle.race_board.specs.Board.{hold, task}
 use Rattle.race_board.specs.Steps.{Sat, after_draw, after_claim, after_glance, after_check, after_end, after_track, after_untrack, after_look}
 use Rattle.race_board.specs.StepEvents.{of_claim, of_check, of_end, of_track_look, of_look}
 use Rattle.race_board.specs.Theorem.{Moment}
 use Rattle.race_board.specs.Turn.{Turned, Named, Rule, MayMark, MayBan}
 use Rattle.race_board.specs.declared.views.Size.{Size}
 use Rattle.race_board.specs.declared.views.Hold.{Hold}
-use Rattle.race_board.specs.declared.views.Progress.{Progress}
 use Rattle.race_board.specs.declared.views.Progress.TheVariants.{Next}
-use Rattle.race_board.specs.declared.views.View.{View}
 use Rattle.race_board.proofs.Parts.{zero_number, zero_cancel}
 use Rattle.race_board.proofs.Holders.{draws, claims, glances, checks, ends, tracks, untracks, looks}
 use Rattle.race_board.proofs.Follows.{same_follows, calm_follows, silent_either, claim_follows, end_follows}

@@ -13,7 +13,7 @@ use Rattle.race_board.specs.declared.views.Progress.{Progress}
 use Rattle.race_board.specs.declared.views.Progress.TheVariants.{Next, Clear, Banned}
 use Rattle.race_board.specs.declared.views.Size.{Size}
 use Rattle.race_board.specs.declared.views.View.{View}
-use Rattle.race_board.proofs.Parts.{zero_number, whole_ban, number_mark, parent_mark, cancel_mark}
+use Rattle.race_board.proofs.Parts.{whole_ban, number_mark, parent_mark, cancel_mark}
 
 -- events that change neither the live tasks nor the bans
 abbrev pub Silent : List Event → Type 0

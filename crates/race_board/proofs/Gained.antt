@@ -1,17 +1,16 @@
 -- The facts of one call, over a further step.
-use Rattle.std.proofs.Common.{◌≡◌, ◌≢◌, ℕ, ◌+◌, ◌-◌, ◌<◌, List, [], ◌∷◌, ◌++◌, length, get_or, set, sym, refl, ap, ◌∙◌, subst, arith, append_assoc, length-append, get_or-set_other, get_or-set_same}
+use Rattle.std.proofs.Common.{◌≡◌, ◌≢◌, ℕ, ◌+◌, ◌<◌, List, [], ◌∷◌, ◌++◌, length, get_or, set, sym, refl, ap, ◌∙◌, subst, arith, append_assoc, length-append, get_or-set_other, get_or-set_same}
 use mathlib.Core.Logic.{dite}
 use native.Mathlib.Decide.{ℕ_discrete}
 use lib.ListN.{get_elem?}
 use Rattle.atomic_table.proofs.Lists.{at_longer, at_last}
-use Rattle.race_board.specs.Words.{number, parent, task_word}
+use Rattle.race_board.specs.Words.{number, parent}
 use Rattle.race_board.specs.Board.{no_hold}
-use Rattle.race_board.specs.Steps.{did, noted, took, fresh}
-use Rattle.race_board.specs.Calls.{Longer, Saw, OnlySteps, SawFull, TakesAt, Takes, ticket}
+use Rattle.race_board.specs.Steps.{did, noted, took}
+use Rattle.race_board.specs.Calls.{Longer, Saw, OnlySteps, SawFull, TakesAt, ticket}
 use Rattle.race_board.specs.declared.views.Did.{Did}
 use Rattle.race_board.specs.declared.views.Hold.{Hold}
 use Rattle.race_board.specs.declared.views.View.{View}
-use Rattle.race_board.proofs.Parts.{number_task, parent_task}
 
 pub longer_same : (v : View) → Longer v v
 longer_same v = ([], sym (nil_right v.steps))

@@ -102,9 +102,13 @@ module _ (z : Size) where
   -- a load of the seat's own task word
   pub glances : (slots id : ℕ) (me : M) (i : ℕ) → me.0.lead ≡ 0 → me.1 ≡ [] → (hold me.0 i).number ≢ 0 → Allows (BoardOk z) slots id me (i + 1) (λ n. n) (after_glance (step slots (i + 1) 0 0 none) me)
   glances slots id me i idle bare full s (c, r) _ there _ = let holder = apart_from_first z c s r id me.0 there idle in let n : ℕ = get_or s.words (i + 1) 0 in let w : View = noted me.0 (did (i + 1) n n) in
-      let a = (r.seats id me.0 there).holds i full in
-      (w, keeps, tt, quiet z c s r id me.0 w (i + 1) there holder refl refl (λ i. refl) (alike z c s r id me.0 w refl refl refl refl refl refl (r.seats id me.0 there)),
-        (a.is ∙ ap (λ (k : ℕ). (hold me.0 k).number) (back_one i), a.child_of ∙ ap (λ (k : ℕ). (hold me.0 k).parent) (back_one i), goes me w bare))
+      let a = (r.seats id me.0 there).holds i full in (
+        w,
+        keeps,
+        tt,
+        quiet z c s r id me.0 w (i + 1) there holder refl refl (λ i. refl) (alike z c s r id me.0 w refl refl refl refl refl refl (r.seats id me.0 there)),
+        (a.is ∙ ap (λ (k : ℕ). (hold me.0 k).number) (back_one i), a.child_of ∙ ap (λ (k : ℕ). (hold me.0 k).parent) (back_one i), goes me w bare),
+      )
 
   pub draws : (slots id : ℕ) (me : M) → me.0.lead ≡ 0 → me.1 ≡ [] → me.0.drawn ≡ 0 → me.0.told ≡ 0 → Allows (BoardOk z) slots id me 0 (λ n. (n + 1) % 2 ^ 64) (after_draw (step slots 0 1 0 none) me)
   draws slots id me idle bare free untold s (c, r) _ there small = let holder = apart_from_first z c s r id me.0 there idle in let n : ℕ = get_or s.words 0 0 in let ok = r.seats id me.0 there in

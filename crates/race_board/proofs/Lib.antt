@@ -11,6 +11,6 @@ pub mod Gained
 pub mod Listed
 pub mod MarkSteps
 pub mod Tracked
+pub mod Masked
 pub mod Checking
 pub mod Marks
-pub mod Joined

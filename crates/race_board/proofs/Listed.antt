@@ -1,12 +1,12 @@
 -- The calls of the control seat, over one step.
-use Rattle.std.proofs.Common.{◌≡◌, ◌≢◌, ℕ, ◌+◌, ◌-◌, ◌<◌, List, [], ◌∷◌, ◌++◌, length, get_or, set, sym, refl, ap, ◌∙◌, subst, arith, Option, None, Some, get_or-set_other, get_or-set_same, take, append-nil}
+use Rattle.std.proofs.Common.{◌≡◌, ◌≢◌, ℕ, ◌+◌, ◌<◌, List, [], ◌∷◌, ◌++◌, length, get_or, set, sym, refl, ap, ◌∙◌, subst, arith, Option, None, Some, get_or-set_other, get_or-set_same, take, append-nil}
 use Rattle.std.proofs.lemmas.List.{set-set, set-get_or}
 use mathlib.Core.Logic.{dite}
 use native.Mathlib.Decide.{ℕ_discrete}
 use Rattle.race_board.specs.Words.{number, banned, by, ban_word}
 use Rattle.race_board.specs.Board.{ban, no_ban}
 use Rattle.race_board.specs.Steps.{did, noted, banning, with_ban, past, struck, missed}
-use Rattle.race_board.specs.Calls.{Longer, Saw, OnlySteps}
+use Rattle.race_board.specs.Calls.{Longer, Saw}
 use Rattle.race_board.specs.Lists.{with_one, last_with, Listing, Passes, SawNone}
 use Rattle.race_board.specs.declared.views.Did.{Did}
 use Rattle.race_board.specs.declared.views.Ban.{Ban}

@@ -1,5 +1,5 @@
 -- The mark in a word.
-use Rattle.std.proofs.Common.{rules, ◌∙◌, ◌≡◌, ◌≢◌, ℕ, Option, Some, None, cond, IfSome, sym, refl, ap, subst, eqb, eq-eqb, ne_eqb}
+use Rattle.std.proofs.Common.{rules, ◌∙◌, ◌≡◌, ◌≢◌, ℕ, Option, Some, None, cond, IfSome, sym, ap, subst, eq-eqb, ne_eqb}
 use mathlib.Core.Logic.{dite}
 use native.Mathlib.Decide.{ℕ_discrete}
 use Rattle.race_board.specs.Words.{cancel}

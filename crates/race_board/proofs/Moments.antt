@@ -1,20 +1,13 @@
 -- The rule gives the theorem at each moment.
-use Rattle.std.proofs.Common.{◌≡◌, ◌≢◌, ℕ, ◌+◌, ◌*◌, ◌<◌, ◌≤◌, List, [], get_or, set, sym, refl, ap, ◌∙◌, subst, arith, inl, inr}
+use Rattle.std.proofs.Common.{◌≡◌, ◌≢◌, ℕ, ◌+◌, ◌*◌, ◌<◌, ◌≤◌, get_or, sym, ap, ◌∙◌, subst, arith}
 use mathlib.Core.Logic.{dite}
-use mathlib.Core.Option.{none, some-injective}
 use native.Mathlib.Decide.{ℕ_discrete, dec_le}
-use lib.Seq.{set-get_or}
-use Rattle.atomic_table.specs.Table.{step, Allows}
-use Rattle.race_board.specs.Words.{number, parent, cancel, ban_word}
-use Rattle.race_board.specs.Board.{hold, ban, task, Has, Late, BoardAt, BoardOk}
+use Rattle.race_board.specs.Words.{number, parent, cancel}
+use Rattle.race_board.specs.Board.{hold, ban, task, Has, BoardAt, BoardOk}
 use Rattle.race_board.specs.Theorem.{Moment, Sits, Against, Held, Asked, Holds}
 use Rattle.race_board.specs.declared.views.Size.{Size}
-use Rattle.race_board.specs.declared.views.Did.{Did}
-use Rattle.race_board.specs.declared.views.Ban.{Ban}
 use Rattle.race_board.specs.declared.views.View.{View}
 use Rattle.race_board.proofs.Parts.{zero_cancel, zero_number, zero_parent, ban_none}
-use Rattle.race_board.proofs.Controls.{at_first, at_zero, control_quiet}
-use Rattle.race_board.proofs.Boards.{same_late}
 
 module _ (z : Size) (c : View) (s : Moment) (r : BoardAt z c s) where
   -- a number that is anywhere is given

@@ -1,11 +1,11 @@
 -- The two steps of a track.
-use Rattle.std.proofs.Common.{◌≡◌, ◌≢◌, ℕ, ◌+◌, ◌<◌, [], ◌∷◌, ◌++◌, length, get_or, set, sym, refl, ap, ◌∙◌, subst, get_or-set_same, get_or-set_other}
+use Rattle.std.proofs.Common.{◌≡◌, ◌≢◌, ℕ, ◌<◌, [], ◌∷◌, ◌++◌, length, get_or, set, sym, refl, ap, ◌∙◌, get_or-set_same, get_or-set_other}
 use Rattle.std.proofs.lemmas.List.{set-set}
 use mathlib.Core.Logic.{dite}
 use native.Mathlib.Decide.{ℕ_discrete}
 use Rattle.race_board.specs.Words.{cancel}
 use Rattle.race_board.specs.Board.{hold, no_hold}
-use Rattle.race_board.specs.Steps.{noted, did, with_hold, seeking, cleared_hold}
+use Rattle.race_board.specs.Steps.{noted, with_hold, seeking, cleared_hold}
 use Rattle.race_board.specs.Checks.{Becomes}
 use Rattle.race_board.specs.declared.views.Did.{Did}
 use Rattle.race_board.specs.declared.views.Hold.{Hold}

@@ -1,8 +1,8 @@
 -- A step that keeps the rule of the words takes the board from one moment to the next.
-use Rattle.std.proofs.Common.{◌≡◌, ◌≢◌, ℕ, ◌+◌, ◌<◌, ◌⊎◌, List, get_or, set, sym, refl, ap, ◌∙◌, subst, ⊎_elim, arith}
+use Rattle.std.proofs.Common.{◌≡◌, ◌≢◌, ℕ, ◌+◌, ◌<◌, ◌⊎◌, List, get_or, set, sym, refl, ap, ◌∙◌, subst, ⊎_elim}
 use mathlib.Core.Option.{some}
 use lib.ListN.{get_elem?}
-use Rattle.atomic_table.specs.Table.{State, stepped, Allows}
+use Rattle.atomic_table.specs.Table.{stepped, Allows}
 use Rattle.race_board.specs.Words.{cancel, by}
 use Rattle.race_board.specs.Board.{task, BoardOk}
 use Rattle.race_board.specs.Steps.{Sat}
@@ -10,7 +10,6 @@ use Rattle.race_board.specs.Events.{Event, Follows}
 use Rattle.race_board.specs.Theorem.{Moment}
 use Rattle.race_board.specs.Turn.{Turn, Named, Rule}
 use Rattle.race_board.specs.declared.views.Size.{Size}
-use Rattle.race_board.specs.declared.views.View.{View}
 use Rattle.race_board.proofs.Moments.{moment}
 
 -- The table's key is the size that the board keeps

@@ -1,10 +1,10 @@
 -- What the calls say of the seat's view before and after.
-use Rattle.std.specs.Prelude.{◌≡◌, ◌≢◌, ℕ, ◌+◌, ◌<◌, ◌≤◌, ◌⊎◌, List, ◌++◌, [], ◌∷◌, length, slice_set}
+use Rattle.std.specs.Prelude.{◌≡◌, ◌≢◌, ℕ, ◌+◌, ◌<◌, ◌≤◌, ◌⊎◌, List, ◌++◌, length, slice_set}
 use mathlib.Core.Option.{some}
 use lib.ListN.{get_elem?}
 use Rattle.child_track.specs.Token.{token_parent}
 use Rattle.task_table.specs.TicketParts.{TicketParts}
-use Rattle.race_board.specs.Words.{number, parent, banned, by}
+use Rattle.race_board.specs.Words.{banned, by}
 use Rattle.race_board.specs.Keys.{parent_key}
 use Rattle.race_board.specs.Board.{hold}
 use Rattle.race_board.specs.Steps.{did, noted, refused, fresh}

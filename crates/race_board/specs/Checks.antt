@@ -1,5 +1,5 @@
 -- What `check`, `end`, `look`, `track` and `untrack` say.
-use Rattle.std.specs.Prelude.{◌≡◌, ◌≢◌, ℕ, ◌+◌, ◌-◌, ◌^◌, ◌⊎◌, Option, slice_set, bit_or, bit_and}
+use Rattle.std.specs.Prelude.{◌≡◌, ◌≢◌, ℕ, ◌+◌, ◌-◌, ◌^◌, ◌⊎◌, Option, slice_set, bit_and}
 use Rattle.child_track.specs.Token.{token_parent}
 use Rattle.task_table.specs.TicketParts.{TicketParts}
 use Rattle.task_table.specs.declared.answers.Check.{Check}

@@ -1,5 +1,5 @@
 -- Each step as events: which tasks are live, with parent and mark, and which bans stand, before and after it.
-use Rattle.std.specs.Prelude.{◌≡◌, ◌≢◌, ℕ, zero, suc, ◌+◌, ◌<◌, ◌==◌, ◌⊎◌, ◌↔◌, cond, List, [], ◌∷◌, slice_index}
+use Rattle.std.specs.Prelude.{◌≡◌, ◌≢◌, ℕ, ◌+◌, ◌<◌, ◌==◌, ◌⊎◌, ◌↔◌, cond, List, [], ◌∷◌, slice_index}
 use Rattle.race_board.specs.Words.{number, parent, cancel, ban_word}
 use Rattle.race_board.specs.Board.{task}
 use Rattle.race_board.specs.declared.views.Size.{Size}

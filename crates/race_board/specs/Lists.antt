@@ -1,6 +1,5 @@
 -- What the control seat's calls say.
-use Rattle.std.specs.Prelude.{◌≡◌, ◌≢◌, ℕ, ◌+◌, ◌<◌, ◌⊎◌, List, ◌++◌, ◌∷◌, [], slice_index, slice_set, Option, Some, None}
-use Rattle.std.specs.Int.{bit_at}
+use Rattle.std.specs.Prelude.{◌≡◌, ◌≢◌, ℕ, ◌+◌, ◌%◌, ◌<◌, ◌⊎◌, List, ◌++◌, ◌∷◌, [], slice_index, slice_set, Option, Some, None}
 use Rattle.task_table.specs.declared.ended.MarkAnswer.{MarkAnswer}
 use Rattle.task_table.specs.declared.ended.MarkAnswer.TheVariants.{Marked, Already, NotFound}
 use Rattle.race_board.specs.Words.{number, cancel, ban_word}
@@ -57,16 +56,20 @@ AlreadyBy allowed Marked = Unit {0}
 AlreadyBy allowed (Already c) = allowed c
 AlreadyBy allowed NotFound = Unit {0}
 
--- the task was marked last in the slot i: the mask has the bits of nodes that were loaded, where the word after it was still the task's, and else no bit
+-- the task was marked last in the slot i: the mask of nodes is what was loaded, where the word after it was still the task's, and else empty
 pub record Masks (v w : View) (z : Size) (n nodes i : ℕ) : Type 0 where
   pub slot : slice_index v.last i ≡ n
   pub loaded : ℕ
   pub seen : ℕ
   pub saw_mask : Saw v w (z.slots + z.bans + i + 1) loaded
   pub saw_word : Saw v w (i + 1) seen
-  pub bits : number seen ≡ n → (x : ℕ) → x < 16 → bit_at nodes x ≡ bit_at loaded x
-  pub kept : number seen ≡ n → w ≡ record v { steps = w.steps; masks = record { number = n; nodes = loaded } ∷ v.masks }
-  pub none : number seen ≢ n → nodes ≡ 0
+  pub whole : seen ≢ 0 → number seen ≡ n → (nodes ≡ loaded % 65536) × (w.masks ≡ record { number = n; nodes = loaded } ∷ v.masks)
+  pub none : (seen ≢ 0 → number seen ≢ n) → nodes ≡ 0
+  pub frame : w ≡ record v { steps = w.steps; masks = w.masks; half_mask = w.half_mask }
+
+-- or it was marked last in no slot, since each of its was taken and marked again
+abbrev pub IsMask : View → View → Size → ℕ → ℕ → Type 0
+IsMask v w z n nodes = ((i : ℕ) × (i < z.slots) × Masks v w z n nodes i) ⊎ (((i : ℕ) → i < z.slots → slice_index v.last i ≢ n) × (w ≡ v) × (nodes ≡ 0))
 
 -- the word of the slot i was seen before, and a try to mark it is made where it has no mark
 abbrev pub MarksSeen : View → View → ℕ → ℕ → MarkAnswer → Type 0

@@ -1,7 +1,7 @@
 -- The events of each kind of step.
-use Rattle.std.specs.Prelude.{ℕ, zero, suc, ◌+◌, ◌-◌, ◌==◌, ◌&&◌, cond, List, [], ◌∷◌, ◌++◌}
+use Rattle.std.specs.Prelude.{ℕ, zero, suc, ◌==◌, ◌&&◌, cond, List, [], ◌∷◌}
 use Rattle.race_board.specs.Words.{number, parent, cancel, banned, by}
-use Rattle.race_board.specs.Board.{hold, ban}
+use Rattle.race_board.specs.Board.{ban}
 use Rattle.race_board.specs.Events.{Event, put, passed, refused, ended, asked, worked, marked, ban_put, listed, ban_gone}
 use Rattle.race_board.specs.declared.views.Progress.{Progress}
 use Rattle.race_board.specs.declared.views.Progress.TheVariants.{Next, Clear, Banned}

@@ -1,7 +1,5 @@
 -- What each step tells, and the facts of one call.
-use Rattle.std.specs.Prelude.{◌≡◌, ◌≢◌, ℕ, ◌+◌, ◌-◌, ◌<◌, ◌≤◌, cond, ◌==◌, List, [], ◌∷◌, ◌++◌, length, slice_set, bit_or, bit_and, max}
-use mathlib.Core.Option.{some}
-use lib.ListN.{get_elem?}
+use Rattle.std.specs.Prelude.{◌≡◌, ◌≢◌, ℕ, ◌+◌, ◌-◌, ◌<◌, ◌≤◌, cond, ◌==◌, [], ◌∷◌, ◌++◌, slice_set, bit_or, bit_and, max}
 use Rattle.atomic_table.specs.Table.{Me, Step}
 use Rattle.race_board.specs.Words.{number, parent, cancel, banned, by, ban_word}
 use Rattle.race_board.specs.Board.{hold, ban, no_hold, no_ban}

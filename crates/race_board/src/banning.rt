@@ -33,12 +33,7 @@ impl<N: BoardName> ControlSeat<N> {
 impl<N: BoardName> RaceBoard<N> {
     /// Puts a ban of the parent, and gives the place of its word. There is no room exactly where every ban word holds a
     /// ban; then no step was taken.
-    pub fn ban(
-        &self,
-        seat: &mut ControlSeat<N>,
-        parent: TaskId,
-        cancel: u32,
-    ) -> Result<u32, NoRoom>
+    pub fn ban(&self, seat: &mut ControlSeat<N>, parent: TaskId, cancel: u32) -> Result<u32, NoRoom>
         requires fits { IsControlOf self.now seat.old }
         requires new { NoneOf (control_view seat.old) (board_size self.now) (task_key parent) }
         requires cancel { IsCancel cancel × N.allowed cancel }

@@ -114,9 +114,7 @@ impl<N: BoardName> BoardWords<N> {
         ensures turn { Turn seat.old.me.0.size seat.old.me.0 seat.new.me.0 (slot + 1) result result (of_track_look (hold seat.old.me.0 slot) result) }
         ensures allowed { MayMark N.allowed result }
     {
-        self.table
-            .shared
-            .load::<TrackLook<N>>(seat, slot + 1)
+        self.table.shared.load::<TrackLook<N>>(seat, slot + 1)
     }
 
     /// Sets bits in the mask of a ticket, and gives what it was.
@@ -142,8 +140,6 @@ impl<N: BoardName> BoardWords<N> {
         ensures turn { Turn seat.old.me.0.size seat.old.me.0 seat.new.me.0 (self.now.size.slots + self.now.size.bans + slot + 1) result (bit_and result bits) [] }
     {
         let mask = self.size.slots + self.size.bans + slot + 1;
-        self.table
-            .shared
-            .fetch_and::<Untrack>(seat, mask, bits)
+        self.table.shared.fetch_and::<Untrack>(seat, mask, bits)
     }
 }

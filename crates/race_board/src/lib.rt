@@ -15,6 +15,8 @@ mod plays;
 mod registering;
 mod rule;
 mod seats;
+#[cfg(test)]
+mod tests;
 mod views;
 mod words;
 

@@ -1,16 +1,18 @@
 //! The calls of the control seat on marks and masks. Each takes `&self` and no memory, and none waits.
-ghost use Rattle.std.specs.Prelude.{◌≡◌, ◌≢◌, ℕ, ◌+◌, ◌<◌, ◌⊎◌};
+ghost use Rattle.std.specs.Prelude.{◌≡◌, ◌≢◌, ℕ, ◌+◌, ◌<◌, ◌⊎◌, length, slice_index, IfSome, IfNone};
 ghost use Rattle.task_ids.specs.Limits.{IsCancel};
 ghost use Rattle.race_board.specs.Words.{number, cancel};
+ghost use Rattle.race_board.specs.Board.{In};
 ghost use Rattle.race_board.specs.Seats.{control_view, board_size, IsControlOf};
 ghost use Rattle.race_board.specs.Calls.{Longer};
 ghost use Rattle.race_board.specs.Turn.{MayMark};
-ghost use Rattle.race_board.specs.Lists.{Marks, MarksSeen, AlreadyBy};
+ghost use Rattle.race_board.specs.Lists.{Marks, MarksSeen, AlreadyBy, IsMask};
 
 use crate::board::RaceBoard;
 use crate::name::BoardName;
 use crate::seats::ControlSeat;
 use crate::words::{is_word_of, mark_in, number_of};
+use child_track::NodeSet;
 use task_table::MarkAnswer;
 
 impl<N: BoardName> RaceBoard<N> {
@@ -58,5 +60,40 @@ impl<N: BoardName> RaceBoard<N> {
         }
         seat.marked[slot] = number_of(seen) as u32;
         MarkAnswer::Marked
+    }
+
+    /// The nodes in the mask of a task that this seat has marked, by a load of the mask and one of the task's word after
+    /// it. There is none where the word is no longer that task's.
+    pub fn mask(&self, seat: &mut ControlSeat<N>, number: u32) -> NodeSet
+        requires fits { IsControlOf self.now seat.old }
+        requires marked { In number (control_view seat.old).marked }
+        ensures fits { IsControlOf self.now seat.new }
+        ensures mask { IsMask (control_view seat.old) (control_view seat.new) (board_size self.now) number result.0 }
+    {
+        let Some(slot) = seat.slot_marked(number) else {
+            return NodeSet(0);
+        };
+        let mask = self.words.load_mask(&mut seat.place, slot);
+        let seen = self.words.load_masked(&mut seat.place, slot);
+        if is_word_of(seen, number) {
+            NodeSet((mask % 65_536) as u16)
+        } else {
+            NodeSet(0)
+        }
+    }
+}
+
+impl<N: BoardName> ControlSeat<N> {
+    // The slot in which the task was marked last.
+    fn slot_marked(&self, number: u32) -> Option<usize>
+        ensures found { IfSome result (λ i. (i < length self.now.marked.items) × (slice_index self.now.place.me.0.last i ≡ number)) }
+        ensures none { IfNone result ((i : ℕ) → i < length self.now.marked.items → slice_index self.now.place.me.0.last i ≢ number) }
+    {
+        for slot in 0..self.marked.len() {
+            if self.marked[slot] == number {
+                return Some(slot);
+            }
+        }
+        None
     }
 }

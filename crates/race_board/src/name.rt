@@ -17,6 +17,7 @@ impl BoardName for AnyCancel {
 // Which ticket or which ban a load is for. Each call picks it.
 pub(crate) trait About {
     ghost slot: { ℕ };
+
     ghost place: { ℕ };
 }
 

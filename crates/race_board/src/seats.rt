@@ -28,6 +28,7 @@ pub struct DataSeat<N: BoardName> {
     ghost refused: { (told ≡ false → place.me.0.told ≡ 0) × (told ≡ true → place.me.0.told ≡ 1) },
     ghost drawn: { place.me.0.drawn < 1048576 },
     ghost greatest: { place.me.0.most ≡ most },
+    ghost present: { place.me.0.gone ≡ 0 },
 }
 
 /// The seat of a node's control worker. It has the bans that were put with it.

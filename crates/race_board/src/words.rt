@@ -1,6 +1,5 @@
 //! Words and their parts.
 ghost use Rattle.std.specs.Prelude.{◌≡◌, ◌<◌, ◌+◌, ◌*◌, ◌^◌, ◌≢◌, MatchBool};
-
 ghost use Rattle.race_board.specs.Keys.{task_key, parent_key, mark_in};
 ghost use Rattle.race_board.specs.Words.{number, parent, cancel, banned, by, task_word, ban_word, with_mark};
 

@@ -1,18 +1,12 @@
-use Rattle.std.proofs.Common.{rules, arith, ◌≡◌, ◌≢◌, ℕ, ◌+◌, ◌<◌, ◌≤◌, List, [], ◌∷◌, ◌++◌, length, take, slice_index, get_or, set, length-set, sym, refl, ap, ◌∙◌, subst, append_assoc, inl, inr}
-use Rattle.std.proofs.lemmas.Grind.{get_or_default_zero}
-use Rattle.std.proofs.lemmas.List.{take_more_set}
-use Rattle.race_board.specs.Words.{number, parent, cancel, banned, by, ban_word}
-use Rattle.race_board.specs.Board.{ban, no_ban}
-use Rattle.race_board.specs.Steps.{did, noted, banning, with_ban, past, struck, missed}
-use Rattle.race_board.specs.Calls.{Longer, OnlySteps}
-use Rattle.race_board.specs.Lists.{Listing, with_one, last_with}
-use Rattle.race_board.specs.declared.views.Did.{Did}
+use Rattle.std.proofs.Common.{rules, arith, ◌≡◌, ◌≢◌, ℕ, ◌+◌, ◌<◌, List, length, slice_index, get_or, set, length-set, sym, ap, ◌∙◌, subst}
+use Rattle.race_board.specs.Words.{banned, by, ban_word}
+use Rattle.race_board.specs.Board.{no_ban}
+use Rattle.race_board.specs.Steps.{did, noted, banning, with_ban}
 use Rattle.race_board.specs.declared.views.Size.{Size}
 use Rattle.race_board.specs.declared.views.Ban.{Ban}
 use Rattle.race_board.specs.declared.views.View.{View}
-use Rattle.race_board.proofs.Parts.{zero_parent, zero_number, banned_ban, by_ban, ban_none}
-use Rattle.race_board.proofs.Gained.{longer_same, longer_more, longer_trans, only_more, saw_now, saw_more}
-use Rattle.race_board.proofs.Listed.{put_is, bans_set, bans_again, listing_ban, listing_passes, listing_marked, none_seen}
+use Rattle.race_board.proofs.Parts.{banned_ban, by_ban}
+use Rattle.race_board.proofs.Listed.{put_is, bans_set}
 use Rattle.race_board.proofs.board.RaceBoard.ban.Goals as goal
 
 pub put-requires-clause-word : goal.put-requires-clause-word
@@ -22,9 +16,11 @@ put-requires-clause-word g c = let p : ℕ = c.key_of.result in let k : ℕ = c.
 
 pub returns-clause-put : goal.returns-clause-put
 returns-clause-put g c = let v : View = c.args.seat.now.place.me.0 in let w : View = c.put.new.seat.me.0 in let z : Size = c.args.self.now.words.size in let p : ℕ = c.key_of.result in let k : ℕ = c.args.cancel in let y : ℕ = c.ban_of-word.result in let is : y ≡ ban_word p k = search rules in
-    let j : ℕ = c.in-Some.place in let t = c.in-Some.ensures.found in
-    ((let a = t.0 in let b = c.args.seat.now.sized.0 in let d = ap (λ (q : Size). q.bans) c.requires.fits.1 in omega arith), t.1,
-      subst (λ (q : ℕ). w ≡ noted (with_ban v j (banning q k 0)) (did (z.slots + j + 1) 0 (ban_word q k))) c.key_of.ensures.key (put_is v w j (z.slots + j + 1) p k y c.key_of.ensures.some.1 is c.put.ensures.puts))
+    let j : ℕ = c.in-Some.place in let t = c.in-Some.ensures.found in (
+      (let a = t.0 in let b = c.args.seat.now.sized.0 in let d = ap (λ (q : Size). q.bans) c.requires.fits.1 in omega arith),
+      t.1,
+      subst (λ (q : ℕ). w ≡ noted (with_ban v j (banning q k 0)) (did (z.slots + j + 1) 0 (ban_word q k))) c.key_of.ensures.key (put_is v w j (z.slots + j + 1) p k y c.key_of.ensures.some.1 is c.put.ensures.puts),
+    )
 
 pub invariant_of-seat : goal.invariant_of-seat
 invariant_of-seat g c = let seat = c.args.seat.now in let v : View = seat.place.me.0 in let w : View = c.put.new.seat.me.0 in let z : Size = c.args.self.now.words.size in let p : ℕ = c.key_of.result in let k : ℕ = c.args.cancel in let y : ℕ = c.ban_of-word.result in let is : y ≡ ban_word p k = search rules in

@@ -1,5 +1,5 @@
-use Rattle.std.proofs.Common.{rules, arith, ◌≡◌, ◌≢◌, ℕ, ◌+◌, ◌<◌, ◌⊎◌, [], ◌∷◌, ◌++◌, List, length, get_or, set, length-set, refl, sym, ap, ◌∙◌, subst, inl, inr}
-use Rattle.race_board.specs.Words.{banned, by, number, parent}
+use Rattle.std.proofs.Common.{rules, arith, ◌≡◌, ◌≢◌, ℕ, ◌+◌, ◌<◌, ◌⊎◌, [], ◌∷◌, ◌++◌, List, length, get_or, set, length-set, refl, sym, ap, ◌∙◌, subst, inr}
+use Rattle.race_board.specs.Words.{banned, by}
 use Rattle.race_board.specs.Keys.{parent_key}
 use Rattle.race_board.specs.Board.{hold, no_hold}
 use Rattle.race_board.specs.Steps.{did, noted, with_check}
@@ -9,7 +9,7 @@ use Rattle.race_board.specs.declared.views.Did.{Did}
 use Rattle.race_board.specs.declared.views.Size.{Size}
 use Rattle.race_board.specs.declared.views.Hold.{Hold}
 use Rattle.race_board.specs.declared.views.Progress.{Progress}
-use Rattle.race_board.specs.declared.views.Progress.TheVariants.{Next, Clear, Banned}
+use Rattle.race_board.specs.declared.views.Progress.TheVariants.{Next, Banned}
 use Rattle.race_board.specs.declared.views.View.{View}
 use Rattle.race_board.proofs.Parts.{banned_some}
 use Rattle.race_board.proofs.Gained.{longer_same, longer_more, saw_now}
@@ -64,6 +64,7 @@ invariant_of-seat g c = let seat = c.loop-place.seat in let u : View = seat.plac
       refused = subst (λ (m : ℕ). (seat.told ≡ Rattle.std.specs.Prelude.false → m ≡ 0) × (seat.told ≡ Rattle.std.specs.Prelude.true → m ≡ 1)) (sym (ap (λ (q : View). q.told) e)) seat.refused;
       drawn = subst (λ (m : ℕ). m < 1048576) (sym (ap (λ (q : View). q.drawn) e)) seat.drawn;
       greatest = ap (λ (q : View). q.most) e ∙ seat.greatest;
+      present = ap (λ (q : View). q.gone) e ∙ seat.present;
     }
 
 pub loop-place-preserved : goal.loop-place-preserved
@@ -98,9 +99,15 @@ pub returns-then-banned_of-parent-clause-checked : goal.returns-then-banned_of-p
 returns-then-banned_of-parent-clause-checked g c = let v : View = c.args.seat.now.place.me.0 in let u : View = c.loop-place.seat.place.me.0 in let w : View = c.check-seen.new.seat.me.0 in let i : ℕ = c.slot_of-slot.result in let j : ℕ = c.loop-place.place in let z : Size = c.args.self.now.words.size in let inv = c.loop-place.invariant in
     let n : ℕ = c.check-seen.result in let d : Did = did (z.slots + j + 1) n n in let here : hold u i ≡ _ = checked_hold v u i (reached j z.bans (hold v i).check) inv.inside inv.on in
     let hit : banned n ≡ c.key_of-parent.result = sym c.banned_of.ensures ∙ c.if-banned_of-parent.true in
-    let e : w ≡ noted (with_check u i (Banned (by n))) d = c.check-seen.ensures.banned (hit ∙ sym (ap (λ (h : Hold). h.parent) here ∙ inv.child)) in
-    ((λ f. c.key_of-parent.ensures.some.0 (inv.of_ticket ∙ f)), (i, inv.numbered, (j, n, saw_now v u w (z.slots + j + 1) n n inv.longer (ap (λ (q : View). q.steps) e), hit ∙ inv.of_ticket, sym c.by_of.ensures),
-      subst (λ (k : ℕ). Checked v w i (Banned k)) (sym c.by_of.ensures) (checked_goes v u w i (reached j z.bans (hold v i).check) (Banned (by n)) d inv.inside inv.on e)))
+    let e : w ≡ noted (with_check u i (Banned (by n))) d = c.check-seen.ensures.banned (hit ∙ sym (ap (λ (h : Hold). h.parent) here ∙ inv.child)) in (
+      (λ f. c.key_of-parent.ensures.some.0 (inv.of_ticket ∙ f)),
+      (
+        i,
+        inv.numbered,
+        (j, n, saw_now v u w (z.slots + j + 1) n n inv.longer (ap (λ (q : View). q.steps) e), hit ∙ inv.of_ticket, sym c.by_of.ensures),
+        subst (λ (k : ℕ). Checked v w i (Banned k)) (sym c.by_of.ensures) (checked_goes v u w i (reached j z.bans (hold v i).check) (Banned (by n)) d inv.inside inv.on e),
+      ),
+    )
 
 pub returns-then-banned_of-parent-clause-allowed : goal.returns-then-banned_of-parent-clause-allowed
 returns-then-banned_of-parent-clause-allowed g c = let n : ℕ = c.check-seen.result in let hit : banned n ≡ c.key_of-parent.result = sym c.banned_of.ensures ∙ c.if-banned_of-parent.true in

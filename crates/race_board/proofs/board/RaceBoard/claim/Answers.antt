@@ -1,7 +1,7 @@
-use Rattle.std.proofs.Common.{rules, ◌≡◌, ◌≢◌, ℕ, ◌+◌, ◌<◌, sym, ap, ◌∙◌, subst}
+use Rattle.std.proofs.Common.{rules, ◌≡◌, ℕ, ◌<◌, sym, ap, ◌∙◌, subst}
 use Rattle.race_board.specs.Words.{number, parent, cancel}
 use Rattle.race_board.specs.Keys.{parent_key}
-use Rattle.race_board.specs.Calls.{Takes, TakesAt}
+use Rattle.race_board.specs.Calls.{TakesAt}
 use Rattle.race_board.proofs.Parts.{number_task, parent_task, cancel_task}
 use Rattle.race_board.proofs.board.RaceBoard.claim.Goals as goal
 

@@ -1,4 +1,4 @@
-use Rattle.std.proofs.Common.{rules, arith, ◌≡◌, ℕ, ◌<◌, length, refl, sym, ap, ◌∙◌, subst}
+use Rattle.std.proofs.Common.{rules, arith, ◌≡◌, ℕ, ◌<◌, length, sym, ap, ◌∙◌, subst}
 use lib.ListN.{length-replicate}
 use Rattle.race_board.specs.Words.{number, parent}
 use Rattle.race_board.specs.Board.{hold, no_hold, newcomer}
@@ -28,4 +28,5 @@ invariant_of-result g c = let w : View = c.split_seat-place.result.me.0 in let z
       refused = ((λ _. ap (λ (v : View). v.told) is), λ e. search rules);
       drawn = subst (λ (n : ℕ). n < 1048576) (sym (ap (λ (v : View). v.drawn) is)) (omega arith);
       greatest = ap (λ (v : View). v.most) is;
+      present = ap (λ (v : View). v.gone) is;
     }

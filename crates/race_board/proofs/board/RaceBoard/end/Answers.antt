@@ -1,6 +1,6 @@
-use Rattle.std.proofs.Common.{rules, arith, ◌≡◌, ◌≢◌, ℕ, ◌+◌, ◌<◌, List, length, set, get_or, length-set, refl, sym, ap, ◌∙◌, subst}
+use Rattle.std.proofs.Common.{arith, ◌≡◌, ℕ, ◌+◌, ◌<◌, List, length, set, get_or, length-set, refl, sym, ap, ◌∙◌, subst}
 use Rattle.race_board.specs.Words.{parent, number}
-use Rattle.race_board.specs.Board.{hold, no_hold}
+use Rattle.race_board.specs.Board.{no_hold}
 use Rattle.race_board.specs.Steps.{did, noted, with_hold}
 use Rattle.race_board.specs.declared.views.Hold.{Hold}
 use Rattle.race_board.specs.declared.views.View.{View}
@@ -23,4 +23,5 @@ invariant_of-seat g c = let seat = c.args.seat.now in let v : View = seat.place.
       refused = subst (λ (n : ℕ). (seat.told ≡ Rattle.std.specs.Prelude.false → n ≡ 0) × (seat.told ≡ Rattle.std.specs.Prelude.true → n ≡ 1)) (sym (ap (λ (q : View). q.told) e)) seat.refused;
       drawn = subst (λ (n : ℕ). n < 1048576) (sym (ap (λ (q : View). q.drawn) e)) seat.drawn;
       greatest = ap (λ (q : View). q.most) e ∙ seat.greatest;
+      present = ap (λ (q : View). q.gone) e ∙ seat.present;
     }

@@ -1,4 +1,4 @@
-use Rattle.std.proofs.Common.{◌≡◌, ◌≢◌, ◌≤◌, ◌<◌, ◌++◌, length, take}
+use Rattle.std.proofs.Common.{◌≡◌, ◌≤◌, ◌<◌, ◌++◌, length, take}
 use Rattle.race_board.specs.Board.{ban}
 use Rattle.race_board.specs.Calls.{Longer}
 use Rattle.race_board.specs.Lists.{Listing}

@@ -1,7 +1,7 @@
-use Rattle.std.proofs.Common.{rules, arith, ◌≡◌, ◌≢◌, ℕ, ◌+◌, ◌-◌, ◌<◌, List, length, get_or, set, length-set, refl, sym, ap, ◌∙◌, subst}
-use Rattle.race_board.specs.Words.{number, parent, cancel}
-use Rattle.race_board.specs.Board.{hold, no_hold}
-use Rattle.race_board.specs.Steps.{did, noted, took, fresh}
+use Rattle.std.proofs.Common.{rules, arith, ◌≡◌, ℕ, ◌+◌, ◌<◌, List, length, get_or, set, length-set, refl, sym, ap, ◌∙◌, subst}
+use Rattle.race_board.specs.Words.{number, parent}
+use Rattle.race_board.specs.Board.{no_hold}
+use Rattle.race_board.specs.Steps.{did, noted, took}
 use Rattle.race_board.specs.Calls.{ticket}
 use Rattle.race_board.specs.declared.views.Size.{Size}
 use Rattle.race_board.specs.declared.views.Hold.{Hold}
@@ -49,4 +49,5 @@ invariant_of-seat g c = let seat = c.loop-slot.seat in let i : ℕ = c.loop-slot
       refused = subst (λ (n : ℕ). (seat.told ≡ Rattle.std.specs.Prelude.false → n ≡ 0) × (seat.told ≡ Rattle.std.specs.Prelude.true → n ≡ 1)) (sym (ap (λ (q : View). q.told) e)) seat.refused;
       drawn = subst (λ (n : ℕ). n < 1048576) (sym (ap (λ (q : View). q.drawn) e)) (omega arith);
       greatest = ap (λ (q : View). q.most) e ∙ seat.greatest;
+      present = ap (λ (q : View). q.gone) e ∙ seat.present;
     }

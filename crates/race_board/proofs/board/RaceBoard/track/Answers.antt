@@ -1,11 +1,10 @@
-use Rattle.std.proofs.Common.{rules, arith, ◌≡◌, ◌≢◌, ℕ, ◌+◌, ◌<◌, ◌^◌, bit_or, length, set, length-set, sym, refl, ap, ◌∙◌, subst}
+use Rattle.std.proofs.Common.{arith, ◌≡◌, ℕ, ◌+◌, ◌<◌, bit_or, length, length-set, sym, ap, ◌∙◌, subst}
 use Rattle.race_board.specs.Words.{cancel}
-use Rattle.race_board.specs.Board.{hold, no_hold}
-use Rattle.race_board.specs.Steps.{noted, did, with_hold, seeking, cleared_hold}
-use Rattle.race_board.specs.Checks.{Becomes, Tracks}
+use Rattle.race_board.specs.Board.{hold}
+use Rattle.race_board.specs.Steps.{did, seeking, cleared_hold}
+use Rattle.race_board.specs.Checks.{Becomes}
 use Rattle.race_board.specs.declared.views.Did.{Did}
 use Rattle.race_board.specs.declared.views.Size.{Size}
-use Rattle.race_board.specs.declared.views.Hold.{Hold}
 use Rattle.race_board.specs.declared.views.View.{View}
 use Rattle.race_board.proofs.Gained.{longer_same, longer_more, saw_now}
 use Rattle.race_board.proofs.Marks.{cleared_mark, cancelled_mark}
@@ -27,14 +26,18 @@ invariant_of-seat g c = let seat = c.args.seat.now in let v : View = seat.place.
       refused = subst (λ (k : ℕ). (seat.told ≡ Rattle.std.specs.Prelude.false → k ≡ 0) × (seat.told ≡ Rattle.std.specs.Prelude.true → k ≡ 1)) (sym (ap (λ (q : View). q.told) e)) seat.refused;
       drawn = subst (λ (k : ℕ). k < 1048576) (sym (ap (λ (q : View). q.drawn) e)) seat.drawn;
       greatest = ap (λ (q : View). q.most) e ∙ seat.greatest;
+      present = ap (λ (q : View). q.gone) e ∙ seat.present;
     }
 
 pub returns-in-None-clause-tracks : goal.returns-in-None-clause-tracks
 returns-in-None-clause-tracks g c = let seat = c.args.seat.now in let v : View = seat.place.me.0 in let u : View = c.set_bits.new.seat.me.0 in let w : View = c.track_look.new.seat.me.0 in let i : ℕ = c.slot_of-slot.result in let b : ℕ = c.node_bit.result in let n : ℕ = c.track_look.result in let z : Size = c.args.self.now.words.size in
     let inside : i < length v.held = (let p = c.slot_of-slot.ensures.0 in let q = seat.sized in omega arith) in let m : ℕ = c.set_bits.result in let d : Did = did (z.slots + z.bans + i + 1) m (bit_or m b) in
-    let free : cancel n ≡ 0 = cleared_mark n (sym c.mark_in.ensures ∙ c.in-None.is) in let e = c.track_look.ensures.cleared free in
-    (i, c.slot_of-slot.ensures.1 ∙ ap (λ x. x.number) c.id.ensures, subst (λ (q : ℕ). Becomes v w i (cleared_hold (seeking (hold v i) q))) c.node_bit.ensures.bit (twice v u w i (seeking (hold v i) b) cleared_hold d (did (i + 1) n n) inside c.set_bits.ensures.sets e),
-      (n, saw_now v u w (i + 1) n n (longer_more v v u d (longer_same v) (ap (λ (q : View). q.steps) c.set_bits.ensures.sets)) (ap (λ (q : View). q.steps) e), free))
+    let free : cancel n ≡ 0 = cleared_mark n (sym c.mark_in.ensures ∙ c.in-None.is) in let e = c.track_look.ensures.cleared free in (
+      i,
+      c.slot_of-slot.ensures.1 ∙ ap (λ x. x.number) c.id.ensures,
+      subst (λ (q : ℕ). Becomes v w i (cleared_hold (seeking (hold v i) q))) c.node_bit.ensures.bit (twice v u w i (seeking (hold v i) b) cleared_hold d (did (i + 1) n n) inside c.set_bits.ensures.sets e),
+      (n, saw_now v u w (i + 1) n n (longer_more v v u d (longer_same v) (ap (λ (q : View). q.steps) c.set_bits.ensures.sets)) (ap (λ (q : View). q.steps) e), free),
+    )
 
 pub returns-in-None-clause-steps : goal.returns-in-None-clause-steps
 returns-in-None-clause-steps g c = let seat = c.args.seat.now in let v : View = seat.place.me.0 in let u : View = c.set_bits.new.seat.me.0 in let w : View = c.track_look.new.seat.me.0 in let i : ℕ = c.slot_of-slot.result in let b : ℕ = c.node_bit.result in let n : ℕ = c.track_look.result in let z : Size = c.args.self.now.words.size in
@@ -45,9 +48,12 @@ returns-in-None-clause-steps g c = let seat = c.args.seat.now in let v : View = 
 pub returns-in-Some-clause-tracks : goal.returns-in-Some-clause-tracks
 returns-in-Some-clause-tracks g c = let seat = c.args.seat.now in let v : View = seat.place.me.0 in let u : View = c.set_bits.new.seat.me.0 in let w : View = c.track_look.new.seat.me.0 in let i : ℕ = c.slot_of-slot.result in let b : ℕ = c.node_bit.result in let n : ℕ = c.track_look.result in let z : Size = c.args.self.now.words.size in
     let inside : i < length v.held = (let p = c.slot_of-slot.ensures.0 in let q = seat.sized in omega arith) in let m : ℕ = c.set_bits.result in let d : Did = did (z.slots + z.bans + i + 1) m (bit_or m b) in
-    let mark = cancelled_mark n c.in-Some.mark (sym c.mark_in.ensures ∙ c.in-Some.is) in let e = c.track_look.ensures.marked (λ f. mark.1 (sym mark.0 ∙ f)) in
-    (i, c.slot_of-slot.ensures.1 ∙ ap (λ x. x.number) c.id.ensures, twice v u w i (seeking (hold v i) b) (λ q. seeking q 0) d (did (i + 1) n n) inside c.set_bits.ensures.sets e,
-      (n, saw_now v u w (i + 1) n n (longer_more v v u d (longer_same v) (ap (λ (q : View). q.steps) c.set_bits.ensures.sets)) (ap (λ (q : View). q.steps) e), mark.0, mark.1))
+    let mark = cancelled_mark n c.in-Some.mark (sym c.mark_in.ensures ∙ c.in-Some.is) in let e = c.track_look.ensures.marked (λ f. mark.1 (sym mark.0 ∙ f)) in (
+      i,
+      c.slot_of-slot.ensures.1 ∙ ap (λ x. x.number) c.id.ensures,
+      twice v u w i (seeking (hold v i) b) (λ q. seeking q 0) d (did (i + 1) n n) inside c.set_bits.ensures.sets e,
+      (n, saw_now v u w (i + 1) n n (longer_more v v u d (longer_same v) (ap (λ (q : View). q.steps) c.set_bits.ensures.sets)) (ap (λ (q : View). q.steps) e), mark.0, mark.1),
+    )
 
 pub returns-in-Some-clause-steps : goal.returns-in-Some-clause-steps
 returns-in-Some-clause-steps g c = let seat = c.args.seat.now in let v : View = seat.place.me.0 in let u : View = c.set_bits.new.seat.me.0 in let w : View = c.track_look.new.seat.me.0 in let i : ℕ = c.slot_of-slot.result in let b : ℕ = c.node_bit.result in let n : ℕ = c.track_look.result in let z : Size = c.args.self.now.words.size in

@@ -1,13 +1,4 @@
-use Rattle.std.proofs.Common.{rules, arith, ◌≡◌, ◌≢◌, ℕ, ◌+◌, ◌-◌, ◌*◌, ◌<◌, ◌⊎◌, refl, sym, ap, ◌∙◌, subst}
-use Rattle.race_board.specs.Words.{number, parent, banned, by}
-use Rattle.race_board.specs.Board.{hold, no_hold}
-use Rattle.race_board.specs.Steps.{Sat, did, noted, took, with_check, with_hold}
-use Rattle.race_board.specs.StepEvents.{of_end}
-use Rattle.race_board.specs.Turn.{Turn}
-use Rattle.race_board.specs.declared.views.Size.{Size}
-use Rattle.race_board.specs.declared.views.Progress.{Progress}
-use Rattle.race_board.specs.declared.views.Progress.TheVariants.{Next, Clear, Banned}
-use Rattle.race_board.specs.declared.views.View.{View}
+use Rattle.std.proofs.Common.{rules, arith, ◌≡◌, ◌+◌, ◌*◌}
 use Rattle.race_board.proofs.DataSteps.{untracks_turn}
 use Rattle.race_board.proofs.board_words.BoardWords.keep_bits.Goals as goal
 

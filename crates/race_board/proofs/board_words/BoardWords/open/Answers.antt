@@ -1,7 +1,7 @@
-use Rattle.std.proofs.Common.{◌≡◌, ◌≢◌, ℕ, zero, suc, ◌+◌, ◌*◌, List, length, replicate, get_or, refl, sym, ap, ◌∙◌, subst, rules}
+use Rattle.std.proofs.Common.{◌≡◌, ℕ, zero, suc, ◌+◌, ◌*◌, List, length, replicate, get_or, refl, ap, ◌∙◌, rules}
 use Rattle.std.proofs.lemmas.List.{length-replicate}
-use Rattle.race_board.specs.Words.{cancel, by}
-use Rattle.race_board.proofs.Parts.{zero_cancel, zero_by}
+use Rattle.race_board.specs.Words.{cancel}
+use Rattle.race_board.proofs.Parts.{zero_cancel}
 use Rattle.race_board.proofs.Controls.{starts}
 use Rattle.race_board.proofs.board_words.BoardWords.open.Goals as goal
 

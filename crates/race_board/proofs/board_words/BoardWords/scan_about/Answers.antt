@@ -1,13 +1,5 @@
-use Rattle.std.proofs.Common.{rules, arith, ◌≡◌, ◌≢◌, ℕ, ◌+◌, ◌-◌, ◌*◌, ◌<◌, ◌⊎◌, refl, sym, ap, ◌∙◌, subst}
-use Rattle.race_board.specs.Words.{number, parent, banned, by}
-use Rattle.race_board.specs.Board.{hold, no_hold, ban}
-use Rattle.race_board.specs.Steps.{Sat, did, noted, took, with_check, with_hold}
-use Rattle.race_board.specs.StepEvents.{of_end}
-use Rattle.race_board.specs.Turn.{Turn}
-use Rattle.race_board.specs.declared.views.Size.{Size}
-use Rattle.race_board.specs.declared.views.Progress.{Progress}
-use Rattle.race_board.specs.declared.views.Progress.TheVariants.{Next, Clear, Banned}
-use Rattle.race_board.specs.declared.views.View.{View}
+use Rattle.std.proofs.Common.{rules, ◌≡◌, ◌≢◌, ℕ, ◌<◌, subst}
+use Rattle.race_board.specs.Board.{ban}
 use Rattle.race_board.proofs.ControlSteps.{scans_turn}
 use Rattle.race_board.proofs.board_words.BoardWords.scan_about.Goals as goal
 
