@@ -29,6 +29,7 @@ use lines::newest_history;
 use serde_json::Value;
 use std::alloc::Global;
 use std::env;
+use std::io::ErrorKind;
 use std::process::ExitCode;
 use std::rt::Env;
 use text::shown_cells;
@@ -44,6 +45,7 @@ fn no_words<R: Env + AllocGlobal>(rt: &R) -> Result<(), Fault> {
             None => Ok(()),
             Some(_) => Err(Fault::Usage),
         },
+        Err(error) if error.kind() == ErrorKind::OutOfMemory => Err(Fault::Memory),
         Err(_) => Err(Fault::Usage),
     }
 }
