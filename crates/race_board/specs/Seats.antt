@@ -1,6 +1,6 @@
 -- Seats and boards, as clauses see them.
 use Rattle.std.specs.Prelude.{◌≡◌, ℕ}
-use Rattle.race_board.specs.declared.name.BoardName as name
+use Rattle.task_ids.specs.declared.board_name.BoardName as name
 use Rattle.race_board.specs.declared.views.Size.{Size}
 use Rattle.race_board.specs.declared.views.View.{View}
 use Rattle.race_board.specs.declared.seats.DataSeat.{DataSeat}

@@ -6,9 +6,9 @@ ghost use Rattle.race_board.specs.Calls.{Longer, HasTicket};
 ghost use Rattle.race_board.specs.Checks.{IsClear, Tracks, CancelledBy, Untracks, all_but};
 
 use crate::board::RaceBoard;
-use crate::name::BoardName;
 use crate::seats::DataSeat;
 use crate::words::mark_in;
+use task_ids::BoardName;
 use task_table::{Ticket, Track};
 
 // The bit of a node in a mask.

@@ -8,11 +8,10 @@ ghost use Rattle.race_board.specs.Calls.{Longer};
 ghost use Rattle.race_board.specs.Lists.{Bans, NoneOf, Unbans, Listing, Passes};
 
 use crate::board::RaceBoard;
-use crate::name::BoardName;
 use crate::rule::Place;
 use crate::seats::ControlSeat;
 use crate::words::{ban_of, banned_of, by_of, cancel_of, key_of, number_of, parent_of};
-use task_ids::TaskId;
+use task_ids::{BoardName, TaskId};
 use task_table::NoRoom;
 
 impl<N: BoardName> ControlSeat<N> {

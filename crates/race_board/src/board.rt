@@ -4,8 +4,8 @@ ghost use Rattle.task_ids.specs.Limits.{IsNode, IsSlotCount};
 ghost use Rattle.race_board.specs.Board.{newcomer};
 
 use crate::board_words::BoardWords;
-use crate::name::BoardName;
 use crate::seats::{ControlSeat, DataSeat};
+use task_ids::BoardName;
 
 /// One node's words, which its seats share: a counter, a word and a mask for each slot, and the ban words.
 #[derive(Drop)]

@@ -2,11 +2,11 @@
 ghost use Rattle.std.specs.Prelude.{◌≡◌, ◌≢◌, ℕ, ◌+◌, ◌*◌, ◌-◌, ◌%◌, ◌^◌, ◌<◌, ◌≤◌, [], ◌==◌, length, slice_index, IfOk, bit_or, bit_and};
 ghost use Rattle.race_board.specs.Board.{newcomer};
 
-use crate::name::BoardName;
 use crate::rule::{Place, Race};
 use crate::views::{Size, View};
 use atomic_table::Table;
 use std::alloc::{AllocError, Global};
+use task_ids::BoardName;
 
 pub(crate) type WordTable<N> = Table<(), View, Size, Race<N>, Global>;
 

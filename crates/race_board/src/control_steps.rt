@@ -8,11 +8,12 @@ ghost use Rattle.race_board.specs.StepEvents.{of_ban, of_scan, of_mark, of_unban
 ghost use Rattle.race_board.specs.Turn.{Turn, MayMark};
 
 use crate::board_words::BoardWords;
-use crate::name::{About, BoardName};
+use crate::name::About;
 use crate::plays::{Half, Lift, Note, Put, Scan, Strike, Whole};
 use crate::rule::Place;
 use crate::words::mark_of;
 use std::marker::Brand;
+use task_ids::BoardName;
 
 impl<N: BoardName> BoardWords<N> {
     /// Puts a ban's word into a place where no ban stands.

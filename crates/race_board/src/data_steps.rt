@@ -9,10 +9,11 @@ ghost use Rattle.race_board.specs.Turn.{Turn, MayBan, MayMark};
 ghost use Rattle.race_board.specs.declared.views.Progress.TheVariants.{Next, Clear, Banned};
 
 use crate::board_words::BoardWords;
-use crate::name::{About, BoardName};
+use crate::name::About;
 use crate::plays::{Check, Claim, Draw, End, Look, Track, TrackLook, Untrack};
 use crate::rule::Place;
 use std::marker::Brand;
+use task_ids::BoardName;
 
 impl<N: BoardName> BoardWords<N> {
     /// Adds 1 to the counter, and gives what it was.

@@ -21,7 +21,7 @@ mod views;
 mod words;
 
 pub use board::{BoardParts, RaceBoard};
-pub use name::{AnyCancel, BoardName};
 pub use seats::{ControlSeat, DataSeat};
+pub use task_ids::{AnyCancel, BoardName};
 pub use task_table::{Check, Full, NoRoom, Track};
 pub use views::{Ban, Did, Hold, Mask, Progress, Size, View};

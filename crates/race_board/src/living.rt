@@ -6,10 +6,10 @@ ghost use Rattle.race_board.specs.Calls.{Longer, HasTicket};
 ghost use Rattle.race_board.specs.Checks.{Checks, BannedBy, Ends, Looks};
 
 use crate::board::RaceBoard;
-use crate::name::BoardName;
 use crate::seats::DataSeat;
 use crate::words::{banned_of, by_of, key_of, mark_in};
 use child_track::ChildTrack;
+use task_ids::BoardName;
 use task_table::{Check, Ended, Ticket};
 
 impl<N: BoardName> RaceBoard<N> {

@@ -9,10 +9,10 @@ ghost use Rattle.race_board.specs.Turn.{MayMark};
 ghost use Rattle.race_board.specs.Lists.{Marks, MarksSeen, AlreadyBy, IsMask};
 
 use crate::board::RaceBoard;
-use crate::name::BoardName;
 use crate::seats::ControlSeat;
 use crate::words::{is_word_of, mark_in, number_of};
 use child_track::NodeSet;
+use task_ids::BoardName;
 use task_table::MarkAnswer;
 
 impl<N: BoardName> RaceBoard<N> {

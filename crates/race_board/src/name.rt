@@ -1,20 +1,7 @@
-//! Which cancellations a board may be told of.
+//! Which ticket or which ban a load is for.
 ghost use Rattle.std.specs.Prelude.{ℕ};
-ghost use Rattle.task_ids.specs.Limits.{IsCancel};
 
-/// The name of a board. It has no bytes: it says which cancel numbers the board's words may carry.
-pub trait BoardName {
-    ghost allowed: { ℕ → Type 0 };
-}
-
-/// The name of a board that may carry each cancel number, 1 to 65,535.
-pub struct AnyCancel;
-
-impl BoardName for AnyCancel {
-    ghost allowed = { IsCancel };
-}
-
-// Which ticket or which ban a load is for. Each call picks it.
+// Each call picks it.
 pub(crate) trait About {
     ghost slot: { ℕ };
 

@@ -6,13 +6,13 @@ ghost use Rattle.race_board.specs.Seats.{seat_view, control_view, board_size, Is
 
 use crate::board::{BoardParts, RaceBoard};
 use crate::board_words::BoardWords;
-use crate::name::BoardName;
 use crate::plays::Deal;
 use crate::rule::Place;
 use crate::seats::{ControlSeat, DataSeat};
 use crate::views::Size;
 use std::alloc::{AllocError, Global};
 use std::marker::PhantomData;
+use task_ids::BoardName;
 
 fn zeros(alloc: Global, count: usize) -> Result<Vec<u64>, AllocError>
     ensures { IfOk result (λ v. (length v.items ≡ count) × ((i : ℕ) → slice_index v.items i ≡ 0)) }

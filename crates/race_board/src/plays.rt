@@ -8,10 +8,11 @@ ghost use Rattle.race_board.specs.Steps.{after_draw, after_claim, after_note, af
 ghost use Rattle.race_board.specs.StepEvents.{of_claim, of_check, of_end, of_ban, of_scan, of_mark, of_track_look, of_look, of_unban};
 ghost use Rattle.race_board.specs.Turn.{Turned, MayMark, MayBan};
 
-use crate::name::{About, BoardName};
+use crate::name::About;
 use crate::views::View;
 use atomic_table::{Play, Split};
 use std::marker::PhantomData;
+use task_ids::BoardName;
 
 pub(crate) struct Draw;
 

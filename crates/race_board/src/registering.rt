@@ -8,11 +8,10 @@ ghost use Rattle.race_board.specs.Seats.{seat_view, board_size, IsSeatOf};
 ghost use Rattle.race_board.specs.Calls.{Longer, OnlySteps, Refuses, SawFull, Takes, TakesAt};
 
 use crate::board::RaceBoard;
-use crate::name::BoardName;
 use crate::seats::DataSeat;
 use crate::words::{parent_key_of, task_of};
 use child_track::AskToken;
-use task_ids::TaskId;
+use task_ids::{BoardName, TaskId};
 use task_table::{Full, Ticket};
 
 const LAST_NUMBER: u64 = 1_048_575;

@@ -1,8 +1,8 @@
 //! The rule of the table.
-use crate::name::BoardName;
 use crate::views::{Size, View};
 use atomic_table::{Seat, TableRule};
 use std::marker::PhantomData;
+use task_ids::BoardName;
 
 pub(crate) struct Race<N> {
     name: PhantomData<N>,

@@ -3,10 +3,10 @@ ghost use Rattle.std.specs.Prelude.{◌≡◌, ◌≢◌, ℕ, ◌+◌, ◌<◌,
 ghost use Rattle.race_board.specs.Words.{number, parent, by, ban_word};
 ghost use Rattle.race_board.specs.Board.{hold, ban};
 
-use crate::name::BoardName;
 use crate::rule::Place;
 use crate::words::number_of;
 use std::marker::PhantomData;
+use task_ids::BoardName;
 
 /// The seat of a data worker. It has the tickets of the tasks that were claimed with it.
 #[derive(Drop)]
