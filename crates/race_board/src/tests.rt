@@ -47,7 +47,7 @@ fn two_seats_draw_the_first_two_numbers(rt: HostRuntime) -> Result<(), Fail> {
 }
 
 #[test]
-fn a_ban_is_put_listed_and_taken_away(rt: HostRuntime) -> Result<(), Fail> {
+fn a_new_board_has_no_task_to_mark_and_no_ban_to_take_away(rt: HostRuntime) -> Result<(), Fail> {
     let BoardParts {
         board,
         mut control,
