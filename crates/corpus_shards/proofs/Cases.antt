@@ -16,3 +16,10 @@ both_ok (Err e) P Q R p q f = tt
 pub then_err : {T E : Type 0} (r : Result T E) (P Q : Type 0) → OnErr r P → (P → Q) → OnErr r Q
 then_err (Ok x) P Q p f = tt
 then_err (Err e) P Q p f = f p
+
+pub on_err : {T E : Type 0} (r : Result T E) (P : Type 0) → P → OnErr r P
+on_err (Ok x) P p = tt
+on_err (Err e) P p = p
+
+pub of_err : {T E : Type 0} (r : Result T E) (e : E) (P : Type 0) → r ≡ Err e → OnErr r P → P
+of_err r e P is p = subst (λ x. OnErr x P) is p

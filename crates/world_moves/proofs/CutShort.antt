@@ -1,6 +1,5 @@
 -- What was to be done is cut short where the history is full.
 use Rattle.std.proofs.Common.{◌≡◌, ◌++◌, ◌∷◌, List, [], length, ap, subst, sym, refl, inr, ◌∙◌}
-use Rattle.std.specs.Prelude.{Result, Err, OnErr}
 use Rattle.task_events.specs.declared.event.Event.{Event}
 use Rattle.task_events.specs.declared.history.TheConstants.{MAX_EVENTS}
 use Rattle.world_moves.specs.Moves.{IsPartOf, IsPartly, IsCutShort}
@@ -20,7 +19,3 @@ cut_move Moves h new whole moves = cut_as (λ past. IsPartOf h past whole) (IsPa
 -- where the one event of a move does not fit
 pub cut_only : (Moves : List Event → List Event → Type 0) (h new : List Event) (e : Event) → Moves h (e ∷ h) → length h ≡ MAX_EVENTS → new ≡ h → IsCutShort (IsPartly Moves h) new
 cut_only Moves h new e moves full same = cut_move Moves h new (e ∷ h) moves (cut_first h new [] e full same)
-
--- after a call that failed
-pub of_err : {T E : Type 0} (r : Result T E) (e : E) (P : Type 0) → r ≡ Err e → OnErr r P → P
-of_err r e P is p = subst (λ x. OnErr x P) is p

@@ -3,7 +3,6 @@ use Rattle.std.proofs.Common.{◌≡◌, ℕ, ◌+◌, ◌-◌, true, false, Lis
 use Rattle.std.specs.Prelude.{slice_set}
 use Rattle.task_ids.specs.declared.task_id.TaskId.{TaskId}
 use Rattle.task_events.specs.declared.request.Request.{Request}
-use Rattle.task_events.specs.declared.reply.Reply.{Reply}
 use Rattle.task_events.specs.declared.event.Event.{Event}
 use Rattle.task_events.specs.declared.event.Event.TheVariants.{Root, Ask, Put, Pass, Refuse, Mark, Work, Answered, End}
 use Rattle.task_events.specs.Same.{same_task}
@@ -41,9 +40,6 @@ module _ (roots : ℕ → Option Request) (t : TaskId) (h : List Event) where
   pub at_pass : facts_of roots t (Pass t ∷ h) ≡ record (facts_of roots t h) { new = false }
   at_pass = rw itself refl
 
-  pub at_refuse : (c : ℕ) → facts_of roots t (Refuse t c ∷ h) ≡ record (facts_of roots t h) { live = false; new = false }
-  at_refuse c = rw itself refl
-
   pub at_mark : (c : ℕ) → facts_of roots t (Mark t c ∷ h) ≡ record (facts_of roots t h) { mark = Some c }
   at_mark c = rw itself refl
 
@@ -52,6 +48,3 @@ module _ (roots : ℕ → Option Request) (t : TaskId) (h : List Event) where
 
   pub at_answered : (k : ℕ) → facts_of roots t (Answered t k ∷ h) ≡ record (facts_of roots t h) { awaited = slice_set (awaited_by t h) (k - 1) None; asked = map (with_answer k (answer_of t k h)) (asked_by t h) }
   at_answered k = rw itself refl
-
-  pub at_end : (r : Reply) → facts_of roots t (End t r ∷ h) ≡ record (facts_of roots t h) { live = false }
-  at_end r = rw itself refl

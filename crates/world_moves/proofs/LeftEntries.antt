@@ -33,10 +33,6 @@ use Rattle.world_moves.proofs.Answerable.{answers_appended, answers_keep}
 use Rattle.world_moves.proofs.DueActs.{due_answered, due_sent}
 use Rattle.world_moves.proofs.LeftNotes.{Leaves, known_ended, core_there, entry_there, nobody_waits}
 
-pub on_err : {T E : Type 0} (r : Result T E) (P : Type 0) → P → OnErr r P
-on_err (Ok x) P p = tt
-on_err (Err e) P p = p
-
 -- what is written where it stands changes nothing
 pub set_again : {X : Type 0} (xs : List X) (k : ℕ) (x : X) → slice_get xs k ≡ Some x → slice_set xs k x ≡ xs
 set_again [] k x e = refl

@@ -354,7 +354,3 @@ two_parts es e h = sym (append_assoc es (e ∷ []) h)
 -- nothing of it has come yet
 pub nothing_yet : (es : List Event) (e : Event) (h new : List Event) → new ≡ h → IsPartOf h new (es ++ e ∷ h)
 nothing_yet es e h new same = subst (λ past. IsPartOf h past (es ++ e ∷ h)) (sym same) (es ++ e ∷ [], [], two_parts es e h, refl)
-
-pub on_error : {T E : Type 0} (r : Result T E) (P : Type 0) → P → OnErr r P
-on_error (Ok x) P p = tt
-on_error (Err e) P p = p

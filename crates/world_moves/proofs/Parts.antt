@@ -1,5 +1,5 @@
 -- A first part of what a move appends keeps the laws that the whole keeps.
-use Rattle.std.proofs.Common.{◌≡◌, ◌++◌, List, [], ◌∷◌, refl, sym, subst, ◌∙◌, append_assoc}
+use Rattle.std.proofs.Common.{◌≡◌, ◌++◌, List, [], ◌∷◌, sym, subst, ◌∙◌, append_assoc}
 use Rattle.task_ids.specs.declared.cluster.Cluster.{Cluster}
 use Rattle.task_ids.specs.declared.corpus.Corpus.{Corpus}
 use Rattle.task_events.specs.declared.event.Event.{Event}
@@ -25,10 +25,6 @@ module _ (cluster : Cluster) (corpus : Corpus) (script : Script) where
 
   pub part_plain : (h new whole : List Event) → IsPartOf h new whole → AnswersPlainly cluster corpus script whole → AnswersPlainly cluster corpus script new
   part_plain h new whole (later, earlier, is_whole, is_new) p = earlier_plain cluster corpus script later new (subst (AnswersPlainly cluster corpus script) is_whole p)
-
--- the whole is a part of itself
-pub whole_part : (h whole earlier : List Event) → whole ≡ earlier ++ h → IsPartOf h whole whole
-whole_part h whole earlier e = ([], earlier, refl, e)
 
 -- what is a part of a whole that went on from a first event
 pub later_part : (e : Event) (h new whole : List Event) → IsPartOf (e ∷ h) new whole → IsPartOf h new whole

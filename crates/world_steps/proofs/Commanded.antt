@@ -107,18 +107,12 @@ false_and : (a b : Bool) → b ≡ false → (a && b) ≡ false
 false_and true b e = e
 false_and false b e = refl
 
-none_starts : (a b : Bool) → a ≡ false → (a && b) ≡ false
-none_starts a b e = rw e refl
-
 both_hold : {found : SearchBody} {o : Option SearchBody} {b : Bool} → o ≡ Some found → b ≡ true → (is_some o && b) ≡ true
 both_hold good known = rw (good, known) refl
 
 module _ (cluster : Cluster) (corpus : Corpus) (index : List ℕ) (body : Data) (k node : ℕ) where
   abbrev Where : List Event → List Event → Type 0
   Where h new = StartsWhere cluster (can_start corpus index body) k node h new
-
-  pub bad_body : (h : List Event) → body_or_none (body_at false 0 body) ≡ None → Where h h
-  bad_body h bad = subst (λ b. StartsWhere cluster b k node h h) (sym (none_starts (is_some (body_or_none (body_at false 0 body))) (has_index corpus.lines index) (ap is_some bad))) refl
 
   pub unknown_index : (h : List Event) → has_index corpus.lines index ≡ false → Where h h
   unknown_index h unknown = subst (λ b. StartsWhere cluster b k node h h) (sym (false_and (is_some (body_or_none (body_at false 0 body))) (has_index corpus.lines index) unknown)) refl

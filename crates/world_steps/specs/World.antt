@@ -61,10 +61,6 @@ abbrev pub IsWorld : State → BTreeSet TaskId → Option Stop → Type 0
 IsWorld s ready None = GoesOn s ready
 IsWorld s ready (Some stop) = KeepsLaws s
 
--- all but the past stays
-abbrev pub with_past : WorldView → List Event → WorldView
-with_past w past = record w { past = past }
-
 -- Settling has come so far: the tables say of the past what they should, and the past is made by first moves.
 pub record HasSettled (start now : State) (ready : BTreeSet TaskId) : Type 0 where
   pub tied : IsTied now

@@ -10,8 +10,8 @@ use Rattle.world_moves.proofs.StepsAfter.{is_kept}
 use Rattle.world_moves.proofs.AnswersAfter.{has_parent, has_reply, asker_live, own, takes_reply, delivers, after_answer}
 use Rattle.world_moves.proofs.SameTies.{same_ties, same_cancels}
 use Rattle.world_moves.proofs.Uninvolved.{noted}
-use Rattle.world_moves.proofs.CutShort.{cut_only, of_err}
-use Rattle.corpus_shards.proofs.Cases.{some_of, then_ok}
+use Rattle.world_moves.proofs.CutShort.{cut_only}
+use Rattle.corpus_shards.proofs.Cases.{some_of, then_ok, of_err}
 use Rattle.world_moves.proofs.answers.deliver_answer.Goals as goal
 
 pub unreachable-requires : goal.unreachable-requires

@@ -19,9 +19,9 @@ use Rattle.world_moves.proofs.AnswersCome.{answers_await, answers_tied, answers_
 use Rattle.world_moves.proofs.AskedNodes.{asked_nodes}
 use Rattle.world_moves.proofs.Kept.{at_changed, off_changed}
 use Rattle.world_moves.proofs.LiveRows.{read_at}
-use Rattle.world_moves.proofs.MarksAfter.{marks_row, after_mark, cancels_after_mark, mark_happened, mark_queue, nothing_yet, on_error}
+use Rattle.world_moves.proofs.MarksAfter.{marks_row, after_mark, cancels_after_mark, mark_happened, mark_queue, nothing_yet}
 use Rattle.world_moves.proofs.NodeTables.{core_at, fresh, same_cancels}
-use Rattle.corpus_shards.proofs.Cases.{some_of, then_ok, both_ok, then_err}
+use Rattle.corpus_shards.proofs.Cases.{some_of, then_ok, both_ok, then_err, on_err}
 use Rattle.world_moves.proofs.Parts.{part_lawful, part_plain, later_part}
 use Rattle.world_moves.proofs.SameTies.{same_ties}
 use Rattle.world_moves.proofs.StepsAfter.{is_kept, kept_running}
@@ -72,7 +72,7 @@ pub returns-in_err-append-clause-part : goal.returns-in_err-append-clause-part
 returns-in_err-append-clause-part c =
     let s = c.args.state.now in
     let t = c.args.task in
-    on_error c.from_residual.result _ (nothing_yet (reverse (due_answers t (Mark t c.args.cancel ∷ s.history))) (Mark t c.args.cancel) s.history c.append.new.history c.in_err-append.ensures.err)
+    on_err c.from_residual.result _ (nothing_yet (reverse (due_answers t (Mark t c.args.cancel ∷ s.history))) (Mark t c.args.cancel) s.history c.append.new.history c.in_err-append.ensures.err)
 
 pub returns-clause-part : goal.returns-clause-part
 returns-clause-part c =

@@ -17,13 +17,13 @@ use Rattle.world_moves.specs.Ties.{task_at}
 use Rattle.world_moves.proofs.Arrivals.{arrives}
 use Rattle.world_moves.proofs.Kept.{at_changed, off_changed}
 use Rattle.world_moves.proofs.SameTies.{same_ties, same_cancels}
-use Rattle.corpus_shards.proofs.Cases.{some_of, then_ok, both_ok}
+use Rattle.corpus_shards.proofs.Cases.{some_of, then_ok, both_ok, of_err}
 use Rattle.world_moves.proofs.RequestsAfter.{rejected, delivers_put, after_put, delivers_reject, after_reject}
 use Rattle.world_moves.proofs.Started.{first}
 use Rattle.world_moves.proofs.StartsNoted.{noted_put}
 use Rattle.world_moves.proofs.Tables.{IsPutOn, node_has_table, no_slot, no_number}
 use Rattle.world_moves.proofs.Uninvolved.{noted}
-use Rattle.world_moves.proofs.CutShort.{cut_only, of_err}
+use Rattle.world_moves.proofs.CutShort.{cut_only}
 use Rattle.world_moves.proofs.requests.deliver_request.Goals as goal
 
 pub request_at-requires : goal.request_at-requires

@@ -2,18 +2,19 @@ use Rattle.std.proofs.Common.{[], refl, sym, subst, rules, ◌≡◌, length}
 use Rattle.task_events.specs.declared.event.Event.TheVariants.{NotFound}
 use Rattle.world_moves.specs.Cancels.{target_of}
 use Rattle.world_moves.specs.Moves.{IsPartOf, IsCutShort}
-use Rattle.world_moves.proofs.MarksAfter.{nothing_yet, on_error}
+use Rattle.world_moves.proofs.MarksAfter.{nothing_yet}
 use Rattle.world_steps.proofs.NamedAfter.{names_none, ties_after_missing}
 use Rattle.world_moves.proofs.Uninvolved.{noted}
 use Rattle.task_events.specs.declared.history.TheConstants.{MAX_EVENTS}
 use Rattle.world_moves.proofs.CutShort.{cut_first}
+use Rattle.corpus_shards.proofs.Cases.{on_err}
 use Rattle.world_steps.proofs.cancels.cancel.Goals as goal
 
 pub returns-in_err-append-clause-part : goal.returns-in_err-append-clause-part
 returns-in_err-append-clause-part c =
     let h = c.args.state.now.history in
     let missing = names_none c.args.number c.args.wait h (target_of c.args.target.now h) c.in_default.ensures.none in
-    on_error c.from_residual.result _ (subst (λ whole. IsPartOf h c.append.new.history whole) (sym missing) (nothing_yet [] (NotFound c.args.number) h c.append.new.history c.in_err-append.ensures.err))
+    on_err c.from_residual.result _ (subst (λ whole. IsPartOf h c.append.new.history whole) (sym missing) (nothing_yet [] (NotFound c.args.number) h c.append.new.history c.in_err-append.ensures.err))
 
 pub returns-clause-tied : goal.returns-clause-tied
 returns-clause-tied c =

@@ -10,10 +10,10 @@ use Rattle.world_moves.specs.Cancels.{due_answers, waiting_for, with_answers}
 use Rattle.world_moves.specs.Moves.{IsPartOf}
 use Rattle.world_moves.proofs.CoresAfter.{has_core}
 use Rattle.world_steps.proofs.JoinsAfter.{waiter, join_high, join_core, join_entry, join_open, joined_sent, join_tied, join_await, join_noted, join_happened, join_part, join_laws, nothing_yet}
-use Rattle.world_moves.proofs.MarksAfter.{on_error}
 use Rattle.task_events.specs.declared.history.TheConstants.{MAX_EVENTS}
 use Rattle.task_events.specs.declared.stop.Stop.TheVariants.{HistoryFull}
 use Rattle.world_moves.proofs.CutShort.{cut_as, cut_first}
+use Rattle.corpus_shards.proofs.Cases.{on_err}
 use Rattle.world_steps.proofs.cancels.join.Goals as goal
 
 pub index_mut-requires : goal.index_mut-requires
@@ -48,7 +48,7 @@ returns-in_default-clause-part c = nothing_yet (Cancel c.args.number c.args.task
 pub returns-in_err-append-clause-part : goal.returns-in_err-append-clause-part
 returns-in_err-append-clause-part c =
     let h = c.args.state.now.history in
-    on_error c.from_residual.result _
+    on_err c.from_residual.result _
     (subst (λ new. IsPartOf h new (with_answers c.args.task (Cancel c.args.number c.args.task c.args.wait ∷ h))) (sym c.in_err-append.ensures.err) (nothing_yet (Cancel c.args.number c.args.task c.args.wait) c.args.task h))
 
 pub returns-in_err-perform-clause-part : goal.returns-in_err-perform-clause-part
@@ -61,7 +61,7 @@ returns-in_err-perform-clause-part c =
     let entry = ap (λ o. unwrap_or o (opened 0 [])) e.1 in
     let waits = subst WaitsWherePlaced entry c.joined.ensures.waiting in
     let acts = c.as_slice.ensures.value ∙ c.in-Ok.ensures.acts ∙ ap (λ k. join_acts c.args.task k (waiter s.cluster s.history c.args.number c.args.task c.args.wait c.requires.begun c.requires.tied.ties.lawful c.requires.tied.awaits c.requires.live)) entry in
-    on_error c.from_residual-in_err-perform.result _
+    on_err c.from_residual-in_err-perform.result _
     (join_part s.cluster s.history c.args.number c.args.task c.args.wait c.requires.begun c.requires.tied.ties.lawful c.requires.tied.awaits c.requires.live c.requires.marked e.0 e.2 waits c.requires.tied.cancels.one_task c.append.new.history c.perform.new.history _ c.in_ok-append.ensures.ok acts c.in_err-perform.ensures.part)
 
 pub returns-in_err-perform-clause-laws : goal.returns-in_err-perform-clause-laws
@@ -76,7 +76,7 @@ returns-in_err-perform-clause-laws c =
     let acts = c.as_slice.ensures.value ∙ c.in-Ok.ensures.acts ∙ ap (λ k. join_acts c.args.task k (waiter s.cluster s.history c.args.number c.args.task c.args.wait c.requires.begun c.requires.tied.ties.lawful c.requires.tied.awaits c.requires.live)) entry in
     let part = join_part s.cluster s.history c.args.number c.args.task c.args.wait c.requires.begun c.requires.tied.ties.lawful c.requires.tied.awaits c.requires.live c.requires.marked e.0 e.2 waits c.requires.tied.cancels.one_task c.append.new.history c.perform.new.history _ c.in_ok-append.ensures.ok acts c.in_err-perform.ensures.part in
     let laws = join_laws s.cluster s.history c.args.number c.args.task c.args.wait c.requires.begun c.requires.tied.ties.lawful c.requires.tied.awaits c.requires.live c.requires.marked e.0 e.2 waits c.requires.tied.cancels.one_task s.corpus.now s.script.now _ _ _ c.requires.tied.ties c.perform.new.history part in
-    on_error c.from_residual-in_err-perform.result _ (record { lawful = laws.0; plain = laws.1 })
+    on_err c.from_residual-in_err-perform.result _ (record { lawful = laws.0; plain = laws.1 })
 
 pub returns-clause-happened : goal.returns-clause-happened
 returns-clause-happened c =

@@ -5,13 +5,14 @@ use Rattle.task_events.specs.Bans.{mark_of}
 use Rattle.task_laws.proofs.Reach.{reach_facts}
 use Rattle.world_moves.specs.Cancels.{due_answers, waiting_for, with_answers}
 use Rattle.world_moves.specs.Moves.{IsPartOf, IsCutShort}
-use Rattle.world_moves.proofs.MarksAfter.{nothing_yet, on_error, two_parts}
+use Rattle.world_moves.proofs.MarksAfter.{nothing_yet, two_parts}
 use Rattle.world_steps.proofs.NamedAfter.{ties_after_cancel, cancels_after_cancel, mark_lawful, waits_alone}
 use Rattle.world_moves.proofs.NodeTables.{nobody_waits}
 use Rattle.world_moves.proofs.Parts.{later_part}
 use Rattle.task_events.specs.declared.history.TheConstants.{MAX_EVENTS}
 use Rattle.task_events.specs.declared.stop.Stop.TheVariants.{HistoryFull}
 use Rattle.world_moves.proofs.CutShort.{cut_as, cut_first}
+use Rattle.corpus_shards.proofs.Cases.{on_err}
 use Rattle.world_steps.proofs.cancels.name_and_mark.Goals as goal
 
 -- nothing is there
@@ -26,7 +27,7 @@ returns-in_err-append-clause-part c =
     let k = c.args.number in
     let last = Cancel k t c.args.wait in
     let es = reverse (due_answers t (Mark t k ∷ last ∷ h)) in
-    on_error c.from_residual.result _ (subst (λ whole. IsPartOf h c.append.new.history whole) (sym (two_parts es (Mark t k) (last ∷ h))) (nothing_yet (es ++ Mark t k ∷ []) last h c.append.new.history c.in_err-append.ensures.err))
+    on_err c.from_residual.result _ (subst (λ whole. IsPartOf h c.append.new.history whole) (sym (two_parts es (Mark t k) (last ∷ h))) (nothing_yet (es ++ Mark t k ∷ []) last h c.append.new.history c.in_err-append.ensures.err))
 
 pub mark-requires-clause-ties : goal.mark-requires-clause-ties
 mark-requires-clause-ties c =
@@ -65,7 +66,7 @@ returns-in_err-mark-clause-part c =
     let k = c.args.number in
     let last = Cancel k t c.args.wait in
     let part = subst (λ past. IsPartOf past c.mark.new.state.history (with_answers t (Mark t k ∷ past))) c.in_ok-append.ensures.ok c.in_err-mark.ensures.part in
-    on_error c.from_residual-in_err-mark.result _ (later_part last h _ _ part)
+    on_err c.from_residual-in_err-mark.result _ (later_part last h _ _ part)
 
 pub returns-in_err-append-clause-full : goal.returns-in_err-append-clause-full
 returns-in_err-append-clause-full c = λ failed.
