@@ -40,7 +40,7 @@ pub fn sim_top<S: Source, K: Sink>(
 ) -> (Status, Kept)
     // Where the source tells its bytes: they were read as what is kept, or they are refused so.
     ensures input { IfSome (S.left input.old) (λ bytes. AnswersInput cluster.now bytes result.0 result.1) }
-    // Once something has happened, nothing of it is left.
+    // Where it was read and memory did not run out, nothing of it is left.
     ensures ended { IsReadWhole result.0 → IfSome (S.left input.old) (λ _. S.left input.new ≡ Some []) }
     // What happened is the run of what was read.
     ensures run { RanAsRead cluster.now result.0 result.1 }
