@@ -1,7 +1,7 @@
 //! The lines of a script's output: one line of JSON a command, after Elasticsearch's REST replies.
 #![tactic(auto)]
 
-mod cancels;
+mod cancel_lines;
 mod ends;
 mod errors;
 mod idle;

@@ -4,7 +4,7 @@ ghost use Rattle.std.specs.Prelude.{◌≡◌, ◌+◌, ◌<◌, ◌≤◌, ◌+
 ghost use Rattle.line_print.specs.Lines.{line_of, printed, printed_by, IsFound};
 ghost use Rattle.line_print.specs.Looked.{IsReady};
 
-use crate::cancels::cancel_line;
+use crate::cancel_lines::cancel_line;
 use crate::ends::ends_of;
 use crate::idle::Idle;
 use crate::moves::{moved_line, settled_line};

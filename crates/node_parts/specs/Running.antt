@@ -31,6 +31,6 @@ running_with_ask running to = record running { track = with_ask running.track to
 abbrev pub running_with_answer : Running → ℕ → Reply → Running
 running_with_answer running ask reply = record running { track = with_answer running.track ask; work = work_with_answer running.work ask reply }
 
--- The kept task does not wait: it has not passed; or it is marked and its asks are answered; or its work goes on.
-abbrev pub goes_on : Running → List Doc → Bool
-goes_on running writes = running.is_new || (if is_some running.track.closed then unanswered running.track == 0 else not (does_wait (next_of running.work writes)))
+-- It does not wait: it has not passed; or it is marked and its asks are answered; or its work goes on.
+abbrev pub can_act : Running → List Doc → Bool
+can_act running writes = running.is_new || (if is_some running.track.closed then unanswered running.track == 0 else not (does_wait (next_of running.work writes)))

@@ -4,6 +4,7 @@
 #![tactic(auto)]
 
 pub mod kinds;
+pub mod listing;
 pub mod notice;
 pub mod running;
 pub mod starting;

@@ -229,7 +229,7 @@ fn counted_in(alloc: Global, queries: &[Asked]) -> Result<(Items<ShardCount>, u6
 }
 
 /// What the fetches found: the documents of the winners, and the key of the last of these.
-fn shown(
+fn hits_and_last(
     alloc: Global,
     fetching: &Fetching,
     answers: &[Asked],
@@ -259,7 +259,7 @@ pub(crate) fn answer(
 {
     let failed = failed_shards(alloc, fetching.fetches.as_slice(), shards, asked)?;
     let (counts, total) = counted_in(alloc, &asked[..shards as usize])?;
-    let (hits, last) = shown(alloc, fetching, &asked[shards as usize..])?;
+    let (hits, last) = hits_and_last(alloc, fetching, &asked[shards as usize..])?;
     Ok(SearchReply {
         context: context_of(task, ask),
         shards: counts,

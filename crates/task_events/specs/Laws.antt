@@ -39,18 +39,32 @@ stands n p h = is_some (standing_ban n p h)
 abbrev pub is_banned : ℕ → TaskId → List Event → Bool
 is_banned n p h = list_any (λ m. n == m) (banned_nodes p h)
 
+-- ---- the six stages of a ban of p on n, each 1 where it is the one
+
+abbrev pub ban_in_flight : ℕ → TaskId → List Event → ℕ
+ban_in_flight n p h = number_in_flight (is_ban n p) h
+
+abbrev pub children_listed : ℕ → TaskId → List Event → ℕ
+children_listed n p h = one_if (stands n p h && listing_is_open n p h)
+
+abbrev pub ack_in_flight : ℕ → TaskId → List Event → ℕ
+ack_in_flight n p h = cond (stands n p h) (number_in_flight (is_ack n p) h) 0
+
+abbrev pub waits_for_unban : ℕ → TaskId → List Event → ℕ
+waits_for_unban n p h = one_if (stands n p h && (is_acked n p h && not (unbans_are_sent p h)))
+
+abbrev pub unban_in_flight : ℕ → TaskId → List Event → ℕ
+unban_in_flight n p h = cond (stands n p h) (number_in_flight (is_unban n p) h) 0
+
+abbrev pub ban_gone : ℕ → TaskId → List Event → ℕ
+ban_gone n p h = one_if (is_gone n p h)
+
 -- The ban of a task on one of its banned nodes is in one stage of six: it is in flight; it stands with its listing
 -- open; it stands and its acknowledgement is in flight; it stands, is acknowledged, and the unbans of the task are
 -- not sent; it stands and its unban is in flight; it is gone.
 pub record OneStage (h : List Event) : Type 0 where
   pub stage : (n : ℕ) (p : TaskId) → is_banned n p h ≡ true →
-      number_in_flight (is_ban n p) h
-      + one_if (stands n p h && listing_is_open n p h)
-      + cond (stands n p h) (number_in_flight (is_ack n p) h) 0
-      + one_if (stands n p h && (is_acked n p h && not (unbans_are_sent p h)))
-      + cond (stands n p h) (number_in_flight (is_unban n p) h) 0
-      + one_if (is_gone n p h)
-      ≡ 1
+      ban_in_flight n p h + children_listed n p h + ack_in_flight n p h + waits_for_unban n p h + unban_in_flight n p h + ban_gone n p h ≡ 1
   -- on the way there a ban is in flight, or listed, or being acknowledged, or acknowledged
   pub placing : (n : ℕ) (p : TaskId) → number_in_flight (is_ban n p) h + one_if (listing_is_open n p h) + number_in_flight (is_ack n p) h + one_if (is_acked n p h) ≡ one_if (is_banned n p h)
   -- it is in flight, or it stands, or it is gone; and no other ban stands

@@ -62,12 +62,13 @@ abbrev pub cancelled_step : TaskId → ℕ → List Pending → Option Event
 cancelled_step t c [] = Some (End t (Cancelled t c no_counts))
 cancelled_step t c (ask ∷ asks) = None
 
--- What a live task does next: a child that has not passed passes or is refused; a marked task ends once its asks are answered; else its plan says.
-abbrev pub step_from : Cluster → TaskId → List Event → Bool → Option ℕ → Option Do → Option Event
-step_from cluster t h true mark plan = Some (first_step t (ban_over t h))
-step_from cluster t h false (Some c) plan = cancelled_step t c (unanswered t h)
-step_from cluster t h false None plan = option_and_then (event_of cluster t h) plan
+-- what a live task does next that has passed: a marked one ends once its asks are answered, and for another its plan says
+abbrev pub step_of_passed : Cluster → TaskId → List Event → Option ℕ → Option Do → Option Event
+step_of_passed cluster t h (Some mark) plan = cancelled_step t mark (unanswered t h)
+step_of_passed cluster t h None plan = option_and_then (event_of cluster t h) plan
 
--- the next step of a live task, and none where it waits, given what each command's root is asked to do
+-- The next step of a live task, and none where it waits, given what each command's root is asked to do: a child that has not passed passes or is refused.
 abbrev pub next_step : Cluster → Corpus → (ℕ → Option Request) → TaskId → List Event → Option Event
-next_step cluster corpus roots t h = step_from cluster t h (is_new t h) (mark_of t h) (option_map (λ request. planned_step cluster corpus t request h) (request_of roots t h))
+next_step cluster corpus roots t h =
+    if is_new t h then Some (first_step t (ban_over t h))
+    else step_of_passed cluster t h (mark_of t h) (option_map (λ request. planned_step cluster corpus t request h) (request_of roots t h))

@@ -1,3 +1,4 @@
+pub mod OneValue
 pub mod SameId
 pub mod Spelling
 pub mod TaskIdKeys

@@ -30,7 +30,7 @@ use Rattle.script_lang.specs.declared.command.Script.{Script}
 use Rattle.node_parts.specs.declared.notice.Notice.TheVariants as notices
 use Rattle.world_moves.specs.declared.flight.Sent.{Sent}
 use Rattle.world_moves.specs.declared.flight.Sent.TheVariants as sent
-use Rattle.world_moves.specs.declared.listing.Listing.{Listing}
+use Rattle.node_parts.specs.declared.listing.Listing.{Listing}
 use Rattle.node_parts.specs.declared.running.Running.{Running}
 use Rattle.world_moves.specs.Acts.{messages_in, answers_in}
 use Rattle.world_moves.specs.Cancels.{waiting_for, with_answers, due_answers}
@@ -40,16 +40,16 @@ use Rattle.world_moves.specs.Moves.{Delivers, IsPartOf, IsPartly}
 use Rattle.world_moves.specs.Plain.{AnswersPlainly}
 use Rattle.world_moves.specs.Roots.{root_request}
 use Rattle.world_moves.specs.Ties.{Ties, IsGood}
-use Rattle.world_moves.proofs.AnswersCome.{NameOneTask, waiting_after, answers_tied, answers_noted}
-use Rattle.world_moves.proofs.BansCome.{ack_here, ack_taken, ack_new, ack_banned}
+use Rattle.world_moves.proofs.CancelAnswersAfter.{NameOneTask, waiting_after, answers_tied, answers_noted}
+use Rattle.world_moves.proofs.BansInFlight.{ack_here, ack_taken, ack_new, ack_banned}
 use Rattle.world_moves.proofs.ByPlace.{pairs_left, all_left}
 use Rattle.world_moves.proofs.CancelFrame.{entry_frame}
 use Rattle.world_moves.proofs.CoresAfter.{marked_in, core_on, its_entry, cores_after}
 use Rattle.world_moves.proofs.DueActs.{due_answered, due_sent, due_left}
 use Rattle.world_moves.proofs.FlightAfter.{all_stay}
-use Rattle.world_moves.proofs.Kept.{kept_same}
-use Rattle.world_moves.proofs.Listed.{listed_same}
-use Rattle.world_moves.proofs.Naming.{is_in, in_filter}
+use Rattle.world_moves.proofs.KeptTasks.{kept_same}
+use Rattle.world_moves.proofs.NodeTablesSame.{listed_same}
+use Rattle.world_moves.proofs.NamedCancels.{is_in, in_filter}
 use Rattle.world_moves.proofs.Parts.{part_lawful, part_plain, later_part}
 
 -- ---- tasks and messages

@@ -25,7 +25,7 @@ use Rattle.script_lang.specs.declared.command.Script.{Script}
 use Rattle.node_parts.specs.declared.notice.Notice.TheVariants as notices
 use Rattle.world_moves.specs.declared.flight.Sent.{Sent}
 use Rattle.world_moves.specs.declared.flight.Sent.TheVariants as sent
-use Rattle.world_moves.specs.declared.listing.Listing.{Listing}
+use Rattle.node_parts.specs.declared.listing.Listing.{Listing}
 use Rattle.node_parts.specs.declared.running.Running.{Running}
 use Rattle.world_moves.specs.Cancels.{waiting_for}
 use Rattle.world_moves.specs.Cancelling.{Cancelling, HasBansAt}
@@ -34,11 +34,11 @@ use Rattle.world_moves.specs.Listings.{listing_cmp}
 use Rattle.world_moves.specs.Roots.{root_request}
 use Rattle.world_moves.specs.Ties.{Ties, IsGood}
 use Rattle.world_moves.proofs.AtPlace.{at_node, set_at}
-use Rattle.world_moves.proofs.BansCome.{ban_taken, ban_mark, unban_taken}
+use Rattle.world_moves.proofs.BansInFlight.{ban_taken, ban_mark, unban_taken}
 use Rattle.world_moves.proofs.ByPlace.{pairs_left, all_left}
 use Rattle.world_moves.proofs.FlightAfter.{all_stay}
-use Rattle.world_moves.proofs.Kept.{kept_same, is_at_task}
-use Rattle.world_moves.proofs.Listed.{listed_same}
+use Rattle.world_moves.proofs.KeptTasks.{kept_same, is_at_task}
+use Rattle.world_moves.proofs.NodeTablesSame.{listed_same}
 use Rattle.world_moves.proofs.OpenListings.{is_at_listing}
 
 -- ---- tasks and messages

@@ -15,7 +15,7 @@ use Rattle.task_events.specs.Bans.{mark_of, banned_nodes, is_acked, bans_are_pla
 use Rattle.task_events.specs.Tasks.{has_ended}
 use Rattle.task_laws.proofs.Same.{same_tests}
 use Rattle.world_moves.specs.Cancelling.{CancelFacts, cancel_facts, IsEntryBy, IsEntryOf, HasCoreAt, waiter_of}
-use Rattle.world_moves.proofs.Naming.{is_in}
+use Rattle.world_moves.proofs.NamedCancels.{is_in}
 
 -- the task whose cancellation an event is about, and the cancel that it is of
 abbrev pub about_cancellation : Event → Option TaskId

@@ -36,10 +36,10 @@ use Rattle.world_moves.specs.Roots.{root_request}
 use Rattle.world_moves.specs.Ties.{Ties}
 use Rattle.world_moves.specs.Good.{IsGoodReply}
 use Rattle.world_moves.proofs.AllKinds.{good_cancelled}
-use Rattle.world_moves.proofs.Answered.{none_from}
-use Rattle.world_moves.proofs.LeftNotes.{Leaves, mark_stays}
-use Rattle.world_moves.proofs.Leaving.{IsLeave, ends, refuses, nothing_open, after_leave, no_unbans}
-use Rattle.world_moves.proofs.Requested.{awaited_at}
+use Rattle.world_moves.proofs.NoneAwaited.{none_from}
+use Rattle.world_moves.proofs.CancelsAfterLeave.{Leaves, mark_stays}
+use Rattle.world_moves.proofs.TasksAfterLeave.{IsLeave, ends, refuses, nothing_open, after_leave, no_unbans}
+use Rattle.world_moves.proofs.AsksCounted.{awaited_at}
 
 -- no ask is awaited where none is unanswered
 none_to_await : (cluster : Cluster) (t : TaskId) (h : List Event) → Lawful cluster h → ((k : ℕ) → is_unanswered t (k + 1) h ≡ false) → none_awaited (awaited_by t h) ≡ true

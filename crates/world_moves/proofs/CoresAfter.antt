@@ -18,7 +18,7 @@ use Rattle.task_laws.proofs.Reach.{reach_facts}
 use Rattle.task_laws.proofs.Same.{same_task_tells, same_tests}
 use Rattle.world_moves.specs.Cancelling.{HasCoreAt, IsEntryOf, IsCancellationOf, is_under_way}
 use Rattle.world_moves.proofs.AtPlace.{at_node, set_at}
-use Rattle.world_moves.proofs.Kept.{is_at_task}
+use Rattle.world_moves.proofs.KeptTasks.{is_at_task}
 
 -- a marked task stands on a node of the cluster
 pub marked_in : (cluster : Cluster) (t : TaskId) (h : List Event) → Lawful cluster h → is_some (mark_of t h) ≡ true → t.node ≤ cluster.nodes

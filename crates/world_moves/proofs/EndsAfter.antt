@@ -33,13 +33,13 @@ use Rattle.world_moves.specs.Plain.{EndsPlainly}
 use Rattle.world_moves.specs.Roots.{root_request}
 use Rattle.world_moves.specs.Ties.{Ties, WorksFor, IsGood, looked_at}
 use Rattle.node_parts.specs.Running.{DoesNext}
-use Rattle.world_moves.proofs.Answered.{none_unanswered}
+use Rattle.world_moves.proofs.NoneAwaited.{none_unanswered}
 use Rattle.world_moves.proofs.Children.{child_request}
 use Rattle.world_moves.proofs.AllKinds.{kind_laws}
 use Rattle.world_moves.proofs.KindLaws.{KindLaws, IsPart, IsGoodEnd}
-use Rattle.world_moves.proofs.Leaving.{ends, runs, after_leave, no_unbans}
+use Rattle.world_moves.proofs.TasksAfterLeave.{ends, runs, after_leave, no_unbans}
 use Rattle.world_moves.proofs.PlainEnds.{replies_plainly}
-use Rattle.world_moves.proofs.Requested.{awaited_at, requested_at}
+use Rattle.world_moves.proofs.AsksCounted.{awaited_at, requested_at}
 use Rattle.world_moves.proofs.StepsAfter.{kept_running, is_kept}
 use Rattle.world_moves.proofs.TurnsAfter.{is_on}
 

@@ -23,7 +23,7 @@ use Rattle.task_events.specs.Lawful.{AwaitsNoMark}
 use Rattle.node_parts.specs.declared.notice.Notice.TheVariants as notices
 use Rattle.world_moves.specs.declared.flight.Sent.{Sent}
 use Rattle.world_moves.specs.declared.flight.Sent.TheVariants as sent
-use Rattle.world_moves.specs.declared.listing.Listing.{Listing}
+use Rattle.node_parts.specs.declared.listing.Listing.{Listing}
 use Rattle.node_parts.specs.declared.running.Running.{Running}
 use Rattle.world_moves.specs.Cancels.{waiting_for}
 use Rattle.world_moves.specs.Cancelling.{Cancelling, HasRows, HasBansAt, HasCoreAt}
@@ -34,8 +34,8 @@ use Rattle.world_moves.specs.Ties.{Ties, IsGood}
 use Rattle.world_moves.proofs.AtPlace.{set_at}
 use Rattle.world_moves.proofs.ByPlace.{all_push}
 use Rattle.world_moves.proofs.FlightAfter.{all_stay}
-use Rattle.world_moves.proofs.Kept.{kept_same}
-use Rattle.world_moves.proofs.Listed.{listed_same}
+use Rattle.world_moves.proofs.KeptTasks.{kept_same}
+use Rattle.world_moves.proofs.NodeTablesSame.{listed_same}
 use Rattle.world_moves.proofs.OpenListings.{is_at_listing}
 
 module _ (cluster : Cluster) (h : List Event) (n : ℕ) (p : TaskId) where

@@ -42,7 +42,7 @@ use Rattle.task_laws.proofs.Numbers.{number}
 use Rattle.task_laws.proofs.Reach.{reach_facts}
 use Rattle.task_laws.proofs.Same.{same_fields, same_task_tells, same_tests}
 use Rattle.world_moves.specs.declared.flight.Sent.{Sent}
-use Rattle.world_moves.specs.declared.listing.Listing.{Listing}
+use Rattle.node_parts.specs.declared.listing.Listing.{Listing}
 use Rattle.node_parts.specs.declared.running.Running.{Running}
 use Rattle.world_moves.specs.Acts.{message_in, answer_in, messages_in, answers_in}
 use Rattle.world_moves.specs.Cancels.{waiting_for, waits_for_end, is_due, answer_to, due_answers, with_answers}
@@ -52,13 +52,13 @@ use Rattle.world_moves.specs.Flights.{message_of}
 use Rattle.world_moves.specs.Moves.{IsPartOf}
 use Rattle.world_moves.specs.Roots.{root_request}
 use Rattle.world_moves.specs.Ties.{Ties, Runs, IsTableAt, IsGood}
-use Rattle.world_moves.proofs.AnswersCome.{waiting_after}
+use Rattle.world_moves.proofs.CancelAnswersAfter.{waiting_after}
 use Rattle.world_moves.proofs.AtPlace.{set_at}
 use Rattle.world_moves.proofs.CancelFrame.{entry_frame}
 use Rattle.world_moves.proofs.CoresAfter.{cores_after}
 use Rattle.world_moves.proofs.FactsAfter.{at_mark}
 use Rattle.world_moves.proofs.FlightAfter.{all_stay}
-use Rattle.world_moves.proofs.Kept.{kept_after, is_at_task}
+use Rattle.world_moves.proofs.KeptTasks.{kept_after, is_at_task}
 use Rattle.world_moves.proofs.LiveRows.{rows_live, live_counted}
 use Rattle.world_moves.proofs.StepsAfter.{kept_running}
 

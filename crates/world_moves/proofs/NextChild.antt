@@ -21,11 +21,11 @@ use Rattle.task_events.specs.Laws.{is_banned}
 use Rattle.task_laws.proofs.Bans.{ban_facts, placed_acked}
 use Rattle.task_laws.proofs.Numbers.{in_list}
 use Rattle.task_laws.proofs.Same.{same_fields}
-use Rattle.world_moves.specs.declared.listing.Listing.{Listing}
+use Rattle.node_parts.specs.declared.listing.Listing.{Listing}
 use Rattle.world_moves.specs.Listings.{IsNextChild, is_open}
 use Rattle.world_moves.specs.Cancelling.{HasRows, IsRowOf}
 use Rattle.world_moves.specs.Ties.{IsTableAt, IsTableOf}
-use Rattle.world_moves.proofs.BansCome.{banned_in}
+use Rattle.world_moves.proofs.BansInFlight.{banned_in}
 use Rattle.world_moves.proofs.LiveRows.{read_at, rows_live, row_of_task}
 use Rattle.world_moves.proofs.Tables.{table_of}
 

@@ -14,7 +14,7 @@ use Rattle.task_events.specs.declared.event.Event.TheVariants.{Mark}
 use Rattle.task_events.specs.Same.{same_task}
 use Rattle.task_events.specs.Bans.{mark_of}
 use Rattle.task_laws.proofs.Same.{same_task_tells}
-use Rattle.world_moves.specs.declared.listing.Listing.{Listing}
+use Rattle.node_parts.specs.declared.listing.Listing.{Listing}
 use Rattle.world_moves.specs.Cancels.{waiting_for, is_due, answer_to, with_answers}
 use Rattle.world_moves.specs.Cancelling.{Cancelling, HasCoreAt, IsEntryOf, waiting_but}
 use Rattle.world_moves.proofs.AtPlace.{at_node}

@@ -9,9 +9,9 @@ use Rattle.std.proofs.lemmas.Bool.Decides.{nat_tests}
 use Rattle.task_ids.specs.TaskIdOrder.{task_id_cmp}
 use Rattle.task_events.specs.Same.{same_pair}
 use Rattle.task_laws.proofs.Same.{same_tests}
-use Rattle.world_moves.specs.declared.listing.Listing.{Listing}
+use Rattle.node_parts.specs.declared.listing.Listing.{Listing}
 use Rattle.world_moves.specs.Listings.{listing_cmp}
-use Rattle.world_moves.proofs.Kept.{is_at_task}
+use Rattle.world_moves.proofs.KeptTasks.{is_at_task}
 
 eq_then : (o p : Ordering) → is_eq (ordering_then o p) ≡ (is_eq o && is_eq p)
 eq_then Less p = refl

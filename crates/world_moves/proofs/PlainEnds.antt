@@ -28,7 +28,7 @@ use Rattle.world_moves.specs.Plain.{EndsPlainly, plain_end}
 use Rattle.world_moves.specs.Ties.{WorksFor}
 use Rattle.world_moves.specs.SearchRuns.{SearchesFor}
 use Rattle.world_moves.specs.Good.{writes_for}
-use Rattle.world_moves.proofs.Answering.{newest_versions}
+use Rattle.world_moves.proofs.AnsweringShards.{newest_versions}
 use Rattle.world_moves.proofs.ByPlace.{all_here}
 use Rattle.world_moves.proofs.SearchLaws.{search_ends}
 use Rattle.world_moves.proofs.Numbered.{is_searching}

@@ -33,15 +33,15 @@ use Rattle.world_moves.specs.Roots.{root_request}
 use Rattle.world_moves.specs.Ties.{Ties, IsGood}
 use Rattle.world_moves.specs.Good.{IsGoodReply}
 use Rattle.world_moves.proofs.AllKinds.{good_rejection}
-use Rattle.world_moves.proofs.Arrivals.{Arrives}
+use Rattle.world_moves.proofs.RequestsInFlight.{Arrives}
 use Rattle.world_moves.proofs.FactsAfter.{at_put}
 use Rattle.world_moves.proofs.FlightAfter.{all_stay, event_newest}
-use Rattle.world_moves.proofs.Kept.{kept_after, kept_same}
-use Rattle.world_moves.proofs.Listed.{listed_same}
+use Rattle.world_moves.proofs.KeptTasks.{kept_after, kept_same}
+use Rattle.world_moves.proofs.NodeTablesSame.{listed_same}
 use Rattle.world_moves.proofs.ByPlace.{pairs_left, all_left, all_push}
-use Rattle.world_moves.proofs.Started.{started, first, runs_first}
+use Rattle.world_moves.proofs.FirstRuns.{started, first, runs_first}
 use Rattle.world_moves.proofs.Tables.{IsPutOn, put_node, put_takes, put_listed}
-use Rattle.world_moves.proofs.Unborn.{blank, unborn}
+use Rattle.world_moves.proofs.UnbornTasks.{blank, unborn}
 
 -- the answer to a request that is rejected by an event at this place
 abbrev pub rejected : Token → ℕ → Sent

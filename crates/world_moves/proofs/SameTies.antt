@@ -15,7 +15,7 @@ use Rattle.node_parts.specs.declared.running.Running.{Running}
 use Rattle.world_moves.specs.Ties.{Ties}
 use Rattle.world_moves.specs.Cancels.{waiting_for}
 use Rattle.world_moves.specs.Cancelling.{Cancelling}
-use Rattle.world_moves.specs.declared.listing.Listing.{Listing}
+use Rattle.node_parts.specs.declared.listing.Listing.{Listing}
 
 pub same_ties : (cluster : Cluster) (corpus : Corpus) (script : Script) (tasks : TaskId → Option Running) (h past : List Event) (tables others : List Table) (flight queue : List Sent)
     → h ≡ past → tables ≡ others → flight ≡ queue → Ties cluster corpus script past tasks others queue → Ties cluster corpus script h tasks tables flight

@@ -60,10 +60,10 @@ use Rattle.world_moves.specs.Good.{IsGoodReply}
 use Rattle.world_moves.proofs.ByPlace.{pair_at, pairs_left, all_here, all_left}
 use Rattle.world_moves.proofs.FactsAfter.{at_answered}
 use Rattle.world_moves.proofs.FlightAfter.{all_stay}
-use Rattle.world_moves.proofs.Kept.{kept_after}
-use Rattle.world_moves.proofs.Listed.{listed_same}
+use Rattle.world_moves.proofs.KeptTasks.{kept_after}
+use Rattle.world_moves.proofs.NodeTablesSame.{listed_same}
 use Rattle.world_moves.proofs.Numbered.{is_searching}
-use Rattle.world_moves.proofs.Requested.{awaited_at, awaited_counted, requested_at, requested_counted}
+use Rattle.world_moves.proofs.AsksCounted.{awaited_at, awaited_counted, requested_at, requested_counted}
 use Rattle.world_moves.proofs.StepsAfter.{kept_running}
 
 -- ---- the asks of a search, which are numbered on from b

@@ -58,10 +58,10 @@ use Rattle.world_moves.specs.SearchRuns.{SearchesFor}
 use Rattle.world_moves.specs.Good.{IsGoodReply, written}
 use Rattle.world_moves.proofs.FactsAfter.{at_ask}
 use Rattle.world_moves.proofs.FlightAfter.{all_stay, event_newest}
-use Rattle.world_moves.proofs.Kept.{kept_after}
-use Rattle.world_moves.proofs.Listed.{listed_same}
+use Rattle.world_moves.proofs.KeptTasks.{kept_after}
+use Rattle.world_moves.proofs.NodeTablesSame.{listed_same}
 use Rattle.world_moves.proofs.ByPlace.{all_push}
-use Rattle.world_moves.proofs.Requested.{length-grown, awaited_counted}
+use Rattle.world_moves.proofs.AsksCounted.{length-grown, awaited_counted}
 use Rattle.world_moves.proofs.StepsAfter.{kept_running}
 
 -- ---- what a search asks for

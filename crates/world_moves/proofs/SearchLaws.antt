@@ -24,7 +24,7 @@ use Rattle.task_work.specs.Works.{does_wait, new_work}
 use Rattle.world_moves.specs.Facts.{none_awaited}
 use Rattle.world_moves.specs.Good.{IsGoodReply}
 use Rattle.world_moves.specs.SearchRuns.{RunsSearch, SearchesFor}
-use Rattle.world_moves.proofs.Answered.{all_answered}
+use Rattle.world_moves.proofs.NoneAwaited.{all_answered}
 use Rattle.world_moves.proofs.KindLaws.{KindLaws, IsPlain, IsPart}
 use Rattle.world_moves.proofs.SearchAnswers.{takes_it, searches_on, noted_alike}
 use Rattle.world_moves.proofs.SearchAsks as asking

@@ -19,8 +19,8 @@ use Rattle.world_moves.specs.Roots.{root_request}
 use Rattle.world_moves.specs.Ties.{Ties, Runs}
 use Rattle.world_moves.proofs.FactsAfter.{at_pass}
 use Rattle.world_moves.proofs.FlightAfter.{all_stay}
-use Rattle.world_moves.proofs.Kept.{kept_after}
-use Rattle.world_moves.proofs.Listed.{listed_same}
+use Rattle.world_moves.proofs.KeptTasks.{kept_after}
+use Rattle.world_moves.proofs.NodeTablesSame.{listed_same}
 
 module _ (cluster : Cluster) (corpus : Corpus) (script : Script) (h : List Event) (tasks : TaskId → Option Running) (tables : List Table) (flight : List Sent) (ties : Ties cluster corpus script h tasks tables flight) where
   -- what is kept of a live task

@@ -35,8 +35,8 @@ use Rattle.world_moves.proofs.AllKinds.{kind_laws}
 use Rattle.world_moves.proofs.KindLaws.{KindLaws, stored_of}
 use Rattle.world_moves.proofs.FactsAfter.{at_work}
 use Rattle.world_moves.proofs.FlightAfter.{all_stay}
-use Rattle.world_moves.proofs.Kept.{kept_after}
-use Rattle.world_moves.proofs.Listed.{listed_same}
+use Rattle.world_moves.proofs.KeptTasks.{kept_after}
+use Rattle.world_moves.proofs.NodeTablesSame.{listed_same}
 use Rattle.world_moves.proofs.StepsAfter.{kept_running}
 
 module _ (cluster : Cluster) (corpus : Corpus) (t : TaskId) (asked : List Asked) (requests : List Request) (awaited : List (Option ℕ)) (turns : ℕ) where

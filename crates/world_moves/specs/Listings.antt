@@ -9,7 +9,7 @@ use Rattle.task_events.specs.declared.event.Event.TheVariants.{Mark, Listed}
 use Rattle.task_events.specs.Tasks.{is_live, parent_of}
 use Rattle.task_events.specs.Bans.{mark_of, standing_ban, listing_is_open}
 use Rattle.task_events.specs.Allowed.{HasAllMarked, IsLowest}
-use Rattle.world_moves.specs.declared.listing.Listing.{Listing}
+use Rattle.node_parts.specs.declared.listing.Listing.{Listing}
 use Rattle.world_moves.specs.declared.listings.ListStep.{ListStep}
 use Rattle.world_moves.specs.declared.listings.ListStep.TheVariants.{Done, NoListing}
 

@@ -8,10 +8,10 @@ ghost use Rattle.world_moves.specs.Moves.{Delivers, IsPartly, IsCutShort, StopsD
 ghost use Rattle.world_moves.specs.Ties.{IsTied, Keeps, KeepsLaws};
 
 use crate::append::append;
-use crate::listing::Listing;
 use crate::performing::perform;
 use crate::state::State;
 use ban_table::BanPut;
+use node_parts::listing::Listing;
 use node_parts::notice::Notice;
 use task_events::{Event, Stop};
 use task_ids::TaskId;

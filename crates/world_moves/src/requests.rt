@@ -9,7 +9,7 @@ ghost use Rattle.world_moves.specs.Ties.{IsTied, Keeps};
 use crate::append::append;
 use crate::flight::{Flight, Sent};
 use crate::sending::send;
-use crate::starting::{keep, put_on, spend};
+use crate::starting::{keep_started, put_on, spend};
 use crate::state::State;
 use child_track::AskToken;
 use node_parts::starting::{new_task, with_work};
@@ -96,7 +96,7 @@ pub fn deliver_request(state: &mut State<'_>, nth: usize) -> Result<(), Stop>
             let request = request_at(&state.history, at);
             let running = with_work(state.alloc, ticket, request, &state.cluster, true)?;
             let event = Event::Put { task, parent, ask };
-            keep(&mut state.history, &mut state.tasks, running, event)
+            keep_started(&mut state.history, &mut state.tasks, running, event)
         }
         Err(PutError::Full(token)) => {
             let Some(token) = token else { unreachable!() };

@@ -60,7 +60,7 @@ pub fn spend(token: Option<AskToken>) {
 ///
 /// It fails where the history is full (`HistoryFull`, at 4,000,000 events) or memory runs out (`Memory`); then nothing
 /// was appended, and the task may be kept.
-pub fn keep(
+pub fn keep_started(
     history: &mut History,
     tasks: &mut BTreeMap<TaskId, Running>,
     running: Running,

@@ -1,8 +1,8 @@
 use crate::flight::Flight;
-use crate::listing::Listing;
 use ban_table::BanTable;
 use cancel_core::CancelCore;
 use corpus_shards::Shards;
+use node_parts::listing::Listing;
 use node_parts::running::Running;
 use script_lang::Script;
 use std::alloc::Global;

@@ -18,11 +18,11 @@ use Rattle.task_events.specs.Tasks.{has_ended}
 use Rattle.task_laws.proofs.Named.{named_marked}
 use Rattle.task_laws.proofs.Reach.{reach_facts}
 use Rattle.task_laws.proofs.Same.{same_tests}
-use Rattle.world_moves.specs.declared.listing.Listing.{Listing}
+use Rattle.node_parts.specs.declared.listing.Listing.{Listing}
 use Rattle.world_moves.specs.Cancels.{is_answered, waiting_for, named_by}
 use Rattle.world_moves.specs.Cancelling.{Cancelling, HasCoreAt, IsEntryOf, is_under_way}
 use Rattle.world_moves.proofs.AtPlace.{at_node}
-use Rattle.world_moves.proofs.Naming.{is_in, named_in}
+use Rattle.world_moves.proofs.NamedCancels.{is_in, named_in}
 
 -- a task that was named stands on a node of the cluster
 named_there : (cluster : Cluster) (c : ℕ) (t : TaskId) (h : List Event) → Lawful cluster h → is_named c t h ≡ true → t.node ≤ cluster.nodes

@@ -22,7 +22,7 @@ use Rattle.world_moves.specs.Ties.{Keeps}
 use Rattle.world_steps.specs.Runs.{AnswersStep, FirstMoves, Steps}
 use Rattle.world_steps.specs.declared.acting.Stepped.{Stepped}
 use Rattle.world_steps.specs.declared.acting.Stepped.TheVariants.{Done}
-use Rattle.world_moves.specs.declared.listing.Listing.{Listing}
+use Rattle.node_parts.specs.declared.listing.Listing.{Listing}
 use Rattle.world_moves.specs.Listings.{ListSteps}
 use Rattle.world_steps.specs.Scripts.{CanDo, CanRun, can_start, closing, DeliversWhere, ListsWhere, StartsWhere, PartlyDoes, PartlyCommands, PartlyDrains}
 

@@ -9,6 +9,7 @@ use Rattle.task_ids.specs.declared.task_id.TaskId.{TaskId}
 use Rattle.task_ids.specs.declared.cluster.Cluster.{Cluster}
 use Rattle.task_ids.specs.declared.corpus.Corpus.{Corpus}
 use Rattle.task_ids.specs.TaskIdOrder.{task_id_cmp}
+use Rattle.task_ids.proofs.OneValue.{one_value}
 use Rattle.task_ids.proofs.TaskIdKeys.{exact_ids, ids_total}
 use Rattle.task_events.specs.declared.request.Request.{Request as Asked}
 use Rattle.task_events.specs.declared.reply.Reply.{Reply}
@@ -24,7 +25,7 @@ use Rattle.script_lang.specs.declared.command.Command.TheVariants.{Search, Cance
 use Rattle.script_lang.specs.declared.command.Script.{Script}
 use Rattle.world_steps.specs.declared.acting.Stepped.{Stepped}
 use Rattle.world_steps.specs.declared.acting.Stepped.TheVariants.{Done, Waiting, NotRunning}
-use Rattle.world_moves.specs.declared.listing.Listing.{Listing}
+use Rattle.node_parts.specs.declared.listing.Listing.{Listing}
 use Rattle.world_moves.specs.Cancels.{with_due}
 use Rattle.world_moves.specs.Listings.{IsNextChild, IsListStep, ListSteps}
 use Rattle.world_moves.specs.Moves.{IsDelivery, Delivers, IsStart, Starts}
@@ -131,12 +132,7 @@ module _ (cluster : Cluster) (h : List Event) where
 
 -- ids that are not above each other are one
 one_id : (t u : TaskId) → is_le (task_id_cmp t u) ≡ true → is_le (task_id_cmp u t) ≡ true → t ≡ u
-one_id t u le ge = by_order (task_id_cmp t u) refl
-  where
-    by_order : (o : Ordering) → task_id_cmp t u ≡ o → t ≡ u
-    by_order Equal e = exact_ids t u e
-    by_order Less e = absurd (let turned : task_id_cmp u t ≡ Greater = ids_total.antisymm u t ∙ ap ordering_reverse e in cc)
-    by_order Greater e = absurd (cc)
+one_id = one_value task_id_cmp ids_total exact_ids
 
 -- ---- listings
 

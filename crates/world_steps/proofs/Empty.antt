@@ -14,7 +14,7 @@ use Rattle.task_table.specs.Table.{Table, new_table}
 use Rattle.script_lang.specs.declared.command.Script.{Script}
 use Rattle.node_parts.specs.declared.running.Running.{Running}
 use Rattle.world_moves.specs.Ties.{Ties, IsTableAt}
-use Rattle.world_moves.specs.declared.listing.Listing.{Listing}
+use Rattle.node_parts.specs.declared.listing.Listing.{Listing}
 use Rattle.world_moves.specs.Cancels.{waiting_for}
 use Rattle.world_moves.specs.Cancelling.{Cancelling, IsEntryOf, IsRowOf, HasRows, HasBansAt, HasCoreAt}
 use Rattle.world_moves.specs.Listings.{listing_cmp}

@@ -11,7 +11,7 @@ use Rattle.task_ids.specs.declared.corpus.Corpus.{Corpus}
 use Rattle.task_events.specs.declared.event.Event.{Event}
 use Rattle.task_events.specs.Messages.{in_flight}
 use Rattle.script_lang.specs.declared.command.Script.{Script}
-use Rattle.world_moves.specs.declared.listing.Listing.{Listing}
+use Rattle.node_parts.specs.declared.listing.Listing.{Listing}
 use Rattle.world_moves.specs.declared.listings.ListStep.{ListStep}
 use Rattle.world_moves.specs.declared.listings.ListStep.TheVariants.{Done, NoListing}
 use Rattle.world_moves.specs.Listings.{AnswersListing, IsFirstListing, ListSteps, is_open, listing_cmp}

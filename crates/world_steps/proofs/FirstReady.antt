@@ -18,7 +18,7 @@ use Rattle.world_steps.specs.declared.acting.Stepped.{Stepped}
 use Rattle.world_steps.specs.declared.acting.Stepped.TheVariants.{Done, Waiting, NotRunning}
 use Rattle.world_moves.specs.declared.flight.Sent.{Sent}
 use Rattle.world_moves.specs.Flights.{message_of}
-use Rattle.world_moves.specs.declared.listing.Listing.{Listing}
+use Rattle.node_parts.specs.declared.listing.Listing.{Listing}
 use Rattle.world_moves.specs.Listings.{is_open}
 use Rattle.world_moves.specs.Moves.{IsPartly}
 use Rattle.world_steps.specs.Runs.{next_of, Steps, AnswersStep, IsReady, IsFirstReady, FirstMoves, HasRoom}

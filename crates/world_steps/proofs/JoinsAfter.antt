@@ -31,7 +31,7 @@ use Rattle.task_laws.proofs.Numbers.{both}
 use Rattle.task_laws.proofs.Same.{same_tests}
 use Rattle.script_lang.specs.declared.command.Script.{Script}
 use Rattle.world_moves.specs.declared.flight.Sent.{Sent}
-use Rattle.world_moves.specs.declared.listing.Listing.{Listing}
+use Rattle.node_parts.specs.declared.listing.Listing.{Listing}
 use Rattle.node_parts.specs.declared.running.Running.{Running}
 use Rattle.world_moves.specs.Acts.{messages_in, answers_in}
 use Rattle.world_moves.specs.Cancels.{named_by, is_answered, waiting_for, waits_for_end, is_due, due_answers, answer_to, with_answers}
@@ -39,12 +39,12 @@ use Rattle.world_moves.specs.Cancelling.{Cancelling, HasCoreAt, IsCancellationOf
 use Rattle.world_moves.specs.Moves.{IsPartOf}
 use Rattle.world_moves.specs.Plain.{AnswersPlainly}
 use Rattle.world_moves.specs.Ties.{Ties}
-use Rattle.world_moves.proofs.AnswersCome.{NameOneTask, waiting_after, answers_tied, answers_await, answers_noted}
+use Rattle.world_moves.proofs.CancelAnswersAfter.{NameOneTask, waiting_after, answers_tied, answers_await, answers_noted}
 use Rattle.world_moves.proofs.CancelFrame.{waiters_same, entry_frame}
 use Rattle.world_moves.proofs.CoresAfter.{marked_in, core_on, its_entry, cores_after}
 use Rattle.world_moves.proofs.DueActs.{all_pass, none_pass, knows_placed}
 use Rattle.world_steps.proofs.NamedAfter.{first, cancel_lawful, not_waiting, ties_after_cancel, waits_as_told}
-use Rattle.world_moves.proofs.Naming.{is_in, named_in, in_filter, named_acted}
+use Rattle.world_moves.proofs.NamedCancels.{is_in, named_in, in_filter, named_acted}
 use Rattle.world_moves.proofs.Parts.{part_lawful, part_plain, later_part}
 
 -- ---- who waits

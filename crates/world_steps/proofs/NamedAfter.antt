@@ -24,7 +24,7 @@ use Rattle.task_events.specs.Lawful.{AwaitsNoMark, Lawful}
 use Rattle.task_laws.proofs.Commands.{beginning_first, beginning_last}
 use Rattle.task_laws.proofs.Same.{same_task_tells, same_pair_refl, same_tests}
 use Rattle.world_moves.specs.declared.flight.Sent.{Sent}
-use Rattle.world_moves.specs.declared.listing.Listing.{Listing}
+use Rattle.node_parts.specs.declared.listing.Listing.{Listing}
 use Rattle.node_parts.specs.declared.running.Running.{Running}
 use Rattle.world_moves.specs.Cancels.{waiting_for, waits_for_end, named_by, is_answered, after_cancel_of}
 use Rattle.world_moves.specs.Cancelling.{Cancelling, HasRows, HasBansAt, HasCoreAt, IsEntryOf, is_under_way, waiter_of, waiting_but}
@@ -32,9 +32,9 @@ use Rattle.world_moves.specs.Roots.{root_request}
 use Rattle.world_moves.specs.Ties.{Ties}
 use Rattle.world_moves.proofs.CancelFrame.{entry_frame, cores_kept}
 use Rattle.world_moves.proofs.FlightAfter.{all_stay}
-use Rattle.world_moves.proofs.Kept.{kept_same}
-use Rattle.world_moves.proofs.Listed.{listed_same}
-use Rattle.world_moves.proofs.Naming.{is_in, named_in, in_filter}
+use Rattle.world_moves.proofs.KeptTasks.{kept_same}
+use Rattle.world_moves.proofs.NodeTablesSame.{listed_same}
+use Rattle.world_moves.proofs.NamedCancels.{is_in, named_in, in_filter}
 use Rattle.world_moves.proofs.NodeTables.{no_entry}
 use Rattle.world_steps.proofs.Unacted.{IsUnacted, unacted}
 

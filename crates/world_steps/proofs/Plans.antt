@@ -33,10 +33,10 @@ use Rattle.world_moves.specs.Roots.{root_request}
 use Rattle.world_steps.specs.Runs as runs
 use Rattle.world_moves.specs.Ties.{Ties, Runs, WorksFor}
 use Rattle.world_moves.specs.Good.{own_writes, written}
-use Rattle.node_parts.specs.Running.{DoesNext, goes_on}
+use Rattle.node_parts.specs.Running.{DoesNext, can_act}
 use Rattle.world_moves.proofs.AllKinds.{kind_laws}
 use Rattle.world_moves.proofs.KindLaws.{KindLaws}
-use Rattle.world_moves.proofs.Answered.{ends_cancelled, waits_cancelled, tells_none}
+use Rattle.world_moves.proofs.NoneAwaited.{ends_cancelled, waits_cancelled, tells_none}
 use Rattle.world_moves.proofs.StepsAfter.{kept_running, is_kept}
 
 acts : (cluster : Cluster) (t : TaskId) (h : List Event) (d : Do) → is_some (event_of cluster t h d) ≡ not (does_wait d)
@@ -73,18 +73,18 @@ module _ (cluster : Cluster) (corpus : Corpus) (script : Script) (h : List Event
   ends_marked t c n m none = next_cancelled t c n m ∙ ap (cancelled_step t c) none
 
   -- what is kept of a task tells whether it acts
-  pub acts_kept : (t : TaskId) → is_live t h ≡ true → (r : Running) → tasks t ≡ Some r → (is_live t h && is_some (runs.next_of cluster corpus script t h)) ≡ goes_on r (writes_at t)
+  pub acts_kept : (t : TaskId) → is_live t h ≡ true → (r : Running) → tasks t ≡ Some r → (is_live t h && is_some (runs.next_of cluster corpus script t h)) ≡ can_act r (writes_at t)
   acts_kept t l r e = rw l (by_new (is_new t h) refl)
     where
       kept : Runs cluster corpus t (facts_of (root_request script) t h) r
       kept = kept_running cluster corpus script h tasks tables flight ties t l r e
 
-      by_mark : is_new t h ≡ false → (o : Option ℕ) → mark_of t h ≡ o → is_some (runs.next_of cluster corpus script t h) ≡ goes_on r (writes_at t)
+      by_mark : is_new t h ≡ false → (o : Option ℕ) → mark_of t h ≡ o → is_some (runs.next_of cluster corpus script t h) ≡ can_act r (writes_at t)
       by_mark n None m = ap is_some (next_old t l n m r e) ∙ acts cluster t h (next_of r.work (writes_at t)) ∙ sym (rw (kept.new ∙ n) (rw kept.track (rw m refl)))
       by_mark n (Some c) m =
           ap is_some (next_cancelled t c n m) ∙ ends_cancelled cluster t h ties.lawful c ∙ sym (tells_none (awaited_by t h)) ∙ sym (rw (kept.new ∙ n) (rw kept.track (rw m refl)))
 
-      by_new : (b : Bool) → is_new t h ≡ b → is_some (runs.next_of cluster corpus script t h) ≡ goes_on r (writes_at t)
+      by_new : (b : Bool) → is_new t h ≡ b → is_some (runs.next_of cluster corpus script t h) ≡ can_act r (writes_at t)
       by_new true n = ap is_some (next_new t n) ∙ sym (rw (kept.new ∙ n) refl)
       by_new false n = by_mark n (mark_of t h) refl
 

@@ -29,7 +29,7 @@ use Rattle.world_steps.specs.World.{HasReady, HadReady, is_ready, past_of}
 use Rattle.world_moves.specs.declared.state.State.{State}
 use Rattle.task_events.specs.Same.{same_task}
 use Rattle.task_laws.proofs.Same.{same_tests}
-use Rattle.world_moves.proofs.Answered.{ends_cancelled}
+use Rattle.world_moves.proofs.NoneAwaited.{ends_cancelled}
 use Rattle.world_moves.proofs.FactsAfter.{frame}
 
 -- what a task's facts say of it

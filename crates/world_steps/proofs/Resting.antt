@@ -34,7 +34,7 @@ use Rattle.world_steps.specs.Runs as runs
 use Rattle.world_moves.specs.Ties.{Ties, WorksFor}
 use Rattle.world_moves.proofs.AllKinds.{kind_laws}
 use Rattle.world_moves.proofs.KindLaws.{KindLaws}
-use Rattle.world_moves.proofs.Answered.{none_to_await}
+use Rattle.world_moves.proofs.NoneAwaited.{none_to_await}
 use Rattle.world_steps.proofs.Plans.{next_new, next_old, ends_marked, writes_at}
 use Rattle.world_moves.proofs.StepsAfter.{kept_running, is_kept}
 

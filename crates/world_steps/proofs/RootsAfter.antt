@@ -24,11 +24,11 @@ use Rattle.world_moves.specs.Roots.{root_request}
 use Rattle.world_moves.specs.Ties.{Ties}
 use Rattle.world_moves.proofs.FactsAfter.{at_root}
 use Rattle.world_moves.proofs.FlightAfter.{all_stay}
-use Rattle.world_moves.proofs.Kept.{kept_after, kept_same}
-use Rattle.world_moves.proofs.Listed.{listed_same}
-use Rattle.world_moves.proofs.Started.{started, first, runs_first}
+use Rattle.world_moves.proofs.KeptTasks.{kept_after, kept_same}
+use Rattle.world_moves.proofs.NodeTablesSame.{listed_same}
+use Rattle.world_moves.proofs.FirstRuns.{started, first, runs_first}
 use Rattle.world_moves.proofs.Tables.{IsPutOn, put_node, put_takes, put_listed}
-use Rattle.world_moves.proofs.Unborn.{blank, unborn}
+use Rattle.world_moves.proofs.UnbornTasks.{blank, unborn}
 
 module _ (cluster : Cluster) (corpus : Corpus) (script : Script) (h : List Event) (tasks : TaskId → Option Running) (tables : List Table) (flight : List Sent) (ties : Ties cluster corpus script h tasks tables flight) (awaits : AwaitsNoMark h) (command : ℕ) where
   pub after_begin : last_command h + 1 ≡ command → Ties cluster corpus script (Begin command ∷ h) tasks tables flight

@@ -17,7 +17,7 @@ use Rattle.task_events.specs.Bans.{mark_of, ban_over}
 use Rattle.task_events.specs.Cancels.{last_command}
 use Rattle.task_events.specs.Messages.{Message}
 use Rattle.task_events.specs.Messages.Message.{Request, Answer, Ban, Ack, Unban}
-use Rattle.task_events.specs.Steps.{event_of, first_step, cancelled_step, step_from, planned_step, request_of}
+use Rattle.task_events.specs.Steps.{event_of, first_step, cancelled_step, step_of_passed, planned_step, request_of}
 use Rattle.task_events.specs.Tasks.{is_live, is_new}
 use Rattle.task_events.specs.Turns.{is_begin}
 use Rattle.script_lang.specs.declared.command.Script.{Script}
@@ -26,7 +26,7 @@ use Rattle.script_lang.specs.declared.command.Command.TheVariants.{Search, Cance
 use Rattle.world_steps.specs.declared.acting.Stepped.{Stepped}
 use Rattle.world_steps.specs.declared.acting.Stepped.TheVariants.{Done, Waiting, NotRunning}
 use Rattle.script_lang.specs.declared.command.CancelTarget.{CancelTarget}
-use Rattle.world_moves.specs.declared.listing.Listing.{Listing}
+use Rattle.node_parts.specs.declared.listing.Listing.{Listing}
 use Rattle.world_moves.specs.declared.listings.ListStep.{ListStep as ListingAnswer}
 use Rattle.world_moves.specs.declared.listings.ListStep.TheVariants.{Done as Listing_done, NoListing}
 use Rattle.world_moves.specs.Cancels.{after_cancel, after_cancel_of, answer_to, due_answers, is_due, target_of, waiting_for, waits_for_end, with_answers, with_cancel, with_due}
@@ -146,7 +146,7 @@ module _ (cluster : Cluster) (t : TaskId) (h : List Event) where
   by_plan (Wait due) e same = absurd (cc)
   by_plan (Finish reply) e same = subst (λ o. option_map_or is_begin o false ≡ false) same refl
 
-  by_step : (new : Bool) (mark : Option ℕ) (plan : Option Do) (e : Event) → step_from cluster t h new mark plan ≡ Some e → is_begin e ≡ false
+  by_step : (new : Bool) (mark : Option ℕ) (plan : Option Do) (e : Event) → cond new (Some (first_step t (ban_over t h))) (step_of_passed cluster t h mark plan) ≡ Some e → is_begin e ≡ false
   by_step true mark plan e same = by_first (ban_over t h) e same
   by_step false (Some c) plan e same = by_mark c (unanswered t h) e same
   by_step false None None e same = absurd (cc)

@@ -16,7 +16,7 @@ use Rattle.world_steps.specs.declared.acting.Stepped.{Stepped}
 use Rattle.world_steps.specs.declared.acting.Stepped.TheVariants.{Done, Waiting, NotRunning}
 use Rattle.world_moves.specs.Roots.{root_request}
 use Rattle.world_moves.specs.Cancels.{with_due}
-use Rattle.world_moves.specs.declared.listing.Listing.{Listing}
+use Rattle.node_parts.specs.declared.listing.Listing.{Listing}
 use Rattle.world_moves.specs.Listings.{is_open, IsFirstListing, ListSteps}
 use Rattle.world_moves.specs.Moves.{Delivers, IsPartly, DeliveryLacksNumber, Stops}
 

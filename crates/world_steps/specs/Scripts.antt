@@ -14,7 +14,7 @@ use Rattle.script_lang.specs.declared.command.Command.{Command}
 use Rattle.script_lang.specs.declared.command.Command.TheVariants.{Search, Cancel, Deliver, Step, ListStep, Settle, History}
 use Rattle.script_lang.specs.declared.command.Script.{Script}
 use Rattle.world_steps.specs.declared.acting.Stepped.{Stepped}
-use Rattle.world_moves.specs.declared.listing.Listing.{Listing}
+use Rattle.node_parts.specs.declared.listing.Listing.{Listing}
 use Rattle.world_moves.specs.Cancels.{after_cancel}
 use Rattle.world_moves.specs.Listings.{is_open, ListSteps}
 use Rattle.world_moves.specs.Moves.{Delivers, Starts, NodeLacksNumber, DeliveryLacksNumber, IsPartly, Stops}

@@ -14,8 +14,8 @@ ghost use Rattle.world_moves.specs.Ties.{IsTied, Keeps, HasShards, KeepsLaws};
 ghost use Rattle.world_steps.specs.World.{HasReady};
 
 use crate::acting::Stepped;
-use crate::cancels::cancel;
-use crate::moving::{deliver_there, list_there, settle, step_there};
+use crate::cancel_commands::cancel;
+use crate::moving::{deliver_and_refresh, list_and_refresh, settle, step_and_refresh};
 use crate::ready::refresh;
 use crate::roots::{begin, start};
 use query_match::SearchBody;
@@ -26,7 +26,7 @@ use std::collections::BTreeSet;
 use task_events::{Event, SearchAsk, Stop};
 use task_ids::{DocSource, TaskId, Text};
 use task_laws::drained_bans;
-use world_moves::listing::Listing;
+use node_parts::listing::Listing;
 use world_moves::state::State;
 
 /// Whether a body could not be read for want of memory. Otherwise the fault is one of the body.
@@ -124,14 +124,14 @@ fn deliver(state: &mut State<'_>, ready: &mut BTreeSet<TaskId>, nth: u64) -> Res
     if nth >= state.flight.len() as u64 {
         return Ok(());
     }
-    match deliver_there(state, ready, nth as usize) {
+    match deliver_and_refresh(state, ready, nth as usize) {
         Ok(()) => Ok(()),
         Err(stop) => Err(stop),
     }
 }
 
 /// A cancel that has begun names and marks its task, or finds none, and it is noted whether the task waits.
-fn cancel_there(
+fn cancel_and_refresh(
     state: &mut State<'_>,
     ready: &mut BTreeSet<TaskId>,
     number: u32,
@@ -173,7 +173,7 @@ fn list(state: &mut State<'_>, ready: &mut BTreeSet<TaskId>, listing: Listing) -
     ensures laws { KeepsLaws state.new }
     ensures stop { IfErr result (λ stop. StopsMove (ListsWhere listing) state.old.history state.new.history stop) }
 {
-    match list_there(state, ready, listing) {
+    match list_and_refresh(state, ready, listing) {
         Ok(_) => Ok(()),
         Err(stop) => Err(stop),
     }
@@ -192,7 +192,7 @@ fn step(state: &mut State<'_>, ready: &mut BTreeSet<TaskId>, task: TaskId) -> Re
     ensures laws { KeepsLaws state.new }
     ensures stop { IfErr result (λ stop. StopsMove (λ h new. (stepped : Stepped) × AnswersStep state.old.cluster state.old.corpus.now state.old.script.now task h stepped new) state.old.history state.new.history stop) }
 {
-    match step_there(state, ready, task) {
+    match step_and_refresh(state, ready, task) {
         Ok(_) => Ok(()),
         Err(stop) => Err(stop),
     }
@@ -223,7 +223,7 @@ fn act_on(
     match command {
         Command::Search { index, node, body } => search(state, ready, number, index, *node, body),
         Command::Deliver { nth } => deliver(state, ready, *nth),
-        Command::Cancel { target, wait, .. } => cancel_there(state, ready, number, target, *wait),
+        Command::Cancel { target, wait, .. } => cancel_and_refresh(state, ready, number, target, *wait),
         Command::Step { task } => step(state, ready, *task),
         Command::ListStep { node, parent } => {
             let (node, parent) = (*node, *parent);
@@ -235,7 +235,7 @@ fn act_on(
 }
 
 /// A command begins, and it is known which tasks do not wait.
-fn begin_there(state: &mut State<'_>, ready: &mut BTreeSet<TaskId>, number: u32) -> Result<(), Stop>
+fn begin_and_refresh(state: &mut State<'_>, ready: &mut BTreeSet<TaskId>, number: u32) -> Result<(), Stop>
     requires tied { IsTied state.old }
     requires known { HasReady state.old ready.old }
     requires next { last_command state.old.history + 1 ≡ number }
@@ -276,7 +276,7 @@ pub(crate) fn command(
     ensures laws { KeepsLaws state.new }
     ensures stop { IfErr result (λ stop. StopsCommand state.old.cluster state.old.corpus.now state.old.script.now k state.old.history state.new.history stop) }
 {
-    match begin_there(state, ready, k) {
+    match begin_and_refresh(state, ready, k) {
         Ok(()) => {}
         Err(stop) => return Err(stop),
     }
@@ -310,7 +310,7 @@ pub(crate) fn drain(state: &mut State<'_>, ready: &mut BTreeSet<TaskId>) -> Resu
     let closing = state.script.commands.as_slice().len() as u32 + 1;
     // Of a past in which nothing moves any more. It computes nothing.
     drained_bans();
-    match begin_there(state, ready, closing) {
+    match begin_and_refresh(state, ready, closing) {
         Ok(()) => {}
         Err(stop) => return Err(stop),
     }

@@ -2,7 +2,7 @@
 #![tactic(auto)]
 
 mod acting;
-mod cancels;
+mod cancel_commands;
 mod commands;
 mod laws;
 mod moving;
@@ -13,5 +13,5 @@ mod world;
 pub use acting::Stepped;
 pub use laws::one_run;
 pub use world::{Delivered, World};
-pub use world_moves::listing::Listing;
+pub use node_parts::listing::Listing;
 pub use world_moves::listings::ListStep;

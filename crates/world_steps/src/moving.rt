@@ -16,7 +16,7 @@ use task_events::Stop;
 use task_ids::TaskId;
 use world_moves::answers::deliver_answer;
 use world_moves::bans::deliver_notice;
-use world_moves::listing::Listing;
+use node_parts::listing::Listing;
 use world_moves::listings::{ListStep, list_step};
 use world_moves::requests::deliver_request;
 use world_moves::state::State;
@@ -49,7 +49,7 @@ pub(crate) fn deliver_one(state: &mut State<'_>, nth: usize) -> Result<(), Stop>
 }
 
 /// Delivers the message of this place among those in flight, and notes which tasks do not wait after that.
-pub(crate) fn deliver_there(
+pub(crate) fn deliver_and_refresh(
     state: &mut State<'_>,
     ready: &mut BTreeSet<TaskId>,
     nth: usize,
@@ -78,7 +78,7 @@ pub(crate) fn deliver_there(
 }
 
 /// A task makes its next step, and it is noted whether it waits after that.
-pub(crate) fn step_there(
+pub(crate) fn step_and_refresh(
     state: &mut State<'_>,
     ready: &mut BTreeSet<TaskId>,
     task: TaskId,
@@ -107,7 +107,7 @@ pub(crate) fn step_there(
 }
 
 /// A listing makes its next step, if it is open, and it is noted whether the child waits that it marked.
-pub(crate) fn list_there(
+pub(crate) fn list_and_refresh(
     state: &mut State<'_>,
     ready: &mut BTreeSet<TaskId>,
     listing: Listing,
@@ -151,13 +151,13 @@ pub(crate) fn move_first(state: &mut State<'_>, ready: &mut BTreeSet<TaskId>) ->
     ensures stop { IfErr result (λ stop. StopsFirst state.old.cluster state.old.corpus.now state.old.script.now state.old.history state.new.history stop) }
 {
     if state.flight.len() > 0 {
-        return match deliver_there(state, ready, 0) {
+        return match deliver_and_refresh(state, ready, 0) {
             Ok(()) => Ok(true),
             Err(stop) => Err(stop),
         };
     }
     if let Some(listing) = state.listings.first().copied() {
-        return match list_there(state, ready, listing) {
+        return match list_and_refresh(state, ready, listing) {
             Ok(_) => Ok(true),
             Err(stop) => Err(stop),
         };
@@ -165,7 +165,7 @@ pub(crate) fn move_first(state: &mut State<'_>, ready: &mut BTreeSet<TaskId>) ->
     let Some(task) = ready.first().copied() else {
         return Ok(false);
     };
-    match step_there(state, ready, task) {
+    match step_and_refresh(state, ready, task) {
         Ok(_) => Ok(true),
         Err(stop) => Err(stop),
     }

@@ -7,7 +7,7 @@ ghost use Rattle.task_ids.specs.TaskIdOrder.{task_id_cmp};
 ghost use Rattle.task_events.specs.Same.{same_task};
 ghost use Rattle.world_moves.specs.Facts.{about};
 ghost use Rattle.world_moves.specs.Ties.{IsTied};
-ghost use Rattle.node_parts.specs.Running.{goes_on};
+ghost use Rattle.node_parts.specs.Running.{can_act};
 ghost use Rattle.world_steps.specs.World.{HasReady, HadReady, ready_in};
 
 use node_parts::running::Running;
@@ -34,8 +34,8 @@ pub(crate) fn task_of(event: &Event) -> Option<TaskId>
 }
 
 /// Whether a kept task does not wait: a marked one waits while an ask of it is unanswered, and for the others their work says.
-fn goes_on(running: &Running) -> bool
-    ensures { (writes : List Doc) → result ≡ goes_on running.now writes }
+fn can_act(running: &Running) -> bool
+    ensures { (writes : List Doc) → result ≡ can_act running.now writes }
 {
     if running.is_new {
         return true;
@@ -47,24 +47,24 @@ fn goes_on(running: &Running) -> bool
 }
 
 /// Whether a task is live and does not wait.
-fn acts(state: &State<'_>, task: TaskId) -> bool
+fn is_ready(state: &State<'_>, task: TaskId) -> bool
     requires tied { IsTied state.now }
     ensures { result ≡ ready_in state.now task }
 {
     match state.tasks.get(&task) {
-        Some(running) => goes_on(running),
+        Some(running) => can_act(running),
         None => false,
     }
 }
 
 /// Notes whether a task does not wait now.
-fn note(state: &State<'_>, ready: &mut BTreeSet<TaskId>, task: TaskId) -> Result<(), Stop>
+fn refresh_one(state: &State<'_>, ready: &mut BTreeSet<TaskId>, task: TaskId) -> Result<(), Stop>
     requires tied { IsTied state.now }
     ensures known { OnOk result ((q : TaskId) → contains task_id_cmp ready.new q
         ≡ (if same_task task q then ready_in state.now q else contains task_id_cmp ready.old q)) }
     ensures memory { IfErr result (λ stop. stop ≡ Stop.Memory) }
 {
-    if !acts(state, task) {
+    if !is_ready(state, task) {
         ready.remove(&task);
         return Ok(());
     }
@@ -91,7 +91,7 @@ pub(crate) fn refresh(
             unreachable!()
         };
         if let Some(task) = task_of(event) {
-            note(state, ready, task)?;
+            refresh_one(state, ready, task)?;
         }
     }
     Ok(())

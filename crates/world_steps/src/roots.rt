@@ -19,7 +19,7 @@ use task_events::{Event, History, Request, SearchAsk, Stop};
 use task_ids::{Boxed, TaskId};
 use task_table::PutError;
 use world_moves::append::append;
-use world_moves::starting::{keep, put_on, spend};
+use world_moves::starting::{keep_started, put_on, spend};
 use world_moves::state::State;
 
 /// A command begins, the next in order. Commands are numbered from 1.
@@ -58,7 +58,7 @@ fn keep_root(
 {
     let task = running.ticket.id();
     match roots.insert(command, task) {
-        Ok(_) => keep(history, tasks, running, Event::Root { command, task }),
+        Ok(_) => keep_started(history, tasks, running, Event::Root { command, task }),
         Err(_) => {
             drop(running);
             Err(Stop::Memory)

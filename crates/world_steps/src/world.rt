@@ -27,7 +27,7 @@ use task_events::{History, Stop};
 use task_ids::{Cluster, Corpus, TaskId};
 use task_table::TaskTable;
 use world_moves::flight::Flight;
-use world_moves::listing::Listing;
+use node_parts::listing::Listing;
 use world_moves::listings::ListStep;
 use world_moves::state::State;
 
@@ -299,7 +299,7 @@ impl<'a> World<'a> {
         if nth >= in_flight {
             return Ok(Delivered::NoSuch(in_flight));
         }
-        match moving::deliver_there(&mut self.state, &mut self.ready, nth as usize) {
+        match moving::deliver_and_refresh(&mut self.state, &mut self.ready, nth as usize) {
             Ok(()) => Ok(Delivered::Done),
             Err(stop) => {
                 self.stopped = Some(stop);
@@ -323,7 +323,7 @@ impl<'a> World<'a> {
         if let Some(stop) = self.stopped {
             return Err(stop);
         }
-        match moving::step_there(&mut self.state, &mut self.ready, task) {
+        match moving::step_and_refresh(&mut self.state, &mut self.ready, task) {
             Ok(stepped) => Ok(stepped),
             Err(stop) => {
                 self.stopped = Some(stop);
@@ -349,7 +349,7 @@ impl<'a> World<'a> {
             return Err(stop);
         }
         let listing = Listing { node, parent };
-        match moving::list_there(&mut self.state, &mut self.ready, listing) {
+        match moving::list_and_refresh(&mut self.state, &mut self.ready, listing) {
             Ok(stepped) => Ok(stepped),
             Err(stop) => {
                 self.stopped = Some(stop);

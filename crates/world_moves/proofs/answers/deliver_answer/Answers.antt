@@ -5,11 +5,11 @@ use Rattle.task_events.specs.Lawful.{AwaitsNoMark}
 use Rattle.world_moves.specs.Cancels.{waiting_for}
 use Rattle.world_moves.specs.Moves.{Delivers}
 use Rattle.world_moves.specs.Ties.{task_at}
-use Rattle.world_moves.proofs.Kept.{at_changed, off_changed}
+use Rattle.world_moves.proofs.KeptTasks.{at_changed, off_changed}
 use Rattle.world_moves.proofs.StepsAfter.{is_kept}
 use Rattle.world_moves.proofs.AnswersAfter.{has_parent, has_reply, asker_live, own, takes_reply, delivers, after_answer}
 use Rattle.world_moves.proofs.SameTies.{same_ties, same_cancels}
-use Rattle.world_moves.proofs.Uninvolved.{noted}
+use Rattle.world_moves.proofs.CancelsUntouched.{noted}
 use Rattle.world_moves.proofs.CutShort.{cut_only}
 use Rattle.corpus_shards.proofs.Cases.{some_of, then_ok, of_err}
 use Rattle.world_moves.proofs.answers.deliver_answer.Goals as goal

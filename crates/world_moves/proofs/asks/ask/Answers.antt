@@ -6,9 +6,9 @@ use Rattle.world_moves.specs.declared.flight.Sent.TheVariants.{Request}
 use Rattle.node_parts.specs.Running.{PlansToAsk}
 use Rattle.world_moves.specs.Cancels.{waiting_for}
 use Rattle.world_moves.specs.Ties.{task_at}
-use Rattle.world_moves.proofs.Kept.{at_changed, off_changed}
+use Rattle.world_moves.proofs.KeptTasks.{at_changed, off_changed}
 use Rattle.world_moves.proofs.AsksAfter.{few_asks, track_open, can_now, number_is, track_of, after_ask}
-use Rattle.world_moves.proofs.Uninvolved.{noted}
+use Rattle.world_moves.proofs.CancelsUntouched.{noted}
 use Rattle.corpus_shards.proofs.Cases.{some_of, then_ok}
 use Rattle.world_moves.proofs.asks.ask.Goals as goal
 

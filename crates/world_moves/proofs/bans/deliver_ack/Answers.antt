@@ -10,7 +10,7 @@ use Rattle.world_moves.specs.Acts.{messages_in, answers_in}
 use Rattle.world_moves.specs.Cancels.{waiting_for, due_answers}
 use Rattle.world_moves.specs.Moves.{Delivers, IsPartOf, IsPartly}
 use Rattle.world_moves.proofs.AcksAfter.{ack_high, ack_core, ack_entry, ack_awaited, tied_after, noted_after, ack_happened, delivers_ack, partly_ack, part_laws}
-use Rattle.world_moves.proofs.AnswersCome.{answers_await}
+use Rattle.world_moves.proofs.CancelAnswersAfter.{answers_await}
 use Rattle.world_moves.proofs.CoresAfter.{has_core}
 use Rattle.corpus_shards.proofs.Cases.{then_ok, both_ok, then_err}
 use Rattle.world_moves.proofs.CutShort.{cut_as, cut_first, cut_move}

@@ -4,7 +4,7 @@ use Rattle.task_events.specs.declared.event.Event.TheVariants.{BanPut}
 use Rattle.task_events.specs.Messages.Message.{Ban}
 use Rattle.world_moves.specs.Moves.{Delivers}
 use Rattle.world_moves.proofs.BansAfter.{bans_on, has_bans, bans_tell, tied_put, noted_put}
-use Rattle.world_moves.proofs.BansCome.{ban_here, ban_number, ban_in, ban_free}
+use Rattle.world_moves.proofs.BansInFlight.{ban_here, ban_number, ban_in, ban_free}
 use Rattle.corpus_shards.proofs.Cases.{then_ok, of_err}
 use Rattle.world_moves.proofs.CutShort.{cut_only}
 use Rattle.world_moves.proofs.bans.deliver_ban.Goals as goal

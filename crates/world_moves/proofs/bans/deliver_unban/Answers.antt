@@ -4,7 +4,7 @@ use Rattle.task_events.specs.declared.event.Event.TheVariants.{BanGone}
 use Rattle.task_events.specs.Messages.Message.{Unban}
 use Rattle.world_moves.specs.Moves.{Delivers}
 use Rattle.world_moves.proofs.BansAfter.{bans_on, has_bans, tied_gone, noted_gone}
-use Rattle.world_moves.proofs.BansCome.{unban_here, unban_in}
+use Rattle.world_moves.proofs.BansInFlight.{unban_here, unban_in}
 use Rattle.corpus_shards.proofs.Cases.{then_ok, of_err}
 use Rattle.world_moves.proofs.CutShort.{cut_only}
 use Rattle.world_moves.proofs.bans.deliver_unban.Goals as goal

@@ -4,12 +4,12 @@ use Rattle.task_table.specs.Table.{without_task}
 use Rattle.task_events.specs.declared.event.Event.TheVariants.{End}
 use Rattle.world_moves.specs.Flights.{told_parent}
 use Rattle.world_moves.specs.Ties.{task_at}
-use Rattle.world_moves.proofs.Kept.{at_changed, off_changed}
+use Rattle.world_moves.proofs.KeptTasks.{at_changed, off_changed}
 use Rattle.world_moves.proofs.SameTies.{same_ties}
 use Rattle.world_moves.proofs.StepsAfter.{is_kept}
 use Rattle.world_moves.proofs.EndsAfter.{after_finish, all_come}
-use Rattle.world_moves.proofs.LeftNotes.{noted_unmarked}
-use Rattle.world_moves.proofs.Leaving.{nothing_open, own_track, has_table, table_is, stands, runs}
+use Rattle.world_moves.proofs.CancelsAfterLeave.{noted_unmarked}
+use Rattle.world_moves.proofs.TasksAfterLeave.{nothing_open, own_track, has_table, table_is, stands, runs}
 use Rattle.corpus_shards.proofs.Cases.{then_ok}
 use Rattle.world_moves.proofs.ends.finish.Goals as goal
 

@@ -11,15 +11,15 @@ use Rattle.task_events.specs.Lawful.{Lawful}
 use Rattle.world_moves.specs.Moves.{IsPartOf}
 use Rattle.world_moves.specs.Plain.{AnswersPlainly}
 use Rattle.world_moves.specs.Ties.{task_at}
-use Rattle.world_moves.proofs.Kept.{at_changed, off_changed}
+use Rattle.world_moves.proofs.KeptTasks.{at_changed, off_changed}
 use Rattle.world_moves.proofs.SameTies.{same_ties}
 use Rattle.world_moves.proofs.StepsAfter.{is_kept}
-use Rattle.world_moves.proofs.AnswersCome.{answers_lawful, answers_await, answers_tied, answers_noted}
+use Rattle.world_moves.proofs.CancelAnswersAfter.{answers_lawful, answers_await, answers_tied, answers_noted}
 use Rattle.world_moves.proofs.CancelledEnds.{leaves_so, leaver_lives, awaits_none, left_lawful, left_plain, none_part, first_part, leaver_open, after_cancelled, after_unmarked}
-use Rattle.world_moves.proofs.LeftEntries.{core_is, known_there, no_receipt, unmarked_there, nobody_there, answered_then, sent_then, part_then, answers_plain, set_again}
+use Rattle.world_moves.proofs.CoresAfterLeave.{core_is, known_there, no_receipt, unmarked_there, nobody_there, answered_then, sent_then, part_then, answers_plain, set_again}
 use Rattle.task_laws.proofs.Reach.{reach_facts}
-use Rattle.world_moves.proofs.LeftNotes.{noted_unmarked, noted_ended, nothing_due, core_there, one_task_left}
-use Rattle.world_moves.proofs.Leaving.{own_track, has_table, in_cluster, table_is, stands, runs}
+use Rattle.world_moves.proofs.CancelsAfterLeave.{noted_unmarked, noted_ended, nothing_due, core_there, one_task_left}
+use Rattle.world_moves.proofs.TasksAfterLeave.{own_track, has_table, in_cluster, table_is, stands, runs}
 use Rattle.corpus_shards.proofs.Cases.{then_ok, both_ok, then_err, on_err}
 use Rattle.world_moves.proofs.Parts.{part_lawful, part_plain, later_part}
 use Rattle.world_moves.proofs.CutShort.{cut_as, cut_first}

@@ -15,9 +15,9 @@ use Rattle.world_moves.specs.Cancels.{with_answers, due_answers}
 use Rattle.world_moves.specs.Moves.{IsPartOf}
 use Rattle.world_moves.specs.Cancelling.{HasRows}
 use Rattle.world_moves.specs.Ties.{task_at, IsTableAt}
-use Rattle.world_moves.proofs.AnswersCome.{answers_await, answers_tied, answers_noted}
-use Rattle.world_moves.proofs.AskedNodes.{asked_nodes}
-use Rattle.world_moves.proofs.Kept.{at_changed, off_changed}
+use Rattle.world_moves.proofs.CancelAnswersAfter.{answers_await, answers_tied, answers_noted}
+use Rattle.world_moves.proofs.NodesAsked.{asked_nodes}
+use Rattle.world_moves.proofs.KeptTasks.{at_changed, off_changed}
 use Rattle.world_moves.proofs.LiveRows.{read_at}
 use Rattle.world_moves.proofs.MarksAfter.{marks_row, after_mark, cancels_after_mark, mark_happened, mark_queue, nothing_yet}
 use Rattle.world_moves.proofs.NodeTables.{core_at, fresh, same_cancels}

@@ -14,15 +14,15 @@ use Rattle.world_moves.specs.Moves.{Delivers}
 use Rattle.task_events.specs.Lawful.{AwaitsNoMark}
 use Rattle.world_moves.specs.Cancels.{waiting_for}
 use Rattle.world_moves.specs.Ties.{task_at}
-use Rattle.world_moves.proofs.Arrivals.{arrives}
-use Rattle.world_moves.proofs.Kept.{at_changed, off_changed}
+use Rattle.world_moves.proofs.RequestsInFlight.{arrives}
+use Rattle.world_moves.proofs.KeptTasks.{at_changed, off_changed}
 use Rattle.world_moves.proofs.SameTies.{same_ties, same_cancels}
 use Rattle.corpus_shards.proofs.Cases.{some_of, then_ok, both_ok, of_err}
 use Rattle.world_moves.proofs.RequestsAfter.{rejected, delivers_put, after_put, delivers_reject, after_reject}
-use Rattle.world_moves.proofs.Started.{first}
-use Rattle.world_moves.proofs.StartsNoted.{noted_put}
+use Rattle.world_moves.proofs.FirstRuns.{first}
+use Rattle.world_moves.proofs.CancelsAfterStart.{noted_put}
 use Rattle.world_moves.proofs.Tables.{IsPutOn, node_has_table, no_slot, no_number}
-use Rattle.world_moves.proofs.Uninvolved.{noted}
+use Rattle.world_moves.proofs.CancelsUntouched.{noted}
 use Rattle.world_moves.proofs.CutShort.{cut_only}
 use Rattle.world_moves.proofs.requests.deliver_request.Goals as goal
 
@@ -56,7 +56,7 @@ returns-in_ok-running-in-Ok-clause-delivered c =
     let a = arrives s.cluster s.corpus.now s.script.now s.history _ _ s.flight c.requires.tied.ties c.args.nth _ _ _ c.take_request-token.ensures.taken in
     let t = c.in-Ok.ticket.id in
     let put : IsPutOn s.tables.items c.take_request-token.result.1 t c.new_task-child.result c.put_on.new.tables.items = record { id = c.in-Ok.ensures.id; row = c.in-Ok.ensures.row; free = c.in-Ok.ensures.free } in
-    then_ok c.keep.result _ _ c.keep.ensures.happened (λ kept. (let happened : c.keep.new.history ≡ Put t token.parent token.ask ∷ s.history = cc (kept, c.id-task.ensures, c.parent-parent.ensures, c.ask-ask.ensures) in
+    then_ok c.keep_started.result _ _ c.keep_started.ensures.happened (λ kept. (let happened : c.keep_started.new.history ≡ Put t token.parent token.ask ∷ s.history = cc (kept, c.id-task.ensures, c.parent-parent.ensures, c.ask-ask.ensures) in
     subst (λ h. Delivers s.cluster s.history c.args.nth h) (sym happened)
     (delivers_put s.cluster s.corpus.now s.script.now s.history (task_at s.tasks) s.tables.items s.flight c.requires.tied.ties c.requires.tied.awaits c.args.nth token c.take_request-token.result.1 _ a t _ _ put)))
 
@@ -71,11 +71,11 @@ returns-in_ok-running-in-Ok-clause-tied c =
     let asked : c.request_at-request.result.now ≡ a.asked = cc (c.request_at-request.ensures, a.stands) in
     let is : running ≡ first t (Some token) true a.asked s.cluster.shards = c.in_ok-running-in-Ok.ensures.running
     ∙ ap (λ (o : Option Token). first t o true c.request_at-request.result.now s.cluster.shards) c.in-Ok.ensures.token ∙ ap (λ (r : Request). first t (Some token) true r s.cluster.shards) asked in
-    both_ok c.keep.result _ _ _ c.keep.ensures.happened c.keep.ensures.kept (λ event kept. (let happened : c.keep.new.history ≡ Put t token.parent token.ask ∷ s.history = cc (event, c.id-task.ensures, c.parent-parent.ensures, c.ask-ask.ensures) in
-    let changed = subst (λ (k : TaskId). (q : TaskId) → task_at c.keep.new.tasks q ≡ cond (is_at (task_id_cmp k) q) (Some running) (task_at s.tasks q)) (ap (λ (r : Running). r.ticket.id) is) kept in
+    both_ok c.keep_started.result _ _ _ c.keep_started.ensures.happened c.keep_started.ensures.kept (λ event kept. (let happened : c.keep_started.new.history ≡ Put t token.parent token.ask ∷ s.history = cc (event, c.id-task.ensures, c.parent-parent.ensures, c.ask-ask.ensures) in
+    let changed = subst (λ (k : TaskId). (q : TaskId) → task_at c.keep_started.new.tasks q ≡ cond (is_at (task_id_cmp k) q) (Some running) (task_at s.tasks q)) (ap (λ (r : Running). r.ticket.id) is) kept in
     record {
-      ties = same_ties s.cluster s.corpus.now s.script.now (task_at c.keep.new.tasks) _ _ _ _ _ _ happened refl c.take_request-token.ensures.rest
-          (after_put s.cluster s.corpus.now s.script.now s.history (task_at s.tasks) s.tables.items s.flight c.requires.tied.ties c.requires.tied.awaits c.args.nth token c.take_request-token.result.1 _ a t _ _ put running (task_at c.keep.new.tasks) is
+      ties = same_ties s.cluster s.corpus.now s.script.now (task_at c.keep_started.new.tasks) _ _ _ _ _ _ happened refl c.take_request-token.ensures.rest
+          (after_put s.cluster s.corpus.now s.script.now s.history (task_at s.tasks) s.tables.items s.flight c.requires.tied.ties c.requires.tied.awaits c.args.nth token c.take_request-token.result.1 _ a t _ _ put running (task_at c.keep_started.new.tasks) is
           c.in_ok-running-in-Ok.ensures.begun (at_changed t (Some running) (task_at s.tasks) _ changed) (off_changed t (Some running) (task_at s.tasks) _ changed));
       cancels = same_cancels s.cluster _ _ _ _ _ _ _ _ happened refl
           (noted_put s.cluster s.history s.tables.items c.requires.tied.ties.listed c.take_request-token.result.1 a.low a.high t _ _ put c.requires.tied.ties.lawful (λ t. waiting_for t s.history) _ _ _ _ c.requires.tied.cancels token.parent token.ask (c.new_task-child.ensures.parent ∙ ap Some c.parent-parent.ensures));
@@ -129,9 +129,9 @@ returns-in_ok-running-in-Ok-clause-full c = λ failed.
     let a = arrives s.cluster s.corpus.now s.script.now s.history _ _ s.flight c.requires.tied.ties c.args.nth _ _ _ c.take_request-token.ensures.taken in
     let t = c.in-Ok.ticket.id in
     let put : IsPutOn s.tables.items c.take_request-token.result.1 t c.new_task-child.result c.put_on.new.tables.items = record { id = c.in-Ok.ensures.id; row = c.in-Ok.ensures.row; free = c.in-Ok.ensures.free } in
-    cut_only (λ x y. Delivers s.cluster x c.args.nth y) s.history c.keep.new.history (Put t token.parent token.ask)
+    cut_only (λ x y. Delivers s.cluster x c.args.nth y) s.history c.keep_started.new.history (Put t token.parent token.ask)
     (delivers_put s.cluster s.corpus.now s.script.now s.history (task_at s.tasks) s.tables.items s.flight c.requires.tied.ties c.requires.tied.awaits c.args.nth token c.take_request-token.result.1 _ a t _ _ put)
-    (c.keep.ensures.full failed) (of_err c.keep.result _ _ failed c.keep.ensures.err)
+    (c.keep_started.ensures.full failed) (of_err c.keep_started.result _ _ failed c.keep_started.ensures.err)
 
 pub returns-in-Some-clause-full : goal.returns-in-Some-clause-full
 returns-in-Some-clause-full c = λ failed.

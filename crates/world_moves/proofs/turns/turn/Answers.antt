@@ -5,10 +5,10 @@ use Rattle.task_events.specs.declared.event.Event.TheVariants.{Work}
 use Rattle.world_moves.specs.Cancels.{waiting_for}
 use Rattle.world_moves.specs.Ties.{task_at, looked_at}
 use Rattle.corpus_shards.proofs.Cases.{some_of}
-use Rattle.world_moves.proofs.Kept.{at_changed, off_changed}
+use Rattle.world_moves.proofs.KeptTasks.{at_changed, off_changed}
 use Rattle.world_moves.proofs.StepsAfter.{is_kept, kept_running}
 use Rattle.world_moves.proofs.TurnsAfter.{is_on, after_turn}
-use Rattle.world_moves.proofs.Uninvolved.{noted}
+use Rattle.world_moves.proofs.CancelsUntouched.{noted}
 use Rattle.world_moves.proofs.turns.turn.Goals as goal
 
 pub unreachable-requires : goal.unreachable-requires

@@ -3,7 +3,7 @@ use Rattle.std.specs.Option.{option_copied}
 use Rattle.child_track.specs.Track.{unanswered}
 use Rattle.std.specs.Prelude.{nat_lt}
 use Rattle.world_moves.specs.Facts.{awaited_by}
-use Rattle.world_moves.proofs.Answered.{tells_some}
+use Rattle.world_moves.proofs.NoneAwaited.{tells_some}
 use Rattle.world_moves.proofs.StepsAfter.{runs_of, gone_of}
 use Rattle.world_steps.proofs.acting.act.Goals as goal
 

@@ -1,5 +1,5 @@
 use Rattle.std.proofs.Common.{◌≡◌, Bool, true, false, not, refl, inr, Err, ap, ◌∙◌}
-use Rattle.world_moves.proofs.Answered.{none_unanswered}
+use Rattle.world_moves.proofs.NoneAwaited.{none_unanswered}
 use Rattle.world_steps.proofs.Plans.{waits_marked, ends_marked}
 use Rattle.world_moves.proofs.CutShort.{cut_move}
 use Rattle.world_moves.proofs.Outcomes.{move_stops}

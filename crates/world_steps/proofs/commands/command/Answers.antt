@@ -14,9 +14,9 @@ returns-in-Err c =
       tied = tt;
       known = tt;
       keeps = c.in-Err.ensures.keeps;
-      part = partly_begun s.cluster s.corpus.now s.script.now c.args.k (omega (arith, c.requires.next)) c.requires.there s.history c.begin_there.new.state.history c.in-Err.ensures.part;
+      part = partly_begun s.cluster s.corpus.now s.script.now c.args.k (omega (arith, c.requires.next)) c.requires.there s.history c.begin_and_refresh.new.state.history c.in-Err.ensures.part;
       laws = c.in-Err.ensures.laws;
-      stop = stops_as (IsPartly (λ x y. y ≡ Begin c.args.k ∷ x) s.history) (PartlyCommands s.cluster s.corpus.now s.script.now c.args.k s.history) _ _ c.begin_there.new.state.history c.in-Err.stop
+      stop = stops_as (IsPartly (λ x y. y ≡ Begin c.args.k ∷ x) s.history) (PartlyCommands s.cluster s.corpus.now s.script.now c.args.k s.history) _ _ c.begin_and_refresh.new.state.history c.in-Err.stop
           (λ past part. partly_begun s.cluster s.corpus.now s.script.now c.args.k (omega (arith, c.requires.next)) c.requires.there s.history past (part_of_begin c.args.k s.history past part)) (λ never. absurd never) c.in-Err.ensures.stop;
     }
 
@@ -24,7 +24,7 @@ pub act_on-requires-clause-there : goal.act_on-requires-clause-there
 act_on-requires-clause-there c =
     let found = c.in-Some.ensures.lookup.3 in
     let at = from_get_or c.as_slice.result.now (c.args.k - 1) c.in-Some.command.now found.0 found.1 in
-    at_number c.begin_there.new.state.script.now c.args.k c.in-Some.command.now (omega (arith, c.requires.next)) (rw c.as_slice.ensures at at)
+    at_number c.begin_and_refresh.new.state.script.now c.args.k c.in-Some.command.now (omega (arith, c.requires.next)) (rw c.as_slice.ensures at at)
 
 pub act_on-requires-clause-can : goal.act_on-requires-clause-can
 act_on-requires-clause-can c =

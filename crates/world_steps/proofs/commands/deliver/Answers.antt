@@ -24,8 +24,8 @@ returns-in-Err c =
       tied = tt;
       known = tt;
       keeps = c.in-Err.ensures.keeps;
-      part = partly_where s.cluster c.args.nth s.history c.deliver_there.new.state.history c.in-Err.ensures.part;
+      part = partly_where s.cluster c.args.nth s.history c.deliver_and_refresh.new.state.history c.in-Err.ensures.part;
       laws = c.in-Err.ensures.laws;
-      stop = stops_as (IsPartly (λ x y. Delivers s.cluster x c.args.nth y) s.history) (IsPartly (DeliversWhere s.cluster c.args.nth) s.history) _ _ c.deliver_there.new.state.history c.in-Err.stop
+      stop = stops_as (IsPartly (λ x y. Delivers s.cluster x c.args.nth y) s.history) (IsPartly (DeliversWhere s.cluster c.args.nth) s.history) _ _ c.deliver_and_refresh.new.state.history c.in-Err.stop
           (λ past. partly_where s.cluster c.args.nth s.history past) (λ lacks. lacks) c.in-Err.ensures.stop;
     }

@@ -12,7 +12,7 @@ use Rattle.world_steps.proofs.commands.drain.Goals as goal
 pub returns-in-Ok-settle : goal.returns-in-Ok-settle
 returns-in-Ok-settle c =
     let s = c.args.state.now in
-    let begun : c.begin_there.new.state.history ≡ Begin (closing s.script.now) ∷ s.history = c.in-Ok.ensures.happened ∙ ap (λ (commands : List Command). Begin (length commands + 1) ∷ s.history) c.as_slice.ensures in
+    let begun : c.begin_and_refresh.new.state.history ≡ Begin (closing s.script.now) ∷ s.history = c.in-Ok.ensures.happened ∙ ap (λ (commands : List Command). Begin (length commands + 1) ∷ s.history) c.as_slice.ensures in
     let now = c.settle.new.state in
     let tied = c.in-Ok-settle.ensures.tied in
     let over = c.in-Ok-settle.ensures.over in
@@ -31,7 +31,7 @@ returns-in-Ok-settle c =
 pub returns-in-Err-settle : goal.returns-in-Err-settle
 returns-in-Err-settle c =
     let s = c.args.state.now in
-    let begun : c.begin_there.new.state.history ≡ Begin (closing s.script.now) ∷ s.history = c.in-Ok.ensures.happened ∙ ap (λ (commands : List Command). Begin (length commands + 1) ∷ s.history) c.as_slice.ensures in
+    let begun : c.begin_and_refresh.new.state.history ≡ Begin (closing s.script.now) ∷ s.history = c.in-Ok.ensures.happened ∙ ap (λ (commands : List Command). Begin (length commands + 1) ∷ s.history) c.as_slice.ensures in
     record {
       drained = tt;
       over = tt;
@@ -50,6 +50,6 @@ pub returns-in-Err-clause-stop : goal.returns-in-Err-clause-stop
 returns-in-Err-clause-stop c =
     let s = c.args.state.now in
     let number : length c.as_slice.result.now + 1 ≡ closing s.script.now = ap (λ (commands : List Command). length commands + 1) c.as_slice.ensures in
-    let begins = subst (λ k. StopsMove (λ h new. new ≡ Begin k ∷ h) s.history c.begin_there.new.state.history c.in-Err.stop) number c.in-Err.ensures.stop in
-    stops_as (IsPartly (λ h new. new ≡ Begin (closing s.script.now) ∷ h) s.history) (PartlyDrains s.cluster s.corpus.now s.script.now s.history) _ _ c.begin_there.new.state.history c.in-Err.stop
+    let begins = subst (λ k. StopsMove (λ h new. new ≡ Begin k ∷ h) s.history c.begin_and_refresh.new.state.history c.in-Err.stop) number c.in-Err.ensures.stop in
+    stops_as (IsPartly (λ h new. new ≡ Begin (closing s.script.now) ∷ h) s.history) (PartlyDrains s.cluster s.corpus.now s.script.now s.history) _ _ c.begin_and_refresh.new.state.history c.in-Err.stop
     (λ past part. part_of_drain s.cluster s.corpus.now s.script.now s.history past part) (λ never. absurd never) begins

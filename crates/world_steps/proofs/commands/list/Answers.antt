@@ -8,4 +8,4 @@ use Rattle.world_steps.proofs.commands.list.Goals as goal
 pub returns-in-Err-clause-stop : goal.returns-in-Err-clause-stop
 returns-in-Err-clause-stop c =
     let h = c.args.state.now.history in
-    stops_as (IsPartly (ListSteps c.args.listing) h) (IsPartly (ListsWhere c.args.listing) h) ⊥ ⊥ c.list_there.new.state.history c.in-Err.stop (λ past. partly_lists c.args.listing h past) (λ never. never) c.in-Err.ensures.stop
+    stops_as (IsPartly (ListSteps c.args.listing) h) (IsPartly (ListsWhere c.args.listing) h) ⊥ ⊥ c.list_and_refresh.new.state.history c.in-Err.stop (λ past. partly_lists c.args.listing h past) (λ never. never) c.in-Err.ensures.stop

@@ -40,30 +40,30 @@ returns-in-Err c =
       tied = tt;
       known = tt;
       keeps = c.in-Err.ensures.keeps;
-      part = partly_first s.cluster s.corpus.now s.script.now s.history c.deliver_there.new.state.history c.in-Err.ensures.part;
+      part = partly_first s.cluster s.corpus.now s.script.now s.history c.deliver_and_refresh.new.state.history c.in-Err.ensures.part;
       laws = c.in-Err.ensures.laws;
-      stop = stops_as (IsPartly (λ x y. Delivers s.cluster x 0 y) s.history) (IsPartly (FirstMoves s.cluster s.corpus.now s.script.now) s.history) _ _ c.deliver_there.new.state.history c.in-Err.stop
+      stop = stops_as (IsPartly (λ x y. Delivers s.cluster x 0 y) s.history) (IsPartly (FirstMoves s.cluster s.corpus.now s.script.now) s.history) _ _ c.deliver_and_refresh.new.state.history c.in-Err.stop
           (λ past. partly_first s.cluster s.corpus.now s.script.now s.history past) (λ lacks. lacks) c.in-Err.ensures.stop;
     }
 
-pub returns-in-Ok-list_there : goal.returns-in-Ok-list_there
-returns-in-Ok-list_there c =
+pub returns-in-Ok-list_and_refresh : goal.returns-in-Ok-list_and_refresh
+returns-in-Ok-list_and_refresh c =
     let s = c.args.state.now in
     let none = nothing_in_flight s.history s.flight _ c.requires.tied.ties.sent (search rules) in
     record {
-      moved = λ _. listing_moves s.cluster s.corpus.now s.script.now s.history s.listings c.in-Some.listing c.requires.tied.cancels.listings_are (search rules) (search rules) none c.in-Ok-list_there.field-0 c.list_there.new.state.history c.in-Ok-list_there.ensures.stepped;
-      room = λ _. c.in-Ok-list_there.ensures.room (ap Ok (listing_done s.cluster s.corpus.now s.script.now s.history s.listings c.in-Some.listing c.requires.tied.cancels.listings_are (search rules) (search rules) none c.in-Ok-list_there.field-0 c.list_there.new.state.history c.in-Ok-list_there.ensures.stepped));
+      moved = λ _. listing_moves s.cluster s.corpus.now s.script.now s.history s.listings c.in-Some.listing c.requires.tied.cancels.listings_are (search rules) (search rules) none c.in-Ok-list_and_refresh.field-0 c.list_and_refresh.new.state.history c.in-Ok-list_and_refresh.ensures.stepped;
+      room = λ _. c.in-Ok-list_and_refresh.ensures.room (ap Ok (listing_done s.cluster s.corpus.now s.script.now s.history s.listings c.in-Some.listing c.requires.tied.cancels.listings_are (search rules) (search rules) none c.in-Ok-list_and_refresh.field-0 c.list_and_refresh.new.state.history c.in-Ok-list_and_refresh.ensures.stepped));
       rests = λ e. absurd (moves _ refl e);
-      tied = c.in-Ok-list_there.ensures.tied;
-      known = c.in-Ok-list_there.ensures.known;
-      keeps = c.in-Ok-list_there.ensures.keeps;
+      tied = c.in-Ok-list_and_refresh.ensures.tied;
+      known = c.in-Ok-list_and_refresh.ensures.known;
+      keeps = c.in-Ok-list_and_refresh.ensures.keeps;
       part = tt;
-      laws = c.in-Ok-list_there.ensures.laws;
+      laws = c.in-Ok-list_and_refresh.ensures.laws;
       stop = tt;
     }
 
-pub returns-in-Err-list_there : goal.returns-in-Err-list_there
-returns-in-Err-list_there c =
+pub returns-in-Err-list_and_refresh : goal.returns-in-Err-list_and_refresh
+returns-in-Err-list_and_refresh c =
     let s = c.args.state.now in
     let none = nothing_in_flight s.history s.flight _ c.requires.tied.ties.sent (search rules) in
     record {
@@ -72,33 +72,33 @@ returns-in-Err-list_there c =
       rests = λ e. absurd (fails _ _ e);
       tied = tt;
       known = tt;
-      keeps = c.in-Err-list_there.ensures.keeps;
-      part = listing_partly s.cluster s.corpus.now s.script.now s.history s.listings c.in-Some.listing c.requires.tied.cancels.listings_are (search rules) (search rules) none c.list_there.new.state.history c.in-Err-list_there.ensures.part;
-      laws = c.in-Err-list_there.ensures.laws;
-      stop = stops_as (IsPartly (ListSteps c.in-Some.listing) s.history) (IsPartly (FirstMoves s.cluster s.corpus.now s.script.now) s.history) _ _ c.list_there.new.state.history c.in-Err-list_there.stop
-          (λ past. listing_partly s.cluster s.corpus.now s.script.now s.history s.listings c.in-Some.listing c.requires.tied.cancels.listings_are (search rules) (search rules) none past) (λ lacks. absurd lacks) c.in-Err-list_there.ensures.stop;
+      keeps = c.in-Err-list_and_refresh.ensures.keeps;
+      part = listing_partly s.cluster s.corpus.now s.script.now s.history s.listings c.in-Some.listing c.requires.tied.cancels.listings_are (search rules) (search rules) none c.list_and_refresh.new.state.history c.in-Err-list_and_refresh.ensures.part;
+      laws = c.in-Err-list_and_refresh.ensures.laws;
+      stop = stops_as (IsPartly (ListSteps c.in-Some.listing) s.history) (IsPartly (FirstMoves s.cluster s.corpus.now s.script.now) s.history) _ _ c.list_and_refresh.new.state.history c.in-Err-list_and_refresh.stop
+          (λ past. listing_partly s.cluster s.corpus.now s.script.now s.history s.listings c.in-Some.listing c.requires.tied.cancels.listings_are (search rules) (search rules) none past) (λ lacks. absurd lacks) c.in-Err-list_and_refresh.ensures.stop;
     }
 
-pub returns-in-Ok-step_there : goal.returns-in-Ok-step_there
-returns-in-Ok-step_there c =
+pub returns-in-Ok-step_and_refresh : goal.returns-in-Ok-step_and_refresh
+returns-in-Ok-step_and_refresh c =
     let s = c.args.state.now in
     let none = nothing_in_flight s.history s.flight _ c.requires.tied.ties.sent (search rules) in
     let empty : btree_set_len s.listings ≡ 0 = search rules in
     let closed = none_open s.history s.listings c.requires.tied.cancels.listings_are empty in
     record {
-      moved = λ _. first_move s.cluster s.corpus.now s.script.now s.history c.args.ready.now c.in-Some-copied.task c.requires.known (search rules) (search rules) none closed c.in-Ok-step_there.field-0 c.step_there.new.state.history c.in-Ok-step_there.ensures.stepped;
-      room = λ _. first_has_room s.cluster s.corpus.now s.script.now s.history c.args.ready.now c.in-Some-copied.task c.requires.known (search rules) (search rules) c.in-Ok-step_there.field-0 c.step_there.new.state.history c.in-Ok-step_there.ensures.stepped c.in-Ok-step_there.ensures.room;
+      moved = λ _. first_move s.cluster s.corpus.now s.script.now s.history c.args.ready.now c.in-Some-copied.task c.requires.known (search rules) (search rules) none closed c.in-Ok-step_and_refresh.field-0 c.step_and_refresh.new.state.history c.in-Ok-step_and_refresh.ensures.stepped;
+      room = λ _. first_has_room s.cluster s.corpus.now s.script.now s.history c.args.ready.now c.in-Some-copied.task c.requires.known (search rules) (search rules) c.in-Ok-step_and_refresh.field-0 c.step_and_refresh.new.state.history c.in-Ok-step_and_refresh.ensures.stepped c.in-Ok-step_and_refresh.ensures.room;
       rests = λ e. absurd (moves _ refl e);
-      tied = c.in-Ok-step_there.ensures.tied;
-      known = c.in-Ok-step_there.ensures.known;
-      keeps = c.in-Ok-step_there.ensures.keeps;
+      tied = c.in-Ok-step_and_refresh.ensures.tied;
+      known = c.in-Ok-step_and_refresh.ensures.known;
+      keeps = c.in-Ok-step_and_refresh.ensures.keeps;
       part = tt;
-      laws = c.in-Ok-step_there.ensures.laws;
+      laws = c.in-Ok-step_and_refresh.ensures.laws;
       stop = tt;
     }
 
-pub returns-in-Err-step_there : goal.returns-in-Err-step_there
-returns-in-Err-step_there c =
+pub returns-in-Err-step_and_refresh : goal.returns-in-Err-step_and_refresh
+returns-in-Err-step_and_refresh c =
     let s = c.args.state.now in
     let none = nothing_in_flight s.history s.flight _ c.requires.tied.ties.sent (search rules) in
     let empty : btree_set_len s.listings ≡ 0 = search rules in
@@ -109,9 +109,9 @@ returns-in-Err-step_there c =
       rests = λ e. absurd (fails _ _ e);
       tied = tt;
       known = tt;
-      keeps = c.in-Err-step_there.ensures.keeps;
-      part = first_part s.cluster s.corpus.now s.script.now s.history c.args.ready.now c.in-Some-copied.task c.requires.known (search rules) (search rules) none closed c.step_there.new.state.history c.in-Err-step_there.ensures.part;
-      laws = c.in-Err-step_there.ensures.laws;
-      stop = stops_as (IsPartly (Steps s.cluster s.corpus.now s.script.now c.in-Some-copied.task) s.history) (IsPartly (FirstMoves s.cluster s.corpus.now s.script.now) s.history) _ _ c.step_there.new.state.history c.in-Err-step_there.stop
-          (λ past. first_part s.cluster s.corpus.now s.script.now s.history c.args.ready.now c.in-Some-copied.task c.requires.known (search rules) (search rules) none closed past) (λ lacks. absurd lacks) c.in-Err-step_there.ensures.stop;
+      keeps = c.in-Err-step_and_refresh.ensures.keeps;
+      part = first_part s.cluster s.corpus.now s.script.now s.history c.args.ready.now c.in-Some-copied.task c.requires.known (search rules) (search rules) none closed c.step_and_refresh.new.state.history c.in-Err-step_and_refresh.ensures.part;
+      laws = c.in-Err-step_and_refresh.ensures.laws;
+      stop = stops_as (IsPartly (Steps s.cluster s.corpus.now s.script.now c.in-Some-copied.task) s.history) (IsPartly (FirstMoves s.cluster s.corpus.now s.script.now) s.history) _ _ c.step_and_refresh.new.state.history c.in-Err-step_and_refresh.stop
+          (λ past. first_part s.cluster s.corpus.now s.script.now s.history c.args.ready.now c.in-Some-copied.task c.requires.known (search rules) (search rules) none closed past) (λ lacks. absurd lacks) c.in-Err-step_and_refresh.ensures.stop;
     }

@@ -5,7 +5,7 @@ use Rattle.task_ids.specs.TaskIdOrder.{task_id_cmp}
 use Rattle.world_moves.proofs.ByPlace.{event_from_oldest}
 use Rattle.world_steps.proofs.Readiness.{none_noted, one_noted, other_noted, all_noted}
 use Rattle.world_steps.proofs.ready.refresh.Goals as goal
-use Rattle.world_steps.proofs.ready.refresh.Goals.{in-Some-task_of+in_ok-note, in_default-task_of}
+use Rattle.world_steps.proofs.ready.refresh.Goals.{in-Some-task_of+in_ok-refresh_one, in_default-task_of}
 
 pub loop-at-init : goal.loop-at-init
 loop-at-init c =
@@ -17,9 +17,9 @@ loop-at-preserved c =
     let s = c.args.state.now in
     let here = event_from_oldest c.loop-at.at s.history ∙ sym c.get.ensures ∙ ap option_copied c.in-Some.is in
     elim c.match-task_of.branch [
-      | in-Some-task_of+in_ok-note w ↦
+      | in-Some-task_of+in_ok-refresh_one w ↦
           rw w.ready-is (one_noted s.cluster s.corpus.now s.script.now c.args.before c.loop-at.at s.history c.in-Some.event.now w.in-Some-task_of.task _ _ c.loop-at.auto.at here
-          (sym c.task_of.ensures ∙ w.in-Some-task_of.is) w.in_ok-note.ensures.known c.loop-at.invariant)
+          (sym c.task_of.ensures ∙ w.in-Some-task_of.is) w.in_ok-refresh_one.ensures.known c.loop-at.invariant)
       | in_default-task_of w ↦
           rw w.ready-is (other_noted s.cluster s.corpus.now s.script.now c.args.before c.loop-at.at s.history c.in-Some.event.now _ c.loop-at.auto.at here
           (sym c.task_of.ensures ∙ w.in_default-task_of.is) c.loop-at.invariant)

@@ -2,7 +2,7 @@ use Rattle.std.proofs.Common.{refl}
 use Rattle.task_events.specs.declared.event.Event.TheVariants.{Begin}
 use Rattle.world_moves.specs.Cancels.{waiting_for}
 use Rattle.world_steps.proofs.RootsAfter.{after_begin}
-use Rattle.world_moves.proofs.Uninvolved.{noted}
+use Rattle.world_moves.proofs.CancelsUntouched.{noted}
 use Rattle.world_steps.proofs.roots.begin.Goals as goal
 
 pub returns-clause-tied : goal.returns-clause-tied

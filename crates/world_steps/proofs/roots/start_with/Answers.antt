@@ -11,13 +11,13 @@ use Rattle.node_parts.specs.declared.running.Running.{Running}
 use Rattle.task_events.specs.Lawful.{AwaitsNoMark}
 use Rattle.world_moves.specs.Cancels.{waiting_for}
 use Rattle.world_moves.specs.Ties.{task_at}
-use Rattle.world_moves.proofs.Kept.{at_changed, off_changed}
+use Rattle.world_moves.proofs.KeptTasks.{at_changed, off_changed}
 use Rattle.world_steps.proofs.RootsAfter.{starts_root, after_root, after_root_rejected}
 use Rattle.world_moves.proofs.SameTies.{same_ties, same_cancels}
-use Rattle.world_moves.proofs.Started.{first}
-use Rattle.world_moves.proofs.StartsNoted.{noted_root}
+use Rattle.world_moves.proofs.FirstRuns.{first}
+use Rattle.world_moves.proofs.CancelsAfterStart.{noted_root}
 use Rattle.world_moves.proofs.Tables.{IsPutOn, node_has_table, no_slot, no_number}
-use Rattle.world_moves.proofs.Uninvolved.{noted}
+use Rattle.world_moves.proofs.CancelsUntouched.{noted}
 use Rattle.task_events.specs.declared.history.TheConstants.{MAX_EVENTS}
 use Rattle.world_moves.specs.Moves.{Starts}
 use Rattle.world_moves.proofs.CutShort.{cut_only}

@@ -1,0 +1,165 @@
+-- The tables of cancellations fit the past after a task has left.
+use Rattle.std.proofs.Common.{◌≡◌, ◌⊎◌, ◌≢◌, ℕ, ◌-◌, ◌+◌, ◌≤◌, Bool, true, false, not, cond, List, [], ◌∷◌, ◌++◌, filter, map, get_or, Option, Some, None, refl, sym, ap, subst, ◌∙◌, inl, inr, arith}
+use Rattle.std.specs.Prelude.{slice_get, slice_set, is_some, ◌&&◌, reverse}
+use Rattle.std.specs.BTreeSet.{BTreeSet}
+use Rattle.std.specs.FinMap.{FinMap, get, get-insert, get-remove}
+use Rattle.std.specs.Ordering.{eq_by_cmp}
+use Rattle.std.proofs.lemmas.List.Elements.{All-filter}
+use Rattle.task_ids.specs.declared.task_id.TaskId.{TaskId}
+use Rattle.task_ids.specs.declared.task_info.TaskInfo.{TaskInfo}
+use Rattle.task_ids.specs.declared.cluster.Cluster.{Cluster}
+use Rattle.task_ids.specs.TaskIdOrder.{task_id_cmp}
+use Rattle.task_ids.proofs.TaskIdKeys.{ids_total}
+use Rattle.child_track.specs.Token.{ReceiptParts}
+use Rattle.task_table.specs.Table.{Table, without_task}
+use Rattle.task_table.specs.Rows.{has_number}
+use Rattle.cancel_core.specs.Cancellation.{Cancellation, with_receipt, rest_of}
+use Rattle.cancel_core.specs.Cancellations.{Cancellations, changed, with_entry}
+use Rattle.task_events.specs.declared.event.Event.{Event}
+use Rattle.task_events.specs.declared.event.Event.TheVariants.{Refuse, End}
+use Rattle.task_events.specs.Same.{same_task}
+use Rattle.task_events.specs.Bans.{mark_of, bans_are_placed}
+use Rattle.task_events.specs.Tasks.{has_ended}
+use Rattle.task_laws.proofs.Same.{same_task_tells, same_tests}
+use Rattle.node_parts.specs.declared.listing.Listing.{Listing}
+use Rattle.world_moves.specs.Cancels.{waiting_for, is_due, answer_to, with_answers}
+use Rattle.world_moves.specs.Cancelling.{Cancelling, IsRowOf, HasRows, HasCoreAt, IsEntryOf, IsCancellationOf}
+use Rattle.world_moves.proofs.CancelAnswersAfter.{waiting_after, NameOneTask}
+use Rattle.world_moves.proofs.AtPlace.{at_node, set_at}
+use Rattle.world_moves.proofs.CancelFrame.{entry_frame}
+use Rattle.world_moves.proofs.CoresAfter.{cores_after}
+use Rattle.world_moves.proofs.DueActs.{due_left}
+use Rattle.world_moves.proofs.KeptTasks.{is_at_task}
+use Rattle.world_moves.proofs.TasksAfterLeave.{itself}
+
+-- the task leaves with the event
+abbrev pub Leaves : TaskId → Event → Type 0
+Leaves t (Refuse u c) = u ≡ t
+Leaves t (End u reply) = u ≡ t
+Leaves t _ = ⊥
+
+module _ (t : TaskId) (h : List Event) where
+  turned_off : (u w : TaskId) → u ≡ t → same_task t w ≡ false → same_task w u ≡ false
+  turned_off u w l differs = rw l (grind (arith, same_tests, differs))
+
+  pub ended_now : (e : Event) → Leaves t e → has_ended t (e ∷ h) ≡ true
+  ended_now (Refuse u c) l = rw l (rw (itself t) refl)
+  ended_now (End u r) l = rw l (rw (itself t) refl)
+  ended_now _ l = absurd l
+
+  row_stays : (e : Event) → Leaves t e → (row : TaskInfo) → IsRowOf h row → IsRowOf (e ∷ h) row
+  row_stays (Refuse u c) l row i = i
+  row_stays (End u r) l row i = i
+  row_stays _ l row i = absurd l
+
+  pub mark_stays : (e : Event) → Leaves t e → (w : TaskId) → mark_of w (e ∷ h) ≡ mark_of w h
+  mark_stays (Refuse u c) l w = refl
+  mark_stays (End u r) l w = refl
+  mark_stays _ l w = absurd l
+
+  pub waiting_stays : (e : Event) → Leaves t e → (w : TaskId) → waiting_for w (e ∷ h) ≡ waiting_for w h
+  waiting_stays (Refuse u c) l w = refl
+  waiting_stays (End u r) l w = refl
+  waiting_stays _ l w = absurd l
+
+  -- a cancel still names one task
+  pub one_task_left : (e : Event) → Leaves t e → NameOneTask h → NameOneTask (e ∷ h)
+  one_task_left (Refuse u c) l one = one
+  one_task_left (End u r) l one = one
+  one_task_left _ l one = absurd l
+
+  -- the entry of another task
+  entry_stays : (e : Event) → Leaves t e → (waiting : List ℕ) (w : TaskId) (o : Option Cancellation) → same_task t w ≡ false → IsEntryOf waiting w h o → IsEntryOf waiting w (e ∷ h) o
+  entry_stays (Refuse u c) l waiting w o differs i = entry_frame waiting w h (Refuse u c) o (turned_off u w l differs) refl i
+  entry_stays (End u r) l waiting w o differs i = entry_frame waiting w h (End u r) o (turned_off u w l differs) refl i
+  entry_stays _ l waiting w o differs i = absurd l
+
+  -- that of an unmarked task, which has none
+  entry_unmarked : (e : Event) → Leaves t e → mark_of t h ≡ None → (waiting : List ℕ) (o : Option Cancellation) → IsEntryOf waiting t h o → IsEntryOf waiting t (e ∷ h) o
+  entry_unmarked e l none waiting None i = (rw (mark_stays e l t ∙ none) refl, i.1)
+  entry_unmarked e l none waiting (Some x) i = absurd (let way = rw none at i.0 in cc)
+
+  pub nobody_waits : mark_of t h ≡ None → (waiting : List ℕ) (o : Option Cancellation) → IsEntryOf waiting t h o → waiting ≡ []
+  nobody_waits none waiting None i = i.1
+  nobody_waits none waiting (Some x) i = absurd (let way = rw none at i.0 in cc)
+
+  -- that of the task itself, with its receipt
+  pub known_ended : (e : Event) → Leaves t e → (x : Cancellation) (receipt : ReceiptParts) → IsCancellationOf (waiting_for t h) t h x → IsCancellationOf (waiting_for t (e ∷ h)) t (e ∷ h) (with_receipt x receipt)
+  known_ended (Refuse u c) l x receipt i = (i.0, i.1, i.2, i.3, sym (ended_now (Refuse u c) l))
+  known_ended (End u r) l x receipt i = (i.0, i.1, i.2, i.3, sym (ended_now (End u r) l))
+  known_ended _ l x receipt i = absurd l
+
+  -- ---- all tables
+
+  left_noted : (e : Event) → Leaves t e → (cluster : Cluster) (waiting new : TaskId → List ℕ) (tables after : List Table) (roots : ℕ → Option TaskId) (bans : List (FinMap task_id_cmp ℕ)) (cores known : List Cancellations) (listings : BTreeSet Listing)
+      → Cancelling cluster waiting h tables roots bans cores listings → ((place : ℕ) → HasRows (e ∷ h) (slice_get after place)) → ((place : ℕ) → HasCoreAt cluster new place (e ∷ h) (slice_get known place))
+      → Cancelling cluster new (e ∷ h) after roots bans known listings
+  left_noted (Refuse u k) l cluster waiting new tables after roots bans cores known listings c rows entries =
+      record { rows_are = rows; roots_are = c.roots_are; bans_are = c.bans_are; cores_are = entries; listings_are = c.listings_are; one_task = c.one_task }
+  left_noted (End u r) l cluster waiting new tables after roots bans cores known listings c rows entries =
+      record { rows_are = rows; roots_are = c.roots_are; bans_are = c.bans_are; cores_are = entries; listings_are = c.listings_are; one_task = c.one_task }
+  left_noted _ l cluster waiting new tables after roots bans cores known listings c rows entries = absurd l
+
+  rows_at : (e : Event) → Leaves t e → (o : Option Table) → HasRows h o → HasRows (e ∷ h) o
+  rows_at e l None i = tt
+  rows_at e l (Some table) i = λ k row low. row_stays e l (get_or table.live k row) (i k row low)
+
+  rows_left : (e : Event) → Leaves t e → (tables : List Table) (table : Table) → slice_get tables (t.node - 1) ≡ Some table → ((place : ℕ) → HasRows h (slice_get tables place))
+      → (place : ℕ) → HasRows (e ∷ h) (slice_get (slice_set tables (t.node - 1) (without_task table t.number)) place)
+  rows_left e l tables table here rows =
+      set_at (λ place o. HasRows h o) (λ place o. HasRows (e ∷ h) o) tables (t.node - 1) table (without_task table t.number) here rows
+      (All-filter (λ row. not (has_number t.number row)) (IsRowOf (e ∷ h)) table.live (rows_at e l (Some table) (subst (λ o. HasRows h o) here (rows (t.node - 1)))))
+      (λ place apart i. rows_at e l (slice_get tables place) i)
+
+  -- ---- where the task is not marked
+
+  cores_unmarked : (e : Event) → Leaves t e → mark_of t h ≡ None → (cluster : Cluster) (place : ℕ) (o : Option Cancellations) → HasCoreAt cluster (λ u. waiting_for u h) place h o → HasCoreAt cluster (λ u. waiting_for u (e ∷ h)) place (e ∷ h) o
+  cores_unmarked e l none cluster place None i = i
+  cores_unmarked e l none cluster place (Some core) i = λ w there. rw (waiting_stays e l w) (by_task w (i w there) (same_task_tells t w))
+    where
+      by_task : (w : TaskId) → IsEntryOf (waiting_for w h) w h (get core.entries w) → ((same_task t w ≡ true) × (t ≡ w)) ⊎ ((same_task t w ≡ false) × (t ≢ w)) → IsEntryOf (waiting_for w h) w (e ∷ h) (get core.entries w)
+      by_task w entry (inl (is_one, same)) =
+          subst (λ u. IsEntryOf (waiting_for u h) u h (get core.entries u) → IsEntryOf (waiting_for u h) u (e ∷ h) (get core.entries u)) same (entry_unmarked e l none (waiting_for t h) (get core.entries t)) entry
+      by_task w entry (inr (differs, apart)) = entry_stays e l (waiting_for w h) w (get core.entries w) differs entry
+
+  pub noted_unmarked : (e : Event) → Leaves t e → mark_of t h ≡ None → (cluster : Cluster) (tables : List Table) (roots : ℕ → Option TaskId) (bans : List (FinMap task_id_cmp ℕ)) (cores : List Cancellations) (listings : BTreeSet Listing) (table : Table)
+      → slice_get tables (t.node - 1) ≡ Some table → Cancelling cluster (λ u. waiting_for u h) h tables roots bans cores listings
+      → Cancelling cluster (λ u. waiting_for u (e ∷ h)) (e ∷ h) (slice_set tables (t.node - 1) (without_task table t.number)) roots bans cores listings
+  noted_unmarked e l none cluster tables roots bans cores listings table here c =
+      left_noted e l cluster _ _ tables _ roots bans cores cores listings c (rows_left e l tables table here c.rows_are)
+      (λ place. cores_unmarked e l none cluster place (slice_get cores place) (c.cores_are place))
+
+  -- ---- the core of its node
+
+  pub entry_there : (cluster : Cluster) (tables : List Table) (roots : ℕ → Option TaskId) (bans : List (FinMap task_id_cmp ℕ)) (cores : List Cancellations) (listings : BTreeSet Listing) (core : Cancellations) → slice_get cores (t.node - 1) ≡ Some core
+      → Cancelling cluster (λ u. waiting_for u h) h tables roots bans cores listings → IsEntryOf (waiting_for t h) t h (get core.entries t)
+  entry_there cluster tables roots bans cores listings core here c =
+      let low = t.node_in_range.0 in
+      let back : t.node ≡ (t.node - 1) + 1 = omega (arith, low) in
+      subst (λ o. HasCoreAt cluster (λ u. waiting_for u h) (t.node - 1) h o) here (c.cores_are (t.node - 1)) t back
+
+  pub core_there : (cluster : Cluster) (tables : List Table) (roots : ℕ → Option TaskId) (bans : List (FinMap task_id_cmp ℕ)) (cores : List Cancellations) (listings : BTreeSet Listing)
+      → Cancelling cluster (λ u. waiting_for u h) h tables roots bans cores listings → t.node ≤ cluster.nodes → (core : Cancellations) × (slice_get cores (t.node - 1) ≡ Some core)
+  core_there cluster tables roots bans cores listings c high =
+      at_node cores cluster.nodes t.node (λ place beyond. subst (λ o. HasCoreAt cluster (λ u. waiting_for u h) place h o) beyond (c.cores_are place)) t.node_in_range.0 high
+
+  -- nothing is due where nobody waits
+  pub nothing_due : (e : Event) → Leaves t e → waiting_for t h ≡ [] → with_answers t (e ∷ h) ≡ e ∷ h
+  nothing_due e l none = ap (λ ws. reverse (map (answer_to (e ∷ h)) (filter (is_due t (e ∷ h)) ws)) ++ (e ∷ h)) (waiting_stays e l t ∙ none)
+
+  -- ---- where a cancellation of it is under way
+
+  -- the entry of another task, once those that are due have been answered
+  entry_else : (e : Event) → Leaves t e → (w : TaskId) (o : Option Cancellation) → same_task t w ≡ false → IsEntryOf (waiting_for w h) w h o → IsEntryOf (waiting_after t (e ∷ h) w) w (e ∷ h) o
+  entry_else e l w o differs entry = rw differs (rw (waiting_stays e l w) (entry_stays e l (waiting_for w h) w o differs entry))
+
+  -- that of the task itself then
+  own_entry : (e : Event) → Leaves t e → (x : Cancellation) (receipt : ReceiptParts) → IsCancellationOf (waiting_for t h) t h x → IsEntryOf (waiting_after t (e ∷ h) t) t (e ∷ h) (rest_of (with_receipt x receipt))
+  own_entry e l x receipt known = rw (itself t) (due_left t (e ∷ h) (with_receipt x receipt) (known_ended e l x receipt known))
+
+  pub noted_ended : (e : Event) → Leaves t e → (cluster : Cluster) (tables : List Table) (roots : ℕ → Option TaskId) (bans : List (FinMap task_id_cmp ℕ)) (cores : List Cancellations) (listings : BTreeSet Listing) (table : Table) (core : Cancellations) (x : Cancellation) (receipt : ReceiptParts)
+      → slice_get tables (t.node - 1) ≡ Some table → slice_get cores (t.node - 1) ≡ Some core → IsCancellationOf (waiting_for t h) t h x → t.node ≤ cluster.nodes → Cancelling cluster (λ u. waiting_for u h) h tables roots bans cores listings
+      → Cancelling cluster (waiting_after t (e ∷ h)) (e ∷ h) (slice_set tables (t.node - 1) (without_task table t.number)) roots bans (slice_set cores (t.node - 1) (with_entry core t (rest_of (with_receipt x receipt)))) listings
+  noted_ended e l cluster tables roots bans cores listings table core x receipt its_table its_core known high c =
+      left_noted e l cluster _ _ tables _ roots bans cores _ listings c (rows_left e l tables table its_table c.rows_are)
+      (cores_after cluster (λ u. waiting_for u h) h cores c.cores_are t high core its_core (waiting_after t (e ∷ h)) (e ∷ h) (rest_of (with_receipt x receipt)) (own_entry e l x receipt known) (λ w differs o entry. entry_else e l w o differs entry))
