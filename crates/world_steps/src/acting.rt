@@ -13,8 +13,8 @@ use task_events::{Do, Stop};
 use task_ids::TaskId;
 use world_moves::asks::ask;
 use world_moves::ends::{finish, finish_cancelled, refuse};
-use world_moves::state::State;
 use world_moves::passing::pass;
+use world_moves::state::State;
 use world_moves::turns::turn;
 
 /// What came of a step.

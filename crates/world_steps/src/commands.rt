@@ -18,6 +18,7 @@ use crate::cancel_commands::cancel;
 use crate::moving::{deliver_and_refresh, list_and_refresh, settle, step_and_refresh};
 use crate::ready::refresh;
 use crate::roots::{begin, start};
+use node_parts::listing::Listing;
 use query_match::SearchBody;
 use query_parse::{BodyError, read_body};
 use script_lang::{CancelTarget, Command};
@@ -26,7 +27,6 @@ use std::collections::BTreeSet;
 use task_events::{Event, SearchAsk, Stop};
 use task_ids::{DocSource, TaskId, Text};
 use task_laws::drained_bans;
-use node_parts::listing::Listing;
 use world_moves::state::State;
 
 /// Whether a body could not be read for want of memory. Otherwise the fault is one of the body.
@@ -223,7 +223,9 @@ fn act_on(
     match command {
         Command::Search { index, node, body } => search(state, ready, number, index, *node, body),
         Command::Deliver { nth } => deliver(state, ready, *nth),
-        Command::Cancel { target, wait, .. } => cancel_and_refresh(state, ready, number, target, *wait),
+        Command::Cancel { target, wait, .. } => cancel_and_refresh(
+            state, ready, number, target, *wait,
+        ),
         Command::Step { task } => step(state, ready, *task),
         Command::ListStep { node, parent } => {
             let (node, parent) = (*node, *parent);
@@ -235,7 +237,11 @@ fn act_on(
 }
 
 /// A command begins, and it is known which tasks do not wait.
-fn begin_and_refresh(state: &mut State<'_>, ready: &mut BTreeSet<TaskId>, number: u32) -> Result<(), Stop>
+fn begin_and_refresh(
+    state: &mut State<'_>,
+    ready: &mut BTreeSet<TaskId>,
+    number: u32,
+) -> Result<(), Stop>
     requires tied { IsTied state.old }
     requires known { HasReady state.old ready.old }
     requires next { last_command state.old.history + 1 ≡ number }

@@ -12,6 +12,6 @@ mod world;
 
 pub use acting::Stepped;
 pub use laws::one_run;
-pub use world::{Delivered, World};
 pub use node_parts::listing::Listing;
+pub use world::{Delivered, World};
 pub use world_moves::listings::ListStep;

@@ -11,12 +11,12 @@ ghost use Rattle.world_steps.specs.World.{HasReady};
 
 use crate::acting::{Stepped, act};
 use crate::ready::refresh;
+use node_parts::listing::Listing;
 use std::collections::BTreeSet;
 use task_events::Stop;
 use task_ids::TaskId;
 use world_moves::answers::deliver_answer;
 use world_moves::bans::deliver_notice;
-use node_parts::listing::Listing;
 use world_moves::listings::{ListStep, list_step};
 use world_moves::requests::deliver_request;
 use world_moves::state::State;

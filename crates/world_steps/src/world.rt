@@ -19,6 +19,7 @@ use crate::{commands, moving};
 use ban_table::BanTable;
 use cancel_core::CancelCore;
 use corpus_shards::Shards;
+use node_parts::listing::Listing;
 use script_lang::Script;
 use std::alloc::{AllocError, Global};
 use std::collections::{BTreeMap, BTreeSet};
@@ -27,7 +28,6 @@ use task_events::{History, Stop};
 use task_ids::{Cluster, Corpus, TaskId};
 use task_table::TaskTable;
 use world_moves::flight::Flight;
-use node_parts::listing::Listing;
 use world_moves::listings::ListStep;
 use world_moves::state::State;
 
