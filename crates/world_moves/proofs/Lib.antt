@@ -1,12 +1,12 @@
 pub mod AcksAfter
 pub mod Answerable
 pub mod Answered
-pub mod Answering
 pub mod AnswersAfter
 pub mod AnswersCome
 pub mod Arrivals
 pub mod AskedNodes
 pub mod AsksAfter
+pub mod AsksFor
 pub mod AtPlace
 pub mod BansAfter
 pub mod BansCome
@@ -42,6 +42,7 @@ pub mod PossibleTops
 pub mod Requested
 pub mod RequestsAfter
 pub mod SameTies
+pub mod ShardsTold
 pub mod Started
 pub mod StartsNoted
 pub mod StepsAfter

@@ -8,4 +8,5 @@ pub mod Listings
 pub mod Moves
 pub mod Plain
 pub mod Roots
+pub mod ShardOutcomes
 pub mod Ties
