@@ -27,7 +27,7 @@ use Rattle.task_laws.proofs.Content.{AnswerFacts, answer_facts, still_answer}
 use Rattle.task_laws.proofs.Same.{same_task_tells}
 use Rattle.search_phase.proofs.Sorting.{by_test}
 use Rattle.world_moves.specs.Facts.{requested_by}
-use Rattle.world_moves.specs.ShardOutcomes.{is_query_of, is_fetch_of, ask_for}
+use Rattle.task_events.specs.ShardOutcomes.{is_query_of, is_fetch_of, ask_for}
 use Rattle.world_moves.proofs.ByPlace.{all_here, all_push}
 use Rattle.world_moves.proofs.Requested.{requested_counted}
 

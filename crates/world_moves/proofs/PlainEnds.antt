@@ -21,6 +21,7 @@ use Rattle.task_events.specs.Answers.{plain_answer}
 use Rattle.task_events.specs.Asks.{answer_of}
 use Rattle.task_events.specs.Documents.{writes_of}
 use Rattle.task_events.specs.Lawful.{Lawful}
+use Rattle.task_events.specs.ShardOutcomes.{ask_for}
 use Rattle.task_events.specs.Searches.{query_of, top_of, tops_in, fetch_of, winners_among, won_tops, has_queried, requests_of}
 use Rattle.task_events.specs.Steps.{asked_by}
 use Rattle.search_phase.specs.Searching.{Searching, IsHonest, AllHonest, version_of, reply_of, next_step, has_ended}
@@ -31,11 +32,12 @@ use Rattle.task_work.specs.declared.work.Work.TheVariants as works
 use Rattle.task_work.specs.Works.{next_of}
 use Rattle.world_moves.specs.Facts.{requested_by}
 use Rattle.world_moves.specs.Plain.{EndsPlainly, IsPlainReply}
-use Rattle.world_moves.specs.ShardOutcomes.{ask_for}
-use Rattle.world_moves.specs.Ties.{SearchesFor, WorksFor, writes_for}
+use Rattle.world_moves.specs.Ties.{WorksFor}
+use Rattle.world_moves.specs.SearchRuns.{SearchesFor}
+use Rattle.world_moves.specs.Good.{writes_for}
 use Rattle.world_moves.proofs.AsksFor.{asks_first, answer_told, first_at}
 use Rattle.world_moves.proofs.ByPlace.{all_here}
-use Rattle.world_moves.proofs.EndsGood.{search_ends}
+use Rattle.world_moves.proofs.SearchLaws.{search_ends}
 use Rattle.world_moves.proofs.Numbered.{is_searching}
 use Rattle.world_moves.proofs.ShardsTold.{IsAllTold, failed_told, failures_same, found_at, versions_same}
 

@@ -17,12 +17,12 @@ use Rattle.task_events.specs.declared.request.Request.TheVariants as asks
 use Rattle.task_events.specs.declared.request.SearchAsk.{SearchAsk}
 use Rattle.task_events.specs.declared.step.Asked.{Asked}
 use Rattle.task_events.specs.Asks.{answer_of}
-use Rattle.task_events.specs.Possible.{can_have}
+use Rattle.task_events.specs.Kinds.{can_have}
 use Rattle.task_events.specs.Searches.{query_of, top_of, tops_in, fetch_of, winners_among, won_tops, fetches_of, has_queried, requests_of, failure_in, failure_of, fetch_at, failed_in}
 use Rattle.search_phase.specs.Searching.{version_of}
 use Rattle.search_phase.proofs.Lookups.{slice_get-drop}
 use Rattle.search_phase.proofs.Requests.{query_requests, requests_after, length-requests_after, request_of_query, slice_get_below}
-use Rattle.world_moves.specs.ShardOutcomes.{is_query_of, is_fetch_of, ask_for, answer_for, found_in, version_found, answered_shards, are_hits, fetch_failed, shard_failed, why_failed, failure_told, failed_shards}
+use Rattle.task_events.specs.ShardOutcomes.{is_query_of, is_fetch_of, ask_for, answer_for, found_in, version_found, answered_shards, are_hits, fetch_failed, shard_failed, why_failed, failure_told, failed_shards}
 use Rattle.world_moves.proofs.AsksFor.{first_at, first_found, query_at, past_queries, fetched_at}
 
 -- ---- lists over the shards
