@@ -3,3 +3,4 @@ pub mod Sizes
 pub mod Each
 pub mod Nodes
 pub mod Entries
+pub mod FaultsTold

@@ -106,7 +106,7 @@ module _ (cluster : Cluster) where
       }
 
   -- What a message says stays so. An answer stays the answer, since its ask has been answered by then.
-  still_answer : (e : Event) (h : List Event) → Allowed cluster e h → AskFacts h → AnswerFacts h → (p : TaskId) (k : ℕ) (r : Reply) → answer_of p k h ≡ Some r → answer_of p k (e ∷ h) ≡ Some r
+  pub still_answer : (e : Event) (h : List Event) → Allowed cluster e h → AskFacts h → AnswerFacts h → (p : TaskId) (k : ℕ) (r : Reply) → answer_of p k h ≡ Some r → answer_of p k (e ∷ h) ≡ Some r
   still_answer (Put t q j) h a f g p k r e = grind (arith, same_tests, requests_in_flight q j h, f.child_put p k, g.rejected_put p k)
   still_answer (Reject n q j) h a f g p k r e = grind (arith, same_tests, requests_in_flight q j h, f.child_put p k, g.rejected_put p k)
   still_answer (Refuse u c) h a f g p k r e = grind (arith, same_tests, g.reply_ended u, f.live_or_ended u)

@@ -1,6 +1,13 @@
+pub mod LinesOfCommands
 pub mod NumberLemmas
+pub mod OneLine
 pub mod OptionLemmas
+pub mod PrintedLines
 pub mod ProgressLemmas
 pub mod ReadingLaws
+pub mod Reasons
+pub mod RootEnds
 pub mod RootLaws
 pub mod TopLemmas
+pub mod TurnEvents
+pub mod UnharmedSearches

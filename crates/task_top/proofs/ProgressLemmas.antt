@@ -22,11 +22,11 @@ use Rattle.task_top.specs.Progress.{NotesAll, HasCome, EndsEarly, EndsWhole}
 
 -- ---- a turn
 
-both_false : (a b : Bool) → a || b ≡ false → (a ≡ false) × (b ≡ false)
+pub both_false : (a b : Bool) → a || b ≡ false → (a ≡ false) × (b ≡ false)
 both_false true b e = cc
 both_false false b e = (refl, e)
 
-begun_after : (k : ℕ) (events h : List Event) → list_any is_begin events ≡ false → begun (events ++ Begin k ∷ h) ≡ begun h + 1
+pub begun_after : (k : ℕ) (events h : List Event) → list_any is_begin events ≡ false → begun (events ++ Begin k ∷ h) ≡ begun h + 1
 begun_after k [] h none = refl
 begun_after k (e ∷ events) h none =
     let parts = both_false (is_begin e) (list_any is_begin events) none in
@@ -41,7 +41,7 @@ before_after k n (e ∷ events) h none le =
     ap (λ b. cond b ((e ∷ events) ++ Begin k ∷ h) (history_before n (events ++ Begin k ∷ h))) (le-ltb (begun ((e ∷ events) ++ Begin k ∷ h)) n many) ∙ before_after k n events h parts.1 le
 
 -- before the next command there is all that happened
-before_next : (h : List Event) → history_before (begun h + 1) h ≡ h
+pub before_next : (h : List Event) → history_before (begun h + 1) h ≡ h
 before_next [] = refl
 before_next (e ∷ h) = ap (λ b. cond b (e ∷ h) (history_before (begun (e ∷ h) + 1) h)) (lt-ltb (begun (e ∷ h)) (begun (e ∷ h) + 1) (omega arith))
 

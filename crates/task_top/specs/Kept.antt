@@ -10,6 +10,7 @@ use Rattle.task_top.specs.declared.kept.Kept.{Kept}
 use Rattle.task_top.specs.declared.status.Status.{Status}
 use Rattle.task_top.specs.declared.status.Status.TheVariants.{Done, Usage, Refused, ReadFault, WriteFault, Memory, NoThread, HistoryFull, NumbersSpent}
 use Rattle.line_print.specs.Lines.{printed}
+use Rattle.task_top.specs.EachLine.{HasLines}
 use Rattle.task_top.specs.Promises.{IsOver}
 use Rattle.task_top.specs.Reading.{Reads, Refuses}
 
@@ -92,6 +93,12 @@ abbrev pub Rests : Status → Kept → Type 0
 Rests Done kept = IsOver kept.history
 Rests WriteFault kept = IsOver kept.history
 Rests _ kept = Unit {0}
+
+-- In a whole run each command has its line.
+abbrev pub TellsEach : Cluster → Status → Kept → Type 0
+TellsEach cluster Done kept = HasLines cluster kept.corpus kept.script kept.history
+TellsEach cluster WriteFault kept = HasLines cluster kept.corpus kept.script kept.history
+TellsEach cluster _ kept = Unit {0}
 
 -- the statuses that can come once the input was read
 abbrev pub IsAfterReading : Status → Type 0

@@ -1,3 +1,4 @@
+pub mod EachLine
 pub mod Kept
 pub mod Options
 pub mod Plan
@@ -5,3 +6,4 @@ pub mod Progress
 pub mod Promises
 pub mod Reading
 pub mod Status
+pub mod Unharmed

@@ -11,9 +11,14 @@ ghost use Rattle.task_events.specs.declared.history.TheConstants.{MAX_EVENTS};
 ghost use Rattle.task_events.specs.Laws.{IsDrained};
 ghost use Rattle.script_lang.specs.declared.command.Mode.{Mode};
 ghost use Rattle.script_lang.specs.declared.command.Script.{Script};
+ghost use Rattle.world_moves.specs.Cancels.{AllAnswered};
 ghost use Rattle.world_moves.specs.Moves.{greatest_number};
+ghost use Rattle.world_moves.specs.Plain.{AnswersPlainly};
+ghost use Rattle.world_steps.specs.Scripts.{IsRun};
+ghost use Rattle.task_top.specs.EachLine.{HasLines};
 ghost use Rattle.task_top.specs.Promises.{CancelsExactly, KeepsAllLaws};
 ghost use Rattle.task_top.specs.Reading.{max_input, Reads, Refuses, IsRead, IsRefused};
+ghost use Rattle.task_top.specs.Unharmed.{AnswersWholly};
 
 use task_laws::{
     causes, drained_bans, early_children, late_children, one_place, one_stage, waiting,
@@ -60,5 +65,17 @@ pub(crate) fn all_laws()
     early_children();
     waiting();
     drained_bans();
+    causes();
+}
+
+/// In a whole run each command has its line. In any run a search to which nothing happened has no failed shard.
+///
+/// It computes nothing: its contract is the law.
+pub(crate) fn answer_laws()
+    ensures lines { (cluster : Cluster) (corpus : Corpus) (script : Script) (h : List Event)
+        → Lawful cluster h → AnswersPlainly cluster corpus script h → IsDrained h → AllAnswered h → IsRun cluster corpus script h → HasLines cluster corpus script h }
+    ensures unharmed { (cluster : Cluster) (corpus : Corpus) (script : Script) (h : List Event)
+        → Lawful cluster h → AnswersPlainly cluster corpus script h → AnswersWholly script h }
+{
     causes();
 }

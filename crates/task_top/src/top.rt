@@ -4,12 +4,13 @@ ghost use Rattle.task_events.specs.declared.event.Event.{Event};
 ghost use Rattle.task_events.specs.Lawful.{Lawful};
 ghost use Rattle.world_moves.specs.Plain.{AnswersPlainly};
 ghost use Rattle.world_steps.specs.Scripts.{CanRun};
-ghost use Rattle.task_top.specs.Kept.{AnswersInput, IsReadWhole, RanAsRead, Rests, WritesLines, HasCause, IsAfterReading, early_status};
+ghost use Rattle.task_top.specs.Kept.{AnswersInput, IsReadWhole, RanAsRead, Rests, TellsEach, WritesLines, HasCause, IsAfterReading, early_status};
 ghost use Rattle.task_top.specs.Progress.{EndsWhole};
 ghost use Rattle.task_top.specs.Promises.{KeepsAllLaws, CancelsExactly};
+ghost use Rattle.task_top.specs.Unharmed.{AnswersWholly};
 
 use crate::kept::Kept;
-use crate::laws::all_laws;
+use crate::laws::{all_laws, answer_laws};
 use crate::reading::read_input;
 use crate::run::run_script;
 use crate::status::Status;
@@ -55,8 +56,13 @@ pub fn sim_top<S: Source, K: Sink>(
     ensures cancelled { CancelsExactly result.1.history }
     // Each search that ended in it without being cancelled replied with the plain answer.
     ensures plain { AnswersPlainly cluster.now result.1.corpus result.1.script result.1.history }
+    // No shard of it failed where nothing happened to it: neither it nor a child of it was marked or refused, and none of its requests was rejected.
+    ensures unharmed { AnswersWholly result.1.script result.1.history }
     // After a whole run nothing is live, in flight or listed, no ban stands, and every cancel that named a task is answered.
     ensures rests { Rests result.0 result.1 }
+    // So each command has its line: a search the end of its task or what refused it, a cancel its answer or that it found no task, a line of a
+    // schedule its events or why nothing happened; and what is printed for it is one line.
+    ensures each_has_its_line { TellsEach cluster.now result.0 result.1 }
     // Where the sink tells its bytes: they grew by the printed lines of the run.
     ensures output { WritesLines cluster.now (K.written out.old) (K.written out.new) result.0 result.1 }
     // Where the sink has failed, that is told.
@@ -67,6 +73,7 @@ pub fn sim_top<S: Source, K: Sink>(
     // The laws of each moment of a lawful history. They compute nothing.
     earlier_is_lawful();
     all_laws();
+    answer_laws();
     let bytes = match read_all(alloc, input, MAX_INPUT) {
         Ok(bytes) => bytes,
         Err(ReadAll::ReadFault) => return (Status::ReadFault, Kept::nothing(alloc)),
@@ -101,6 +108,7 @@ fn run_and_print<K: Sink>(
     ensures lawful { Lawful cluster.now result.1.history }
     ensures plain { AnswersPlainly cluster.now result.1.corpus result.1.script result.1.history }
     ensures rests { Rests result.0 result.1 }
+    ensures each_has_its_line { TellsEach cluster.now result.0 result.1 }
     ensures output { WritesLines cluster.now (K.written out.old) (K.written out.new) result.0 result.1 }
     ensures told { K.faults out.old < K.faults out.new → result.0 ≡ Status.WriteFault }
     ensures cause { HasCause cluster.now result.0 result.1 ⊥ (Rose (K.faults out.old) (K.faults out.new)) }
@@ -141,10 +149,12 @@ fn write_lines<K: Sink>(
 ) -> Status
     requires few { length kept.now.script.commands ≤ 65535 }
     requires lawful { Lawful cluster.now kept.now.history }
+    requires plain { AnswersPlainly cluster.now kept.now.corpus kept.now.script kept.now.history }
     requires ran { EndsWhole cluster.now kept.now.corpus kept.now.script kept.now.history found.now }
     ensures status { IsAfterReading result }
     ensures run { RanAsRead cluster.now result kept.now }
     ensures rests { Rests result kept.now }
+    ensures each_has_its_line { TellsEach cluster.now result kept.now }
     ensures output { WritesLines cluster.now (K.written out.old) (K.written out.new) result kept.now }
     ensures told { K.faults out.old < K.faults out.new → result ≡ Status.WriteFault }
     ensures cause { HasCause cluster.now result kept.now ⊥ (Rose (K.faults out.old) (K.faults out.new)) }
@@ -154,8 +164,9 @@ fn write_lines<K: Sink>(
         script,
         history,
     } = kept;
-    // Where nothing is live, in flight or listed no ban stands. It computes nothing.
+    // Where nothing is live, in flight or listed no ban stands, and each command has its line. They compute nothing.
     all_laws();
+    answer_laws();
     let mut text = Vec::new(alloc);
     match print_lines(alloc, cluster, corpus, script, history, found, &mut text) {
         Ok(()) => {}

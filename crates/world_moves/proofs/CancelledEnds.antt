@@ -21,7 +21,7 @@ use Rattle.task_events.specs.Asks.{is_unanswered, last_ask}
 use Rattle.task_events.specs.Bans.{mark_of}
 use Rattle.task_events.specs.Lawful.{AwaitsNoMark, Lawful}
 use Rattle.task_events.specs.Messages.{unbans_from}
-use Rattle.task_events.specs.Steps.{request_of, asked_by}
+use Rattle.task_events.specs.Steps.{request_of}
 use Rattle.task_events.specs.Tasks.{is_live, no_counts}
 use Rattle.task_laws.proofs.Asks.{ask_facts}
 use Rattle.task_laws.proofs.Pending.{is_pending}
@@ -103,7 +103,7 @@ module _ (t : TaskId) (h : List Event) where
   left_plain cluster corpus script (Refuse u c) m plain = plain
   left_plain cluster corpus script (End u reply) m plain =
       let mark : mark_of t h ≡ Some m.1.0 = marked_reply t m.1.0 (mark_of t h) (cancellation_in reply) (ap cancellation_in m.1.1) m.1.2.cancelled in
-      rw m.0 (subst (λ o. EndsPlainly cluster corpus t o (request_of (root_request script) t h) (asked_by t h) reply) (sym mark) m.1.1, plain)
+      rw m.0 (subst (λ o. EndsPlainly cluster corpus t o (request_of (root_request script) t h) h reply) (sym mark) m.1.1, plain)
   left_plain cluster corpus script _ m plain = absurd m
 
 -- the answers that come with it are a later part of the move

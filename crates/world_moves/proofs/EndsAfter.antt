@@ -88,8 +88,8 @@ module _ (cluster : Cluster) (corpus : Corpus) (script : Script) (h : List Event
         no_rejection = untouched.1;
       }
 
-  replies : EndsPlainly cluster corpus t (mark_of t h) (request_of (root_request script) t h) (asked_by t h) reply
-  replies = rw unmarked (replies_plainly cluster corpus t _ _ _ _ _ r.work _ reply (runs cluster corpus script h tasks tables flight ties t live r here).works step)
+  replies : EndsPlainly cluster corpus t (mark_of t h) (request_of (root_request script) t h) h reply
+  replies = rw unmarked (replies_plainly cluster corpus t h ties.lawful _ _ _ r.work _ reply (runs cluster corpus script h tasks tables flight ties t live r here).works step)
 
   pub after_finish : AwaitsNoMark h → (table : Table) (receipt : ReceiptParts) (after : TaskId → Option Running) → slice_get tables (t.node - 1) ≡ Some table → receipt ≡ sealed r.track r.ticket.token
       → after t ≡ None → ((q : TaskId) → same_task t q ≡ false → after q ≡ tasks q)

@@ -1,9 +1,9 @@
 pub mod AcksAfter
 pub mod AllKinds
-pub mod AnsweringShards
 pub mod AnswersAfter
 pub mod AsksAfter
 pub mod AsksCounted
+pub mod AsksFor
 pub mod AtPlace
 pub mod BansAfter
 pub mod BansInFlight
@@ -52,6 +52,7 @@ pub mod SameTies
 pub mod SearchAnswers
 pub mod SearchAsks
 pub mod SearchLaws
+pub mod ShardsTold
 pub mod StepsAfter
 pub mod Tables
 pub mod TasksAfterLeave

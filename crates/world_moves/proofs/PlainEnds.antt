@@ -1,7 +1,8 @@
 -- A search that ends replies with the plain answer.
-use Rattle.std.proofs.Common.{◌≡◌, ◌<◌, ℕ, true, Bool, false, cond, List, [], ◌∷◌, ◌++◌, map, length, Option, Some, None, refl, sym, ap, subst, ◌∙◌}
-use Rattle.std.specs.Prelude.{slice_get, option_and_then}
+use Rattle.std.proofs.Common.{◌≡◌, ◌<◌, ◌≤◌, ◌+◌, ℕ, zero, suc, true, Bool, false, cond, List, [], ◌∷◌, ◌++◌, map, length, Option, Some, None, refl, sym, ap, subst, ◌∙◌, arith}
+use Rattle.std.specs.Prelude.{slice_get, is_some, option_and_then}
 use Rattle.std.specs.List.{AllByRecursion, range_with_len}
+use Rattle.std.proofs.lemmas.List.{take_all}
 use Rattle.task_ids.specs.declared.task_id.TaskId.{TaskId}
 use Rattle.task_ids.specs.declared.cluster.Cluster.{Cluster}
 use Rattle.task_ids.specs.declared.corpus.Corpus.{Corpus}
@@ -13,25 +14,45 @@ use Rattle.task_events.specs.declared.request.Request.TheVariants as asks
 use Rattle.task_events.specs.declared.reply.ShardTop.{ShardTop}
 use Rattle.task_events.specs.declared.reply.Reply.{Reply}
 use Rattle.task_events.specs.declared.reply.Reply.TheVariants.{Top}
+use Rattle.task_events.specs.declared.event.Event.{Event}
 use Rattle.task_events.specs.declared.step.Asked.{Asked}
 use Rattle.task_events.specs.declared.step.Do.TheVariants.{Finish}
 use Rattle.task_events.specs.Answers.{plain_answer}
+use Rattle.task_events.specs.Asks.{answer_of}
 use Rattle.task_events.specs.Documents.{writes_of}
-use Rattle.task_events.specs.Searches.{query_of, top_of, tops_in, fetch_of, winners_among, won_tops, has_queried, requests_of, failed_in}
+use Rattle.task_events.specs.Lawful.{Lawful}
+use Rattle.task_events.specs.ShardOutcomes.{ask_for}
+use Rattle.task_events.specs.Searches.{query_of, top_of, tops_in, fetch_of, winners_among, won_tops, has_queried, requests_of}
+use Rattle.task_events.specs.Steps.{asked_by}
 use Rattle.search_phase.specs.Searching.{Searching, IsHonest, AllHonest, version_of, reply_of, next_step, has_ended}
 use Rattle.search_phase.proofs.Plain.{answer_of_top, honest_search_is_plain}
-use Rattle.search_phase.proofs.Requests.{request_of_query}
+use Rattle.search_phase.proofs.Requests.{HasEnded, ended, list_all-slice_get, request_of_query}
 use Rattle.task_work.specs.declared.work.Work.{Work}
 use Rattle.task_work.specs.declared.work.Work.TheVariants as works
 use Rattle.task_work.specs.Works.{next_of}
-use Rattle.world_moves.specs.Plain.{EndsPlainly, plain_end}
+use Rattle.world_moves.specs.Facts.{requested_by}
+use Rattle.world_moves.specs.Plain.{EndsPlainly, IsPlainReply}
 use Rattle.world_moves.specs.Ties.{WorksFor}
 use Rattle.world_moves.specs.SearchRuns.{SearchesFor}
 use Rattle.world_moves.specs.Good.{writes_for}
-use Rattle.world_moves.proofs.AnsweringShards.{newest_versions}
+use Rattle.world_moves.proofs.AsksFor.{asks_first, answer_told, first_at}
 use Rattle.world_moves.proofs.ByPlace.{all_here}
 use Rattle.world_moves.proofs.SearchLaws.{search_ends}
 use Rattle.world_moves.proofs.Numbered.{is_searching}
+use Rattle.world_moves.proofs.ShardsTold.{IsAllTold, failed_told, failures_same, found_at, versions_same}
+
+-- ---- asks
+
+-- an answered ask has its answer
+given : (o : Option Reply) → is_some o ≡ true → (reply : Reply) × (o ≡ Some reply)
+given None e = absurd (cc)
+given (Some reply) e = (reply, refl)
+
+-- asks that are numbered in order
+numbered_at : (b : ℕ) (xs : List Asked) → map (λ a. a.ask) xs ≡ range_with_len b (length xs) → (i : ℕ) (a : Asked) → slice_get xs i ≡ Some a → a.ask ≡ b + i
+numbered_at b [] e i a at = absurd (cc)
+numbered_at b (x ∷ xs) e zero a at = let first : x.ask ≡ b = cc in let same : x ≡ a = cc in let here : a.ask ≡ x.ask = ap (λ (y : Asked). y.ask) (sym same) in omega (arith, first, here)
+numbered_at b (x ∷ xs) e (suc i) a at = let later = numbered_at (b + 1) xs (cc) i a at in omega (arith, later)
 
 -- ---- a search asks the shards of its index
 
@@ -80,18 +101,53 @@ module _ (cluster : Cluster) (corpus : Corpus) (t : TaskId) (ask : SearchAsk) (a
         let shard : top.shard ≡ place = ap (λ top. top.shard) good.1 in
         λ i. (shard i, good.2 i)
 
-    replies : has_ended (next_step state) ≡ true → reply_of state ≡ plain_end cluster corpus t ask asked
-    replies e =
-        honest_search_is_plain writes state (is_searching cluster corpus t ask asked requests awaited x) e honest
-        ∙ ap (λ answered. plain_answer t ask cluster.shards writes answered (failed_in ask cluster.shards asked)) (newest_versions writes cluster.shards asked newest)
+    module _ (end : HasEnded state) where
+      all_asked : requests ≡ requests_of ask cluster.shards asked
+      all_asked = x.planned ∙ take_all (length asked) (requests_of ask cluster.shards asked) end.asked_all
 
-module _ (cluster : Cluster) (corpus : Corpus) (t : TaskId) (asked : List Asked) (requests : List Request) (awaited : List (Option ℕ)) (turns : ℕ) where
-  pub replies_plainly : (o : Option Request) (w : Work) (looked : List Doc) (end : Reply) → WorksFor cluster corpus t asked requests awaited turns o w → next_of w looked ≡ Finish end → EndsPlainly cluster corpus t None o asked end
+      module _ (h : List Event) (first : (test : Request → Bool) → ask_for test t h ≡ first_at test 1 requests) (told : (i : ℕ) (a : Asked) (r : Reply) → slice_get asked i ≡ Some a → a.answer ≡ Some r → answer_of t a.ask h ≡ Some r) where
+        answered : (i : ℕ) (a : Asked) → slice_get asked i ≡ Some a → answer_of t (i + 1) h ≡ a.answer
+        answered i a at =
+            let reply = given a.answer (list_all-slice_get (λ (a : Asked). is_some a.answer) asked i a end.answered at) in
+            let place = numbered_at 1 asked x.numbered i a at in
+            let number : i + 1 ≡ a.ask = omega (arith, place) in
+            ap (λ k. answer_of t k h) number ∙ told i a reply.0 at reply.1 ∙ sym reply.1
+
+        all_told : IsAllTold t h ask cluster.shards asked
+        all_told = record {
+          first = λ test. first test ∙ ap (first_at test 1) all_asked;
+          answers = answered;
+          queried = end.queried;
+          as_many = sym x.as_many ∙ ap length all_asked;
+          possible = λ i a r at wants.
+              let reply = given a.answer (list_all-slice_get (λ (a : Asked). is_some a.answer) asked i a end.answered at) in
+              (reply.0, reply.1, (x.good i a r reply.0 at wants reply.1).0);
+          own = λ i a top low at found. ap (λ v. v.0) (newest i a top low at found);
+        }
+
+        replies : has_ended (next_step state) ≡ true → IsPlainReply cluster corpus t ask h (reply_of state)
+        replies e = record {
+          answer =
+              honest_search_is_plain writes state (is_searching cluster corpus t ask asked requests awaited x) e honest
+              ∙ (λ i. plain_answer t ask cluster.shards writes (sym (versions_same t h ask cluster.shards asked all_told) i) (sym (failures_same t h ask cluster.shards asked all_told) i));
+          newest = λ shard top low found.
+              let at = found_at t h ask cluster.shards asked all_told shard low in
+              ap (λ v. v.1) (newest shard at.0 top low at.1 (sym at.2 ∙ found));
+          failed = failed_told t h ask cluster.shards asked all_told;
+        }
+
+module _ (cluster : Cluster) (corpus : Corpus) (t : TaskId) (h : List Event) (lawful : Lawful cluster h) (awaited : List (Option ℕ)) (turns : ℕ) where
+  abbrev Works : Option Request → Work → Type 0
+  Works o w = WorksFor cluster corpus t (asked_by t h) (requested_by t h) awaited turns o w
+
+  pub replies_plainly : (o : Option Request) (w : Work) (looked : List Doc) (end : Reply) → Works o w → next_of w looked ≡ Finish end → EndsPlainly cluster corpus t None o h end
   replies_plainly None w looked end x e = absurd x
   replies_plainly (Some (asks.Search ask)) (works.Search s) looked end x e =
-      let searches = subst (SearchesFor cluster corpus t ask asked requests awaited) x.state_is x in
-      let ends : next_step (state cluster corpus t ask asked) ≡ Finish end = ap next_step (sym x.state_is) ∙ e in
-      (search_ends _ _ _ end ends).1 ∙ replies cluster corpus t ask asked requests awaited searches (ap has_ended ends)
+      let searches = subst (SearchesFor cluster corpus t ask (asked_by t h) (requested_by t h) awaited) x.state_is x in
+      let ends : next_step (state cluster corpus t ask (asked_by t h)) ≡ Finish end = ap next_step (sym x.state_is) ∙ e in
+      let over = ap has_ended ends in
+      subst (IsPlainReply cluster corpus t ask h) (sym (search_ends _ _ _ end ends).1)
+      (replies cluster corpus t ask (asked_by t h) (requested_by t h) awaited searches (ended (state cluster corpus t ask (asked_by t h)) over) h (λ test. asks_first cluster test t h lawful) (answer_told cluster t h lawful) over)
   replies_plainly (Some (asks.Query ask)) w looked end x e = tt
   replies_plainly (Some (asks.Fetch ask)) w looked end x e = tt
   replies_plainly (Some (asks.Search ask)) w looked end x e = absurd x

@@ -39,3 +39,6 @@ returns-in-Err-Bad-clause-laws g c = every_moment_of_nothing c.args.cluster.now 
 
 pub returns-clause-laws : goal.returns-clause-laws
 returns-clause-laws g c = every_moment_of_nothing c.args.cluster.now c.earlier_is_lawful.ensures c.all_laws.ensures.laws _ c.nothing-in-Err-Memory-read_input.ensures.no_event
+
+pub returns-in-Ok-read_input-clause-unharmed : goal.returns-in-Ok-read_input-clause-unharmed
+returns-in-Ok-read_input-clause-unharmed g c = c.answer_laws.ensures.unharmed c.args.cluster.now _ _ _ c.run_and_print.ensures.lawful c.run_and_print.ensures.plain

@@ -1,0 +1,238 @@
+-- What stands in a whole run for the line of each kind of command.
+use Rattle.std.proofs.Common.{◌≡◌, ◌≢◌, ◌⊎◌, ◌<◌, ◌≤◌, ◌+◌, ℕ, zero, suc, Bool, true, false, cond, ◌&&◌, ◌||◌, List, [], ◌∷◌, ◌++◌, map, filter, reverse, length, Option, Some, None, Result, Ok, Err, inl, inr, refl, sym, ap, subst, ◌∙◌, arith, append_assoc}
+use Rattle.std.specs.Prelude.{is_some, filter_map, if◌then◌else◌}
+use Rattle.std.specs.List.{list_any}
+use Rattle.std.proofs.lemmas.List.{length-append, reverse-append, reverse-reverse}
+use Rattle.std.proofs.lemmas.List.Folds.{list_any-append}
+use Rattle.std.proofs.lemmas.Option.{slice_get_within}
+use Rattle.serde_json.specs.Data.{Data}
+use Rattle.query_match.specs.declared.body.SearchBody.{SearchBody}
+use Rattle.query_parse.specs.declared.fault.BodyError.{BodyError}
+use Rattle.query_parse.specs.Bodies.{body_at}
+use Rattle.task_ids.specs.declared.cluster.Cluster.{Cluster}
+use Rattle.task_ids.specs.declared.corpus.Corpus.{Corpus}
+use Rattle.task_ids.specs.declared.task_id.TaskId.{TaskId}
+use Rattle.task_ids.specs.declared.text.Text.{Text}
+use Rattle.task_events.specs.declared.event.Event.{Event}
+use Rattle.task_events.specs.declared.event.Event.TheVariants.{Begin, Root, RootRejected, Refuse, Cancel, NotFound, Mark, Acked, End, AnswerPlaced, AnswerDone}
+use Rattle.task_events.specs.declared.reply.Reply.{Reply}
+use Rattle.task_events.specs.declared.request.Request.TheVariants as asks
+use Rattle.task_events.specs.declared.request.SearchAsk.{SearchAsk}
+use Rattle.task_events.specs.Bans.{mark_of}
+use Rattle.task_events.specs.Cancels.{is_named}
+use Rattle.task_events.specs.Lawful.{Lawful}
+use Rattle.task_events.specs.Laws.{IsDrained}
+use Rattle.task_events.specs.Messages.{in_flight}
+use Rattle.task_events.specs.Same.{same_pair}
+use Rattle.task_events.specs.Tasks.{is_live, reply_of}
+use Rattle.task_events.specs.Turns.{events_of, history_before}
+use Rattle.task_laws.proofs.Same.{same_pair_refl, same_tests}
+use Rattle.script_lang.specs.declared.command.CancelTarget.{CancelTarget}
+use Rattle.script_lang.specs.declared.command.Command.{Command}
+use Rattle.script_lang.specs.declared.command.Command.TheVariants as commands
+use Rattle.script_lang.specs.declared.command.Script.{Script}
+use Rattle.world_moves.specs.Cancels.{AllAnswered, after_cancel_of, answer_to, due_answers, is_due, target_of, waiting_for, waits_for_end, with_answers, with_cancel, with_due}
+use Rattle.node_parts.specs.declared.listing.Listing.{Listing}
+use Rattle.world_moves.specs.Listings.{is_open, ListSteps}
+use Rattle.world_moves.specs.Moves.{Delivers, IsStart, Starts}
+use Rattle.world_moves.specs.Plain.{AnswersPlainly}
+use Rattle.world_moves.specs.Roots.{command_at, root_request, search_of, whole_ask}
+use Rattle.world_steps.specs.declared.acting.Stepped.{Stepped}
+use Rattle.world_steps.specs.declared.acting.Stepped.TheVariants.{Done, Waiting, NotRunning}
+use Rattle.world_steps.specs.Runs.{AnswersStep, next_of}
+use Rattle.world_steps.specs.Scripts.{StartsWhere, DeliversWhere, ListsWhere, IsRun, can_start}
+use Rattle.line_print.specs.Lines.{is_known, named_in, finds_none}
+use Rattle.task_top.specs.EachLine.{as_began, TellsSearch, HasEnded, TellsCancel, HasNamed, Moved, Waits, HasItsLine, EachHasItsLine}
+use Rattle.query_parse.proofs.FaultsTold.{fault_told}
+use Rattle.task_top.proofs.RootEnds.{has_replied, replies_so}
+use Rattle.task_top.proofs.TurnEvents.{HasDone, told_as, some_told, done_in_whole}
+
+-- ---- one event more, with the answers that come due with it
+
+answers_longer : (t : TaskId) (h : List Event) → length h ≤ length (with_answers t h)
+answers_longer t h = omega (arith, length-append (reverse (due_answers t h)) h)
+
+due_longer : (e : Event) (h : List Event) → length h < length (with_due e h)
+due_longer (Refuse t c) h = omega (arith, answers_longer t (Refuse t c ∷ h))
+due_longer (End t reply) h = omega (arith, answers_longer t (End t reply ∷ h))
+due_longer (Acked p n) h = omega (arith, answers_longer p (Acked p n ∷ h))
+due_longer e h = omega arith
+
+-- ---- answers are no names
+
+module _ (h : List Event) where
+  none_named : (cs : List ℕ) → filter_map named_in (map (answer_to h) cs) ≡ []
+  none_named [] = refl
+  none_named (c ∷ cs) = by_kind (waits_for_end c h) (none_named cs)
+    where
+      by_kind : (b : Bool) → filter_map named_in (map (answer_to h) cs) ≡ [] → filter_map named_in ((if b then AnswerDone c else AnswerPlaced c) ∷ map (answer_to h) cs) ≡ []
+      by_kind true rest = rest
+      by_kind false rest = rest
+
+  none_missing : (cs : List ℕ) → list_any finds_none (map (answer_to h) cs) ≡ false
+  none_missing [] = refl
+  none_missing (c ∷ cs) = by_kind (waits_for_end c h) (none_missing cs)
+    where
+      by_kind : (b : Bool) → list_any finds_none (map (answer_to h) cs) ≡ false → list_any finds_none ((if b then AnswerDone c else AnswerPlaced c) ∷ map (answer_to h) cs) ≡ false
+      by_kind true rest = rest
+      by_kind false rest = rest
+
+-- what was named stays so
+still_named : (c : ℕ) (t : TaskId) (xs h : List Event) → is_named c t h ≡ true → is_named c t (xs ++ h) ≡ true
+still_named c t [] h n = n
+still_named c t (Cancel d u wait ∷ xs) h n = grind (arith, same_tests, still_named c t xs h n)
+still_named c t (_ ∷ xs) h n = still_named c t xs h n
+
+both_parts : (o : Option SearchBody) (found : SearchBody) (b : Bool) → o ≡ Some found → b ≡ true → (is_some o && b) ≡ true
+both_parts o found b e k = rw (e, k) refl
+
+module _ (cluster : Cluster) (corpus : Corpus) (script : Script) (h : List Event) (k : ℕ) where
+  -- ---- a search
+
+  module _ (index : Text) (node : ℕ) (body : Data) (lawful : Lawful cluster h) (drained : IsDrained h) (plain : AnswersPlainly cluster corpus script h)
+      (at : command_at script k ≡ Some (commands.Search index node body)) (done : HasDone cluster corpus script k (commands.Search index node body) h) where
+    started : (found : SearchBody) (t : TaskId) → root_request script k ≡ Some (asks.Search (whole_ask index found)) → done.after ≡ Root k t ∷ Begin k ∷ done.before → HasEnded k h
+    started found t asked same = record {
+      task = t;
+      reply = reply.0;
+      started = told_as cluster corpus script k _ h done (Root k t ∷ []) same;
+      replied = ap (reply_of t) whole ∙ reply.1;
+      told = replies_so cluster corpus script k t (Begin k ∷ done.before) (whole_ask index found) asked done.later reply.0 (subst (Lawful cluster) whole lawful) (subst (AnswersPlainly cluster corpus script) whole plain) reply.1;
+    }
+      where
+        whole : h ≡ done.later ++ Root k t ∷ Begin k ∷ done.before
+        whole = done.stands ∙ ap (λ l. done.later ++ l) same
+
+        given : (o : Option Reply) → is_some o ≡ true → (reply : Reply) × (o ≡ Some reply)
+        given None e = absurd (cc)
+        given (Some reply) e = (reply, refl)
+
+        reply : (reply : Reply) × (reply_of t (done.later ++ Root k t ∷ Begin k ∷ done.before) ≡ Some reply)
+        reply = given _ (has_replied k t (Begin k ∷ done.before) done.later (ap (is_live t) (sym whole) ∙ drained.nothing_live t))
+
+    by_start : (found : SearchBody) → root_request script k ≡ Some (asks.Search (whole_ask index found)) → (begins : Bool) (e : Event) → IsStart cluster (Begin k ∷ done.before) k node begins e → done.after ≡ e ∷ Begin k ∷ done.before → TellsSearch corpus index node body k h
+    by_start found asked true (Root c t) (takes, there, command) same = inr (inr (inr (started found t asked (same ∙ ap (λ n. Root n t ∷ Begin k ∷ done.before) command))))
+    by_start found asked false (RootRejected c n) (full, there, command) same =
+        inr (inr (inl (told_as cluster corpus script k _ h done (RootRejected k node ∷ []) (same ∙ (λ i. RootRejected (command i) (there i) ∷ Begin k ∷ done.before)))))
+    by_start found asked true _ s same = absurd s
+    by_start found asked false _ s same = absurd s
+
+    asked_for : (found : SearchBody) → body_at false 0 body ≡ Ok found → root_request script k ≡ Some (asks.Search (whole_ask index found))
+    asked_for found good = rw (at, good) refl
+
+    where_known : (found : SearchBody) → body_at false 0 body ≡ Ok found → is_known corpus index ≡ true → TellsSearch corpus index node body k h
+    where_known found good known =
+        let can : can_start corpus index body ≡ true = rw (good, known) refl in
+        let starts : StartsWhere cluster true k node (Begin k ∷ done.before) done.after = subst (λ b. StartsWhere cluster b k node (Begin k ∷ done.before) done.after) can done.does in
+        by_start found (asked_for found good) starts.0 starts.1.0 starts.1.1 starts.1.2
+
+    pub search_told : TellsSearch corpus index node body k h
+    search_told = by_body (body_at false 0 body) refl (is_known corpus index) refl
+      where
+        by_body : (r : Result SearchBody BodyError) → body_at false 0 body ≡ r → (b : Bool) → is_known corpus index ≡ b → TellsSearch corpus index node body k h
+        by_body (Err fault) is b known = inl (fault, is, fault_told false 0 body fault is)
+        by_body (Ok found) is false known = inr (inl known)
+        by_body (Ok found) is true known = where_known found is known
+
+  -- ---- a cancel
+
+  module _ (target : CancelTarget) (reason : Text) (wait : Bool) (answered : AllAnswered h) (done : HasDone cluster corpus script k (commands.Cancel target reason wait) h) where
+    abbrev began : List Event
+    began = Begin k ∷ done.before
+
+    missing : done.after ≡ NotFound k ∷ began → TellsCancel target k h
+    missing same = inl (told_as cluster corpus script k _ h done (NotFound k ∷ []) same)
+
+    -- the events with which the task is named, and marked where it has no mark
+    module _ (t : TaskId) (first : List Event) (found : target_of target began ≡ Some t) (named : filter_map named_in (reverse first) ≡ t ∷ []) (missed : list_any finds_none (reverse first) ≡ false) (names : is_named k t (first ++ began) ≡ true)
+        (same : done.after ≡ with_answers t (first ++ began)) where
+      abbrev due : List Event
+      due = due_answers t (first ++ began)
+
+      events : events_of k h ≡ reverse first ++ due
+      events =
+          told_as cluster corpus script k _ h done (reverse due ++ first) (same ∙ sym (append_assoc (reverse due) first began))
+          ∙ reverse-append (reverse due) first ∙ ap (λ l. reverse first ++ l) (reverse-reverse due)
+
+      names_one : filter_map named_in (reverse first ++ due) ≡ t ∷ []
+      names_one = filter_map_append (reverse first) due ∙ (λ i. named i ++ none_named (first ++ began) (filter (is_due t (first ++ began)) (waiting_for t (first ++ began))) i)
+        where
+          cons_append : (o : Option TaskId) (xs ys : List TaskId) (e : Event) (es fs : List Event) → named_in e ≡ o → filter_map named_in (es ++ fs) ≡ filter_map named_in es ++ filter_map named_in fs → filter_map named_in (e ∷ es ++ fs) ≡ filter_map named_in (e ∷ es) ++ filter_map named_in fs
+          cons_append None xs ys e es fs is rest = rw is rest
+          cons_append (Some u) xs ys e es fs is rest = rw is (ap (λ l. u ∷ l) rest)
+
+          filter_map_append : (es fs : List Event) → filter_map named_in (es ++ fs) ≡ filter_map named_in es ++ filter_map named_in fs
+          filter_map_append [] fs = refl
+          filter_map_append (e ∷ es) fs = cons_append (named_in e) [] [] e es fs refl (filter_map_append es fs)
+
+      pub has_named : HasNamed k target h
+      has_named = record {
+        task = t;
+        about = ap (λ past. target_of target (Begin k ∷ past)) done.past ∙ found;
+        named = ap (filter_map named_in) events ∙ names_one;
+        found = ap (list_any finds_none) events ∙ list_any-append finds_none (reverse first) due ∙ rw missed (none_missing (first ++ began) (filter (is_due t (first ++ began)) (waiting_for t (first ++ began))));
+        answered = answered k t (ap (is_named k t) (done.stands ∙ ap (λ l. done.later ++ l) same) ∙ still_named k t done.later _ (still_named k t (reverse due) (first ++ began) names));
+      }
+
+    by_mark : (t : TaskId) → target_of target began ≡ Some t → (o : Option ℕ) → mark_of t began ≡ o → done.after ≡ with_answers t (with_cancel k t wait began) → TellsCancel target k h
+    by_mark t found None e same =
+        inr (has_named t (Mark t k ∷ Cancel k t wait ∷ []) found refl refl (rw (same_pair_refl t k) refl)
+        (same ∙ ap (λ (o : Option ℕ). with_answers t (if is_some o then Cancel k t wait ∷ began else Mark t k ∷ Cancel k t wait ∷ began)) e))
+    by_mark t found (Some c) e same =
+        inr (has_named t (Cancel k t wait ∷ []) found refl refl (rw (same_pair_refl t k) refl)
+        (same ∙ ap (λ (o : Option ℕ). with_answers t (if is_some o then Cancel k t wait ∷ began else Mark t k ∷ Cancel k t wait ∷ began)) e))
+
+    pub cancel_told : TellsCancel target k h
+    cancel_told = by_target (target_of target began) refl done.does
+      where
+        by_live : (t : TaskId) → target_of target began ≡ Some t → (b : Bool) → done.after ≡ cond b (with_answers t (with_cancel k t wait began)) (NotFound k ∷ began) → TellsCancel target k h
+        by_live t found true same = by_mark t found (mark_of t began) refl same
+        by_live t found false same = missing same
+
+        by_target : (o : Option TaskId) → target_of target began ≡ o → done.after ≡ after_cancel_of k wait began o → TellsCancel target k h
+        by_target None found same = missing same
+        by_target (Some t) found same = by_live t found (is_live t began) same
+
+  -- ---- lines of a schedule
+
+  module _ (command : Command) (done : HasDone cluster corpus script k command h) where
+    began_as : Begin k ∷ done.before ≡ as_began k h
+    began_as = ap (λ past. Begin k ∷ past) (sym done.past)
+
+    moved_due : (e : Event) → done.after ≡ with_due e (Begin k ∷ done.before) → Moved k h
+    moved_due e same = some_told cluster corpus script k command h done (let longer = due_longer e (Begin k ∷ done.before) in let all = ap length same in omega (arith, longer, all))
+
+    deliver_told : (nth : ℕ) → DeliversWhere cluster nth (Begin k ∷ done.before) done.after → Moved k h ⊎ (length (in_flight (as_began k h)) ≤ nth)
+    deliver_told nth (inl (m, e, at, is, same)) = inl (moved_due e same)
+    deliver_told nth (inr (past, same)) = inr (subst (λ g. length (in_flight g) ≤ nth) began_as past)
+
+    step_told : (t : TaskId) (stepped : Stepped) → AnswersStep cluster corpus script t (Begin k ∷ done.before) stepped done.after → Moved k h ⊎ (is_live t (as_began k h) ≡ false) ⊎ Waits cluster corpus script t (as_began k h)
+    step_told t Done (e, live, next, same) = inl (moved_due e same)
+    step_told t NotRunning (gone, same) = inr (inl (subst (λ g. is_live t g ≡ false) began_as gone))
+    step_told t Waiting (live, waits, same) = inr (inr (subst (Waits cluster corpus script t) began_as (live, waits)))
+
+    list_told : (l : Listing) → ListsWhere l (Begin k ∷ done.before) done.after → Moved k h ⊎ (is_open l (as_began k h) ≡ false)
+    list_told l (inl (e, opened, is, same)) = inl (some_told cluster corpus script k command h done (let all = ap length same in omega (arith, all)))
+    list_told l (inr (closed, same)) = inr (subst (λ g. is_open l g ≡ false) began_as closed)
+
+-- ---- all
+
+module _ (cluster : Cluster) (corpus : Corpus) (script : Script) (h : List Event) (lawful : Lawful cluster h) (drained : IsDrained h) (answered : AllAnswered h) (plain : AnswersPlainly cluster corpus script h) where
+  by_command : (k : ℕ) (command : Command) → command_at script k ≡ Some command → HasDone cluster corpus script k command h → HasItsLine cluster corpus script h k command
+  by_command k (commands.Search index node body) at done = search_told cluster corpus script h k index node body lawful drained plain at done
+  by_command k (commands.Cancel target reason wait) at done = cancel_told cluster corpus script h k target reason wait answered done
+  by_command k (commands.Deliver nth) at done = deliver_told cluster corpus script h k _ done nth done.does
+  by_command k (commands.Step t) at done = step_told cluster corpus script h k _ done t done.does.0 done.does.1
+  by_command k (commands.ListStep node parent) at done = list_told cluster corpus script h k _ done (record { node = node; parent = parent }) done.does
+  by_command k commands.Settle at done = tt
+  by_command k commands.History at done = tt
+
+  number_there : (k : ℕ) (command : Command) → command_at script k ≡ Some command → (1 ≤ k) × (k ≤ length script.commands)
+  number_there zero command at = absurd (cc)
+  number_there (suc n) command at = let low = slice_get_within script.commands n command at in (omega arith, omega (arith, low))
+
+  -- Each command has its line.
+  pub each_has_its_line : IsRun cluster corpus script h → EachHasItsLine cluster corpus script h
+  each_has_its_line run k command at =
+      let there = number_there k command at in
+      by_command k command at (done_in_whole cluster corpus script h run k command there.0 there.1 at)

@@ -1,0 +1,125 @@
+-- What is printed for each command of a whole run is one line.
+use Rattle.std.proofs.Common.{◌≡◌, ℕ, zero, suc, ◌+◌, Bool, true, false, cond, List, [], ◌∷◌, ◌++◌, length, slice_get, codes, Option, Some, None, Result, Ok, Err, inl, inr, refl, sym, ap, subst, ◌∙◌, arith}
+use Rattle.std.specs.Prelude.{count_by, filter_map, option_and_then, if◌then◌else◌}
+use Rattle.std.specs.List.{list_any}
+use Rattle.std.proofs.lemmas.List.Sums.{sum_by-append, sum_by-cons}
+use Rattle.serde_json.specs.Data.{Data}
+use Rattle.query_match.specs.declared.body.SearchBody.{SearchBody}
+use Rattle.query_parse.specs.declared.fault.BodyError.{BodyError}
+use Rattle.query_parse.specs.Bodies.{body_at}
+use Rattle.task_ids.specs.declared.cluster.Cluster.{Cluster}
+use Rattle.task_ids.specs.declared.corpus.Corpus.{Corpus}
+use Rattle.task_ids.specs.declared.task_id.TaskId.{TaskId}
+use Rattle.task_events.specs.declared.event.Event.{Event}
+use Rattle.task_events.specs.declared.reply.Reply.{Reply}
+use Rattle.task_events.specs.declared.reply.Reply.TheVariants as replies
+use Rattle.task_events.specs.Messages.{in_flight}
+use Rattle.task_events.specs.Printed.{count, object_of, reply_line, search_json}
+use Rattle.task_events.specs.Tasks.{is_live, reply_of}
+use Rattle.task_events.specs.Turns.{events_before, events_of, history_before}
+use Rattle.script_lang.specs.declared.command.Command.{Command}
+use Rattle.script_lang.specs.declared.command.Command.TheVariants.{Search, Cancel, Deliver, Step, ListStep, Settle, History}
+use Rattle.script_lang.specs.declared.command.Script.{Script}
+use Rattle.world_moves.specs.Roots.{command_at}
+use Rattle.line_print.specs.declared.idle.Idle.{Idle}
+use Rattle.line_print.specs.declared.idle.Idle.TheVariants.{NoSuchMessage, NotRunning, Waiting, NoListing}
+use Rattle.line_print.specs.Errors.{all_shards_failed, body_error, index_not_found, not_found, rejected, task_cancelled}
+use Rattle.line_print.specs.Lines.{cancel_line, cancelled, ended_line, error_line, finds_none, first_in, full_node_in, idle_error, idle_of, is_known, line_of, lines_from, moved_line, named_in, printed, reason_of, refusal, search_line, settled, started, target_in, told_all}
+use Rattle.task_top.specs.EachLine.{is_newline, EachHasItsLine, EachPrintsALine, HasItsLine, IsLine, IsSearchReply, TellsSearch}
+use Rattle.task_top.proofs.OneLine.{value_line}
+use Rattle.task_top.proofs.ProgressLemmas.{both_false}
+
+error_prints : (k : ℕ) (error : Data) → IsLine (error_line k error)
+error_prints k error = value_line (object_of ((codes "command", count k) ∷ (codes "error", error) ∷ []))
+
+reply_prints : (k : ℕ) (reply : Data) → IsLine (reply_line k reply)
+reply_prints k reply = value_line (object_of ((codes "command", count k) ∷ (codes "reply", reply) ∷ []))
+
+module _ (cluster : Cluster) (corpus : Corpus) (commands : List Command) (h : List Event) (k : ℕ) where
+  -- ---- a search
+
+  ended : (t : TaskId) (reply : Reply) → IsSearchReply t reply → IsLine (ended_line cluster.shards commands k (Some reply))
+  ended t (replies.Search reply) told = reply_prints k (search_json cluster.shards reply)
+  ended t (replies.AllFailed failed) told = error_prints k (all_shards_failed failed)
+  ended t (replies.Cancelled u c counts) told = error_prints k (task_cancelled (reason_of commands c) u)
+  ended t (replies.Top top) told = absurd told
+  ended t (replies.Hits hits) told = absurd told
+  ended t (replies.Rejected n) told = absurd told
+
+  -- where there is a reply, what refuses the search does not matter
+  either_line : (o : Option Data) (reply : Option Reply) → IsLine (ended_line cluster.shards commands k reply) → IsLine (search_line cluster.shards commands k o reply)
+  either_line None reply line = line
+  either_line (Some error) reply line = error_prints k error
+
+  module _ (index : List ℕ) (node : ℕ) where
+    unknown_refused : (body : Result SearchBody BodyError) (full : Option ℕ) (reply : Option Reply) → IsLine (search_line cluster.shards commands k (refusal index body false full) reply)
+    unknown_refused (Err fault) full reply = error_prints k (body_error fault)
+    unknown_refused (Ok found) full reply = error_prints k (index_not_found index)
+
+    full_refused : (body : Result SearchBody BodyError) (known : Bool) (reply : Option Reply) → IsLine (search_line cluster.shards commands k (refusal index body known (Some node)) reply)
+    full_refused (Err fault) known reply = error_prints k (body_error fault)
+    full_refused (Ok found) true reply = error_prints k (rejected node)
+    full_refused (Ok found) false reply = error_prints k (index_not_found index)
+
+    search_prints : (body : Data) → TellsSearch corpus index node body k h → (idle : Option Idle) → IsLine (line_of cluster corpus commands h k (Search index node body) idle)
+    search_prints body (inl (fault, is, told)) idle = rw is (error_prints k (body_error fault))
+    search_prints body (inr (inl unknown)) idle = rw unknown (unknown_refused (body_at false 0 body) (first_in full_node_in (events_of k h)) (option_and_then (λ t. reply_of t h) (started k h)))
+    search_prints body (inr (inr (inl full))) idle = rw full (full_refused (body_at false 0 body) (is_known corpus index) None)
+    search_prints body (inr (inr (inr told))) idle =
+        let begun = told.started in
+        let replied = told.replied in
+        rw begun (either_line (refusal index (body_at false 0 body) (is_known corpus index) None) (reply_of told.task h) (rw replied (ended told.task told.reply told.told)))
+
+  -- ---- the others
+
+  cancel_prints : (target : Option TaskId) (wait : Bool) (es : List Event) → IsLine (cancel_line k target wait es)
+  cancel_prints target wait es = by_kind (list_any finds_none es)
+    where
+      by_kind : (b : Bool) → IsLine (if b then error_line k (not_found target) else reply_line k (cancelled (filter_map named_in es) wait))
+      by_kind true = error_prints k (not_found target)
+      by_kind false = reply_prints k (cancelled (filter_map named_in es) wait)
+
+  move_prints : (es : List Event) (idle : Idle) → IsLine (moved_line commands k es (Some idle))
+  move_prints [] idle = error_prints k (idle_error idle)
+  move_prints (e ∷ es) idle = reply_prints k (told_all commands (e ∷ es))
+
+module _ (cluster : Cluster) (corpus : Corpus) (script : Script) (h : List Event) where
+  by_command : (k : ℕ) (command : Command) → HasItsLine cluster corpus script h k command → IsLine (line_of cluster corpus script.commands h k command (idle_of command (history_before k h)))
+  by_command k (Search index node body) told = search_prints cluster corpus script.commands h k index node body told None
+  by_command k (Cancel target reason wait) told = cancel_prints cluster corpus script.commands h k (target_in script.commands h target) wait (events_of k h)
+  by_command k (Deliver nth) told = move_prints cluster corpus script.commands h k (events_of k h) (NoSuchMessage (length (in_flight (history_before k h))))
+  by_command k (Step t) told = move_prints cluster corpus script.commands h k (events_of k h) (if is_live t (history_before k h) then Waiting else NotRunning)
+  by_command k (ListStep node parent) told = move_prints cluster corpus script.commands h k (events_of k h) NoListing
+  by_command k Settle told = reply_prints k (settled (length (events_of k h)))
+  by_command k History told = reply_prints k (told_all script.commands (events_before k h))
+
+  pub each_prints_a_line : EachHasItsLine cluster corpus script h → EachPrintsALine cluster corpus script h
+  each_prints_a_line each k command at = by_command k command (each k command at)
+
+-- ---- as many lines as commands
+
+none_counted : (text : List ℕ) → list_any is_newline text ≡ false → count_by is_newline text ≡ 0
+none_counted [] none = refl
+none_counted (x ∷ text) none =
+    let parts = both_false (is_newline x) (list_any is_newline text) none in
+    let rest = none_counted text parts.1 in
+    sum_by-cons (λ b. cond (is_newline b) 1 0) x text ∙ (λ i. cond (parts.0 i) 1 0 + rest i)
+
+one_counted : (text : List ℕ) → IsLine text → count_by is_newline text ≡ 1
+one_counted text (told, same, none) =
+    ap (count_by is_newline) same ∙ sum_by-append (λ b. cond (is_newline b) 1 0) told (10 ∷ []) ∙ ap (λ n. n + count_by is_newline (10 ∷ [])) (none_counted told none)
+
+lines_counted : (line : ℕ → Command → List ℕ) (k : ℕ) (commands : List Command) → ((i : ℕ) (command : Command) → slice_get commands i ≡ Some command → IsLine (line (k + i) command)) → count_by is_newline (lines_from line k commands) ≡ length commands
+lines_counted line k [] each = refl
+lines_counted line k (command ∷ commands) each =
+    let here : k + 0 ≡ k = omega arith in
+    let first = one_counted (line k command) (subst (λ n. IsLine (line n command)) here (each 0 command refl)) in
+    let rest = lines_counted line (k + 1) commands (λ i next at. let number : k + suc i ≡ k + 1 + i = omega arith in subst (λ n. IsLine (line n next)) number (each (suc i) next at)) in
+    let both = sum_by-append (λ b. cond (is_newline b) 1 0) (line k command) (lines_from line (k + 1) commands) in
+    omega (arith, first, rest, both)
+
+-- The output has as many lines as the script has commands.
+pub as_many_lines : (cluster : Cluster) (corpus : Corpus) (script : Script) (h : List Event) → EachPrintsALine cluster corpus script h → count_by is_newline (printed cluster corpus script.commands h) ≡ length script.commands
+as_many_lines cluster corpus script h each =
+    lines_counted (λ k command. line_of cluster corpus script.commands h k command (idle_of command (history_before k h))) 1 script.commands
+    (λ i command at. let number : 1 + i ≡ suc i = omega arith in subst (λ n. IsLine (line_of cluster corpus script.commands h n command (idle_of command (history_before n h)))) (sym number) (each (suc i) command at))

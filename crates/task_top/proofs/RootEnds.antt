@@ -1,0 +1,106 @@
+-- The task that a search has started ends, with a reply of a search.
+use Rattle.std.proofs.Common.{◌≡◌, ◌≢◌, ◌⊎◌, ◌<◌, ◌≤◌, ◌+◌, ℕ, Bool, true, false, cond, List, [], ◌∷◌, ◌++◌, Option, Some, None, inl, inr, refl, sym, ap, subst, ◌∙◌, arith}
+use Rattle.std.specs.Prelude.{◌==◌, is_some, length}
+use Rattle.task_ids.specs.declared.cluster.Cluster.{Cluster}
+use Rattle.task_ids.specs.declared.corpus.Corpus.{Corpus}
+use Rattle.task_ids.specs.declared.doc.Doc.{Doc}
+use Rattle.task_ids.specs.declared.task_id.TaskId.{TaskId}
+use Rattle.task_events.specs.declared.event.Event.{Event}
+use Rattle.task_events.specs.declared.event.Event.TheVariants.{Root, Put, Refuse, End}
+use Rattle.task_events.specs.declared.reply.FailedShard.{FailedShard}
+use Rattle.task_events.specs.declared.reply.SearchReply.{SearchReply}
+use Rattle.task_events.specs.declared.reply.Reply.{Reply}
+use Rattle.task_events.specs.declared.reply.Reply.TheVariants.{Search, AllFailed, Cancelled}
+use Rattle.task_events.specs.declared.request.Request.{Request}
+use Rattle.task_events.specs.declared.request.Request.TheVariants as asks
+use Rattle.task_events.specs.declared.request.SearchAsk.{SearchAsk}
+use Rattle.task_events.specs.Allowed.{TakesSlot}
+use Rattle.task_events.specs.Answers.{ShardVersion, plain_answer}
+use Rattle.task_events.specs.Bans.{mark_of}
+use Rattle.task_events.specs.Lawful.{Lawful}
+use Rattle.task_events.specs.Same.{same_task}
+use Rattle.task_events.specs.Steps.{request_of}
+use Rattle.task_events.specs.Tasks.{no_counts, is_live, last_number, reply_of}
+use Rattle.task_laws.proofs.Asks.{ask_facts}
+use Rattle.task_laws.proofs.Content.{answer_facts}
+use Rattle.task_laws.proofs.Same.{same_task_tells, same_tests}
+use Rattle.script_lang.specs.declared.command.Script.{Script}
+use Rattle.world_moves.specs.Plain.{AnswersPlainly, EndsPlainly}
+use Rattle.world_moves.specs.Roots.{root_request}
+use Rattle.task_top.specs.EachLine.{IsSearchReply}
+
+module _ (k : ℕ) (t : TaskId) (base : List Event) where
+  -- once it is not live any more it has replied
+  pub has_replied : (later : List Event) → is_live t (later ++ Root k t ∷ base) ≡ false → is_some (reply_of t (later ++ Root k t ∷ base)) ≡ true
+  has_replied [] gone = absurd (grind (arith, same_tests))
+  has_replied (Root c u ∷ later) gone = grind (arith, same_tests, has_replied later)
+  has_replied (Put u p j ∷ later) gone = grind (arith, same_tests, has_replied later)
+  has_replied (Refuse u c ∷ later) gone = grind (arith, same_tests, has_replied later)
+  has_replied (End u r ∷ later) gone = grind (arith, same_tests, has_replied later)
+  has_replied (_ ∷ later) gone = has_replied later gone
+
+  module _ (cluster : Cluster) where
+    -- its number was given
+    born : (later : List Event) → Lawful cluster (later ++ Root k t ∷ base) → t.number ≤ last_number t.node (later ++ Root k t ∷ base)
+    born [] l = grind (arith, same_tests)
+    born (Root c u ∷ later) l = let next = l.0.takes.next in grind (arith, same_tests, born later l.1)
+    born (Put u p j ∷ later) l = let next = l.0.takes.next in grind (arith, same_tests, born later l.1)
+    born (_ ∷ later) l = born later l.1
+
+    -- it was asked what its command asks
+    pub asked_to : (roots : ℕ → Option Request) (later : List Event) → Lawful cluster (later ++ Root k t ∷ base) → request_of roots t (later ++ Root k t ∷ base) ≡ roots k
+    asked_to roots [] l = grind (arith, same_tests)
+    asked_to roots (Root c u ∷ later) l = let next = l.0.takes.next in grind (arith, same_tests, asked_to roots later l.1, born later l.1)
+    asked_to roots (Put u p j ∷ later) l = let next = l.0.takes.next in grind (arith, same_tests, asked_to roots later l.1, born later l.1)
+    asked_to roots (_ ∷ later) l = asked_to roots later l.1
+
+    -- it had not ended before it was started
+    new_then : (reply : Reply) → Lawful cluster (Root k t ∷ base) → reply_of t base ≡ Some reply → ⊥
+    new_then reply l e =
+        let next = l.0.takes.next in
+        let ended = (answer_facts cluster base l.1).reply_ended t reply e in
+        let not_ended = (ask_facts cluster base l.1).unborn_ended t (omega arith) in
+        cc
+
+-- ---- the reply
+
+plain_reply : (t : TaskId) (ask : SearchAsk) (shards : ℕ) (writes : ℕ → List Doc) (answered : List ShardVersion) (failed : List FailedShard) → IsSearchReply t (plain_answer t ask shards writes answered failed)
+plain_reply t ask shards writes answered failed = by_count (length failed == shards) _
+  where
+    by_count : (b : Bool) (reply : SearchReply) → IsSearchReply t (cond b (AllFailed failed) (Search reply))
+    by_count true reply = tt
+    by_count false reply = tt
+
+module _ (cluster : Cluster) (corpus : Corpus) (t : TaskId) (h : List Event) where
+  ends_so : (mark : Option ℕ) (ask : SearchAsk) (reply : Reply) → EndsPlainly cluster corpus t mark (Some (asks.Search ask)) h reply → IsSearchReply t reply
+  ends_so None ask reply e = subst (IsSearchReply t) (sym e.answer) (plain_reply t ask cluster.shards _ _ _)
+  ends_so (Some c) ask reply e = subst (IsSearchReply t) (sym e) refl
+
+module _ (cluster : Cluster) (corpus : Corpus) (script : Script) (k : ℕ) (t : TaskId) (base : List Event) (ask : SearchAsk) (asked : root_request script k ≡ Some (asks.Search ask)) where
+  -- A task that a search has started replies as a search does.
+  pub replies_so : (later : List Event) (reply : Reply) → Lawful cluster (later ++ Root k t ∷ base) → AnswersPlainly cluster corpus script (later ++ Root k t ∷ base) → reply_of t (later ++ Root k t ∷ base) ≡ Some reply → IsSearchReply t reply
+  replies_so [] reply l p e = absurd (new_then k t base cluster reply l e)
+  replies_so (End u r ∷ later) reply l p e = by_task (replies_so later reply l.1 p.1) (same_task_tells t u)
+    where
+      by_task : (reply_of t (later ++ Root k t ∷ base) ≡ Some reply → IsSearchReply t reply) → ((same_task t u ≡ true) × (t ≡ u)) ⊎ ((same_task t u ≡ false) × (t ≢ u)) → IsSearchReply t reply
+      by_task earlier (inl (is_one, same)) =
+          let given : Some r ≡ Some reply = rw is_one at e in
+          let it : r ≡ reply = cc in
+          let mine : EndsPlainly cluster corpus t (mark_of t (later ++ Root k t ∷ base)) (request_of (root_request script) t (later ++ Root k t ∷ base)) (later ++ Root k t ∷ base) r =
+          subst (λ v. EndsPlainly cluster corpus v (mark_of v (later ++ Root k t ∷ base)) (request_of (root_request script) v (later ++ Root k t ∷ base)) (later ++ Root k t ∷ base) r) (sym same) p.0 in
+          let so : EndsPlainly cluster corpus t (mark_of t (later ++ Root k t ∷ base)) (Some (asks.Search ask)) (later ++ Root k t ∷ base) r =
+          subst (λ o. EndsPlainly cluster corpus t (mark_of t (later ++ Root k t ∷ base)) o (later ++ Root k t ∷ base) r) (asked_to k t base cluster (root_request script) later l.1 ∙ asked) mine in
+          subst (IsSearchReply t) it (ends_so cluster corpus t (later ++ Root k t ∷ base) _ ask r so)
+      by_task earlier (inr (differs, apart)) = earlier (rw differs at e)
+  replies_so (Refuse u c ∷ later) reply l p e = by_task (replies_so later reply l.1 p) (same_task_tells t u)
+    where
+      some_reply : (x y : Reply) → Some x ≡ Some y → x ≡ y
+      some_reply x y e = cc
+
+      by_task : (reply_of t (later ++ Root k t ∷ base) ≡ Some reply → IsSearchReply t reply) → ((same_task t u ≡ true) × (t ≡ u)) ⊎ ((same_task t u ≡ false) × (t ≢ u)) → IsSearchReply t reply
+      by_task earlier (inl (is_one, same)) =
+          let given : Some (Cancelled u c no_counts) ≡ Some reply = rw is_one at e in
+          subst (IsSearchReply t) (some_reply (Cancelled u c no_counts) reply given) (sym same)
+      by_task earlier (inr (differs, apart)) = earlier (rw differs at e)
+  replies_so (Root c u ∷ later) reply l p e = replies_so later reply l.1 p e
+  replies_so (_ ∷ later) reply l p e = replies_so later reply l.1 p e

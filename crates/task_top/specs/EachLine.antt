@@ -1,0 +1,134 @@
+-- Each command of a whole run has its line: what there is to tell of it stands in what happened.
+use Rattle.std.specs.Prelude.{◌≡◌, ◌≢◌, ◌≤◌, ◌⊎◌, ℕ, Bool, true, false, ◌==◌, List, [], ◌∷◌, ◌++◌, count_by, filter_map, length, Option, Some, None, Result, Ok, Err, ⊤}
+use Rattle.std.specs.List.{list_any}
+use Rattle.serde_json.specs.Data.{Data}
+use Rattle.query_parse.specs.Bodies.{body_at}
+use Rattle.query_parse.specs.declared.fault.BodyError.{BodyError}
+use Rattle.query_parse.specs.declared.fault.BodyError.TheVariants.{Memory}
+use Rattle.task_ids.specs.declared.cluster.Cluster.{Cluster}
+use Rattle.task_ids.specs.declared.corpus.Corpus.{Corpus}
+use Rattle.task_ids.specs.declared.task_id.TaskId.{TaskId}
+use Rattle.task_ids.specs.declared.text.Text.{Text}
+use Rattle.script_lang.specs.declared.command.CancelTarget.{CancelTarget}
+use Rattle.script_lang.specs.declared.command.Command.{Command}
+use Rattle.script_lang.specs.declared.command.Command.TheVariants.{Search, Cancel, Deliver, Step, ListStep, Settle, History}
+use Rattle.script_lang.specs.declared.command.Script.{Script}
+use Rattle.task_events.specs.declared.event.Event.{Event}
+use Rattle.task_events.specs.declared.event.Event.TheVariants as events
+use Rattle.task_events.specs.declared.reply.Reply.{Reply}
+use Rattle.task_events.specs.declared.reply.Reply.TheVariants as replies
+use Rattle.task_events.specs.Bans.{mark_of}
+use Rattle.task_events.specs.Messages.{in_flight}
+use Rattle.task_events.specs.Tasks.{is_live, refusal_of, reply_of}
+use Rattle.task_events.specs.Turns.{events_of, history_before}
+use Rattle.world_moves.specs.Cancels.{is_answered, target_of}
+use Rattle.node_parts.specs.declared.listing.Listing.{Listing}
+use Rattle.world_moves.specs.Listings.{is_open}
+use Rattle.world_moves.specs.Roots.{command_at}
+use Rattle.world_steps.specs.Runs.{next_of}
+use Rattle.line_print.specs.Lines.{is_known, named_in, finds_none, idle_of, line_of, printed}
+
+-- ---- a search
+
+-- The reply of a search: its answer, or that all its shards failed, or that it was cancelled itself.
+abbrev pub IsSearchReply : TaskId → Reply → Type 0
+IsSearchReply t (replies.Search reply) = ⊤
+IsSearchReply t (replies.AllFailed failed) = ⊤
+IsSearchReply t (replies.Cancelled u c counts) = u ≡ t
+IsSearchReply t _ = ⊥
+
+-- the body has a fault; want of memory is none
+abbrev pub HasFault : Data → Type 0
+HasFault body = (fault : BodyError) × (body_at false 0 body ≡ Err fault) × (fault ≢ Memory)
+
+-- the task of a command started and ended with a reply of a search
+pub record HasEnded (k : ℕ) (h : List Event) : Type 0 where
+  pub task : TaskId
+  pub reply : Reply
+  pub started : events_of k h ≡ events.Root k task ∷ []
+  pub replied : reply_of task h ≡ Some reply
+  pub told : IsSearchReply task reply
+
+-- Its body has a fault, or no document is of its index, or its node had no slot, or its task ended.
+abbrev pub TellsSearch : Corpus → List ℕ → ℕ → Data → ℕ → List Event → Type 0
+TellsSearch corpus index node body k h =
+    HasFault body
+    ⊎ (is_known corpus index ≡ false)
+    ⊎ (events_of k h ≡ events.RootRejected k node ∷ [])
+    ⊎ HasEnded k h
+
+-- ---- a cancel
+
+-- the history as a command began
+abbrev pub as_began : ℕ → List Event → List Event
+as_began k h = events.Begin k ∷ history_before k h
+
+-- the cancel named the task that it is about, and no other, and has its answer
+pub record HasNamed (k : ℕ) (target : CancelTarget) (h : List Event) : Type 0 where
+  pub task : TaskId
+  pub about : target_of target (as_began k h) ≡ Some task
+  pub named : filter_map named_in (events_of k h) ≡ task ∷ []
+  pub found : list_any finds_none (events_of k h) ≡ false
+  pub answered : is_answered k h ≡ true
+
+-- It found no task, or it has its answer.
+abbrev pub TellsCancel : CancelTarget → ℕ → List Event → Type 0
+TellsCancel target k h = (events_of k h ≡ events.NotFound k ∷ []) ⊎ HasNamed k target h
+
+-- ---- a line of a schedule
+
+-- something happened in the command
+abbrev pub Moved : ℕ → List Event → Type 0
+Moved k h = events_of k h ≢ []
+
+-- ---- all commands
+
+module _ (cluster : Cluster) (corpus : Corpus) (script : Script) where
+  -- a live task that waits
+  abbrev pub Waits : TaskId → List Event → Type 0
+  Waits t past = (is_live t past ≡ true) × (next_of cluster corpus script t past ≡ None)
+
+  -- What the line of a command tells: a `deliver`, a `step` or a `list_step` of its events, or else of why nothing happened. A `settle` and a `history` tell of any number of events.
+  abbrev pub HasItsLine : List Event → ℕ → Command → Type 0
+  HasItsLine h k (Search index node body) = TellsSearch corpus index node body k h
+  HasItsLine h k (Cancel target reason wait) = TellsCancel target k h
+  HasItsLine h k (Deliver nth) = Moved k h ⊎ (length (in_flight (as_began k h)) ≤ nth)
+  HasItsLine h k (Step t) = Moved k h ⊎ (is_live t (as_began k h) ≡ false) ⊎ Waits t (as_began k h)
+  HasItsLine h k (ListStep node parent) = Moved k h ⊎ (is_open (record { node = node; parent = parent }) (as_began k h) ≡ false)
+  HasItsLine h k Settle = ⊤
+  HasItsLine h k History = ⊤
+
+  -- Each command of the script has it.
+  abbrev pub EachHasItsLine : List Event → Type 0
+  EachHasItsLine h = (k : ℕ) (command : Command) → command_at script k ≡ Some command → HasItsLine h k command
+
+-- ---- its text
+
+abbrev pub is_newline : ℕ → Bool
+is_newline byte = byte == 10
+
+-- some text without a newline, and a newline
+abbrev pub IsLine : List ℕ → Type 0
+IsLine text = (told : List ℕ) × (text ≡ told ++ 10 ∷ []) × (list_any is_newline told ≡ false)
+
+-- What the output has for each command is one line.
+abbrev pub EachPrintsALine : Cluster → Corpus → Script → List Event → Type 0
+EachPrintsALine cluster corpus script h = (k : ℕ) (command : Command) → command_at script k ≡ Some command → IsLine (line_of cluster corpus script.commands h k command (idle_of command (history_before k h)))
+
+-- ---- its reason
+
+-- the command of this number is a cancel
+abbrev pub IsCancelAt : Script → ℕ → Type 0
+IsCancelAt script c = (target : CancelTarget) × (reason : Text) × (wait : Bool) × (command_at script c ≡ Some (Cancel target reason wait))
+
+-- Each mark and each refusal has the number of a cancel of the script, whose reason is told of it.
+pub record TellsReasons (script : Script) (h : List Event) : Type 0 where
+  pub marks : (t : TaskId) (c : ℕ) → mark_of t h ≡ Some c → IsCancelAt script c
+  pub refusals : (t : TaskId) (c : ℕ) → refusal_of t h ≡ Some c → IsCancelAt script c
+
+-- Each command has its line, and what is printed for it is one line; so there are as many lines as commands. The reasons are those of cancels.
+pub record HasLines (cluster : Cluster) (corpus : Corpus) (script : Script) (h : List Event) : Type 0 where
+  pub told : EachHasItsLine cluster corpus script h
+  pub one_line : EachPrintsALine cluster corpus script h
+  pub as_many : count_by is_newline (printed cluster corpus script.commands h) ≡ length script.commands
+  pub reasons : TellsReasons script h
