@@ -17,7 +17,7 @@ use Rattle.task_events.specs.Cancels.{is_named, names_one_of}
 use Rattle.task_events.specs.Laws.{CancelsWithCause}
 use Rattle.task_events.specs.Messages.{Message}
 use Rattle.task_events.specs.Messages.Message.{Request, Answer, Ban, Ack, Unban}
-use Rattle.task_events.specs.Steps.{event_of, first_step, cancelled_step, step_from, planned_step, request_of}
+use Rattle.task_events.specs.Steps.{event_of, first_step, cancelled_step, step_of_passed, planned_step, request_of}
 use Rattle.task_events.specs.Tasks.{is_live, is_new, ancestors, refusal_of}
 use Rattle.task_laws.proofs.Same.{same_tests}
 use Rattle.script_lang.specs.declared.command.CancelTarget.{CancelTarget}
@@ -114,7 +114,7 @@ module _ (c : ℕ) (t : TaskId) where
     by_plan (Wait due) e same = absurd (cc)
     by_plan (Finish reply) e same = subst (λ o. option_map_or is_naming o false ≡ false) same refl
 
-    by_step : (new : Bool) (mark : Option ℕ) (plan : Option Do) (e : Event) → step_from cluster u h new mark plan ≡ Some e → is_naming e ≡ false
+    by_step : (new : Bool) (mark : Option ℕ) (plan : Option Do) (e : Event) → cond new (Some (first_step u (ban_over u h))) (step_of_passed cluster u h mark plan) ≡ Some e → is_naming e ≡ false
     by_step true mark plan e same = by_first (ban_over u h) e same
     by_step false (Some d) plan e same = by_mark d (unanswered u h) e same
     by_step false None None e same = absurd (cc)
