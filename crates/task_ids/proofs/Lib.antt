@@ -1,4 +1,5 @@
 pub mod OneValue
+pub mod Patterns
 pub mod SameId
 pub mod Spelling
 pub mod TaskIdKeys

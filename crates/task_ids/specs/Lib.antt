@@ -2,6 +2,7 @@ pub mod Action
 pub mod Cause
 pub mod DataCode
 pub mod Limits
+pub mod Pattern
 pub mod Placing
 pub mod Rows
 pub mod Source

@@ -1,0 +1,6 @@
+pub mod ListLemmas
+pub mod Looping
+pub mod TaskParts
+pub mod TopLemmas
+pub mod TreeLemmas
+pub mod WholeLemmas

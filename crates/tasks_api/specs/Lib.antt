@@ -1,0 +1,4 @@
+pub mod Filters
+pub mod Groups
+pub mod Lists
+pub mod Objects
