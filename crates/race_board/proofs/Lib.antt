@@ -14,3 +14,5 @@ pub mod Tracked
 pub mod Masked
 pub mod Checking
 pub mod Marks
+pub mod Joined
+pub mod Counts
