@@ -1,5 +1,6 @@
 -- A data seat is joined to the control seat.
-use Rattle.std.proofs.Common.{◌≡◌, ◌≢◌, ℕ, zero, suc, ◌+◌, ◌<◌, List, [], ◌∷◌, get_or, set, sym, refl, ap, ◌∙◌, subst, arith, length-set}
+use Rattle.std.proofs.Common.{◌≡◌, ◌≢◌, ℕ, zero, suc, ◌+◌, ◌<◌, List, [], ◌∷◌, get_or, set, sym, refl, ap, ◌∙◌, subst, arith, length-set, Bool, not, cond, count_by, eq-eqb, inl, inr}
+use Rattle.std.proofs.lemmas.List.Sums.{sum_by-cons}
 use mathlib.Core.Logic.{dite}
 use mathlib.Core.Option.{some, some-injective}
 use native.Mathlib.Decide.{ℕ_discrete}
@@ -9,7 +10,7 @@ use Rattle.atomic_table.proofs.Lists.{set_else}
 use Rattle.race_board.specs.declared.views.Size.{Size}
 use Rattle.race_board.specs.declared.views.Hold.{Hold}
 use Rattle.race_board.specs.declared.views.View.{View}
-use Rattle.race_board.specs.Board.{hold, no_hold, HoldOk, SeatOk, WordOk, BoardAt, BoardOk, merge, pick_hold, both, spent}
+use Rattle.race_board.specs.Board.{hold, no_hold, HoldOk, SeatOk, WordOk, BoardAt, BoardOk, merge, pick_hold, both, spent, is_out, tickets_out}
 use Rattle.race_board.proofs.Boards.{told-set, gone-set, each, same_late}
 use Rattle.race_board.proofs.Controls.{as_first, at_zero}
 
@@ -71,6 +72,24 @@ merge_else (x ∷ xs) [] i e n = absurd (n (ap (λ (h : Hold). h.number) (empty_
 merge_else (x ∷ xs) (y ∷ ys) zero e n = picks_second x.number x y e
 merge_else (x ∷ xs) (y ∷ ys) (suc i) e n = merge_else xs ys i e n
 
+abbrev one_if : Bool → ℕ
+one_if b = cond b 1 0
+
+count_cons : (q : Hold) (l : List Hold) → count_by is_out (q ∷ l) ≡ one_if (is_out q) + count_by is_out l
+count_cons q l = sum_by-cons (λ (k : Hold). one_if (is_out k)) q l
+
+count_pick : (p q : Hold) → (p.number ≢ 0 → q.number ≡ 0) → one_if (is_out (pick_hold p.number p q)) ≡ one_if (is_out p) + one_if (is_out q)
+count_pick p q f = dite (ℕ_discrete p.number 0)
+    (λ e. ap (λ (k : Hold). one_if (is_out k)) (picks_second p.number p q e) ∙ (let a : one_if (is_out p) ≡ 0 = ap (λ (k : Bool). one_if (not k)) (eq-eqb p.number 0 e) in omega arith))
+    (λ n. ap (λ (k : Hold). one_if (is_out k)) (picks_first p.number p q n) ∙ (let a : one_if (is_out q) ≡ 0 = ap (λ (k : Bool). one_if (not k)) (eq-eqb q.number 0 (f n)) in omega arith))
+
+-- where no place has two tickets, none is lost
+merge_count : (a b : List Hold) → ((i : ℕ) → (get_or a i no_hold).number ≢ 0 → (get_or b i no_hold).number ≡ 0) → count_by is_out (merge a b) ≡ count_by is_out a + count_by is_out b
+merge_count [] b h = let e : count_by is_out b ≡ 0 + count_by is_out b = omega arith in e
+merge_count (x ∷ xs) [] h = let e : count_by is_out (x ∷ xs) + 0 ≡ count_by is_out (x ∷ xs) = omega arith in sym e
+merge_count (x ∷ xs) (y ∷ ys) h = let more = merge_count xs ys (λ i. h (suc i)) in let one = count_pick x y (h 0) in
+    count_cons (pick_hold x.number x y) (merge xs ys) ∙ (let a = count_cons x xs in let b = count_cons y ys in omega arith)
+
 module _ (z : Size) (v w : View) (other : ℕ) where
   go : (s : Now) → BoardAt z v s → get_elem? s.views 0 ≡ some v → other ≢ 0 → get_elem? (set s.views 0 (both v w)) other ≡ some w → w.gone ≡ 0 → BoardOk z record { words = s.words; homes = s.homes; views = set (set s.views 0 (both v w)) other spent }
   go s r there apart at_other fresh = (
@@ -85,6 +104,7 @@ module _ (z : Size) (v w : View) (other : ℕ) where
       dealt = ap (λ (n : ℕ). n + v.to_deal) (length-set vs other spent ∙ length-set s.views 0 c) ∙ r.dealt;
       first = first;
       joins = ((let a = gone-set vs other w spent at_other in let d = gone-set s.views 0 v c there in let e = r.joins.0 in omega arith), r.joins.1);
+      taken = merge_count v.held w.held apart_slots ∙ ap (λ (n : ℕ). n + tickets_out w) r.taken;
       counted = (let a = told-set vs other w spent at_other in let d = told-set s.views 0 v c there in let e = r.counted in let f = once in omega arith);
       unborn = r.unborn;
       seats = each (SeatOk z c o r.at s.words) vs other spent gone (λ k u n e. each (λ q x. q ≢ other → SeatOk z c o r.at s.words q x) s.views 0 c (λ _. mine) (λ q x m f g. rest q x m g (r.seats q x f)) k u e n);
@@ -127,15 +147,20 @@ module _ (z : Size) (v w : View) (other : ℕ) where
         halfway = ok.halfway;
       }
 
+      -- no slot is held by both
+      apart_slots : (i : ℕ) → (hold v i).number ≢ 0 → (hold w i).number ≡ 0
+      apart_slots i n = dite (ℕ_discrete (hold w i).number 0) (λ e. e) (λ f. absurd (apart (sym ((r.seats other w old_other).holds i f).owned ∙ ((r.seats 0 v there).holds i n).owned)))
+
       gone : SeatOk z c o r.at s.words other spent
-      gone = record { once = omega arith; leads = λ n. absurd (n refl); unused = λ n. absurd (n refl); holds = λ i n. absurd (n (ap (λ (h : Hold). h.number) (empty_at i))) }
+      gone = record { once = omega arith; left = inr (refl, refl); leads = λ n. absurd (n refl); unused = λ n. absurd (n refl); holds = λ i n. absurd (n (ap (λ (h : Hold). h.number) (empty_at i))) }
 
       rest : (k : ℕ) (u : View) → k ≢ 0 → k ≢ other → SeatOk z v r.owner r.at s.words k u → SeatOk z c o r.at s.words k u
-      rest k u m n ok = record { once = ok.once; leads = ok.leads; unused = ok.unused; holds = λ i f. keeps_hold k k i (hold u i) (λ e. moved_else r.owner other i (λ g. n (sym e ∙ g)) ∙ e) (ok.holds i f) }
+      rest k u m n ok = record { once = ok.once; leads = ok.leads; unused = ok.unused; left = ok.left; holds = λ i f. keeps_hold k k i (hold u i) (λ e. moved_else r.owner other i (λ g. n (sym e ∙ g)) ∙ e) (ok.holds i f) }
 
       mine : SeatOk z c o r.at s.words 0 c
       mine = let ok = r.seats 0 v there in let ok' = r.seats other w old_other in record {
         once = ok.once;
+        left = inl r.joins.1;
         leads = λ _. refl;
         unused = ok.unused;
         holds = λ i n. dite (ℕ_discrete (hold v i).number 0)

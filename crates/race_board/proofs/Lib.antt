@@ -16,3 +16,4 @@ pub mod Checking
 pub mod Marks
 pub mod Joined
 pub mod Counts
+pub mod Last

@@ -1,10 +1,11 @@
 //! The end of a board.
 ghost use Rattle.std.specs.Prelude.{◌≡◌, ℕ, ◌<◌, ◌≤◌, [], length, All};
-ghost use Rattle.race_board.specs.Board.{both};
+ghost use Rattle.race_board.specs.Board.{both, tickets_out};
 ghost use Rattle.race_board.specs.Seats.{seat_view, control_view, board_size, IsSeatOf, IsControlOf};
-ghost use Rattle.race_board.specs.Closing.{tickets_out, bans_out, all_tickets, greatest_drawn};
+ghost use Rattle.race_board.specs.Closing.{bans_out, all_tickets, greatest_drawn, Last};
 
 use crate::board::RaceBoard;
+use crate::board_words::BoardWords;
 use crate::plays::Glue;
 use crate::rule::Place;
 use crate::seats::{ControlSeat, DataSeat};
@@ -74,6 +75,19 @@ impl<N: BoardName> ControlSeat<N> {
     }
 }
 
+impl<N: BoardName> BoardWords<N> {
+    // Frees the words, once the control seat has joined all others.
+    fn free(self, place: Place)
+        requires fits { place.table_id ≡ self.table.shared.table_id }
+        requires control { (place.me.0.lead ≡ 1) × (length place.me.0.bans ≡ self.size.bans) }
+        requires whole { (place.me.0.to_deal ≡ 0) × (place.me.0.joined ≡ self.size.seats) }
+        ensures last { Last self.size place.me.0.taken (bans_out place.me.0) }
+    {
+        let BoardWords { table, size: _ } = self;
+        table.close_with(place).free();
+    }
+}
+
 impl<N: BoardName> RaceBoard<N> {
     // The control seat takes in the tickets of a data seat.
     fn take_in(&self, place: &mut Place, seat: DataSeat<N>)
@@ -100,6 +114,7 @@ impl<N: BoardName> RaceBoard<N> {
         ensures live { result.live ≡ all_tickets seats.items }
         ensures bans { result.bans ≡ bans_out (control_view control) }
         ensures drawn { result.drawn ≡ greatest_drawn seats.items }
+        ensures last { Last (board_size self) result.live result.bans }
     {
         let bans = control.count_bans();
         let ControlSeat {
@@ -115,6 +130,8 @@ impl<N: BoardName> RaceBoard<N> {
             drawn = seat.most.max(drawn);
             self.take_in(&mut place, seat);
         }
+        let RaceBoard { words, node: _ } = self;
+        words.free(place);
         Closed { live, bans, drawn }
     }
 }
