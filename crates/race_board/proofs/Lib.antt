@@ -17,3 +17,4 @@ pub mod Marks
 pub mod Joined
 pub mod Counts
 pub mod Last
+pub mod Tickets

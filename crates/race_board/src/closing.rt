@@ -13,6 +13,7 @@ use crate::words::{banned_of, number_of};
 use task_ids::BoardName;
 
 /// What was left on a board when it closed.
+#[derive(Clone, Copy, PartialEq, Eq)]
 pub struct Closed {
     live: u32,
     bans: u32,

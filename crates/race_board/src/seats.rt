@@ -2,6 +2,7 @@
 ghost use Rattle.std.specs.Prelude.{◌≡◌, ◌≢◌, ℕ, ◌+◌, ◌<◌, [], length, slice_index, true, false};
 ghost use Rattle.race_board.specs.Words.{number, parent, by, ban_word};
 ghost use Rattle.race_board.specs.Board.{hold, ban};
+ghost use Rattle.race_board.specs.declared.views.Progress.TheVariants.{Clear};
 
 use crate::rule::Place;
 use crate::words::number_of;
@@ -24,6 +25,7 @@ pub struct DataSeat<N: BoardName> {
     ghost sized: { (length words.items ≡ place.me.0.size.slots) × (length place.me.0.held ≡ place.me.0.size.slots) },
     ghost tickets: { (i : ℕ) → (number (slice_index words.items i) ≡ (hold place.me.0 i).number) × (parent (slice_index words.items i) ≡ (hold place.me.0 i).parent) },
     ghost distinct: { (i j : ℕ) → (hold place.me.0 i).number ≢ 0 → (hold place.me.0 i).number ≡ (hold place.me.0 j).number → i ≡ j },
+    ghost roots: { (i : ℕ) → (hold place.me.0 i).parent ≡ 0 → (hold place.me.0 i).check ≡ Clear },
     ghost calm: { (i : ℕ) → (hold place.me.0 i).seek ≡ 0 },
     ghost refused: { (told ≡ false → place.me.0.told ≡ 0) × (told ≡ true → place.me.0.told ≡ 1) },
     ghost drawn: { place.me.0.drawn < 1048576 },
