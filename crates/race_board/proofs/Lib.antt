@@ -18,3 +18,4 @@ pub mod Joined
 pub mod Counts
 pub mod Last
 pub mod Tickets
+pub mod Known

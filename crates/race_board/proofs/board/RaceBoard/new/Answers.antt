@@ -10,6 +10,7 @@ use Rattle.race_board.specs.declared.views.Ban.{Ban}
 use Rattle.race_board.specs.declared.views.View.{View}
 use Rattle.race_board.proofs.Parts.{ban_none}
 use Rattle.race_board.proofs.Controls.{all_lifted}
+use Rattle.race_board.proofs.Known.{no_ban_yet}
 use Rattle.race_board.proofs.board.RaceBoard.new.Goals as goal
 
 pub invariant_of-control : goal.invariant_of-control
@@ -36,3 +37,6 @@ loop-preserved g c = let v : View = c.loop.place.me.0 in let z : Size = c.in_ok-
       count = search rules;
       all = subst (All (IsNew c.in_ok-board.board)) (sym c.in_ok-push.ensures.items) (All-append (IsNew c.in_ok-board.board) c.loop.seats.items (c.deal.result ∷ []) c.loop.invariant.all (λ k d l. subst (λ (q : ℕ). IsNew c.in_ok-board.board (get_or (c.deal.result ∷ []) q d)) (let e : 0 ≡ k = omega arith in e) c.deal.ensures.seat));
     }
+
+pub returns-clause-free : goal.returns-clause-free
+returns-clause-free g c = let z : Size = c.in_ok-board.board.words.size in no_ban_yet z c.loop.place.me.0 (z.seats - c.loop.counter) (ap (λ (m : Sat). m.0) c.loop.invariant.me)
