@@ -16,8 +16,6 @@ mod plays;
 mod registering;
 mod rule;
 mod seats;
-#[cfg(test)]
-mod tests;
 mod views;
 mod words;
 
