@@ -1,5 +1,5 @@
 -- What a step leaves as it was.
-use Rattle.std.proofs.Common.{◌≡◌, ◌≢◌, ℕ, zero, suc, ◌+◌, ◌*◌, ◌<◌, ◌≤◌, List, [], ◌∷◌, length, set, sym, refl, ap, ◌∙◌, subst, ⊎_elim, arith}
+use Rattle.std.proofs.Common.{◌≡◌, ◌≢◌, ℕ, zero, suc, ◌+◌, ◌*◌, ◌<◌, ◌≤◌, List, [], ◌∷◌, length, set, sym, refl, ap, ◌∙◌, subst, ⊎_elim, inl, inr, arith}
 use mathlib.Core.Logic.{dite}
 use mathlib.Core.Option.{some, some-injective, some-ne-none}
 use native.Mathlib.Decide.{ℕ_discrete}
@@ -11,7 +11,7 @@ use Rattle.race_board.specs.declared.views.Ban.{Ban}
 use Rattle.race_board.specs.declared.views.View.{View}
 use Rattle.std.specs.Int.{bit_at}
 use Rattle.race_board.specs.Words.{number, parent, cancel}
-use Rattle.race_board.specs.Board.{hold, ban, task, mask, In, told_count, gone_count, Late, HoldOk, SeatOk, WordOk}
+use Rattle.race_board.specs.Board.{hold, ban, task, mask, In, told_count, gone_count, Left, Late, HoldOk, SeatOk, WordOk}
 
 abbrev pick : {P : Type 0} → Dec P → ℕ → ℕ → ℕ
 pick (yes _) a b = a
@@ -56,6 +56,13 @@ pub each : (K : ℕ → View → Type 0) (vs : List View) (id : ℕ) (w : View) 
 each K vs id w mine others k u e = ⊎_elim (λ (t : (k ≡ id) × (w ≡ u)). subst (λ (x : ℕ × View). K x.0 x.1) (λ i. (sym t.0 i, t.1 i)) mine)
     (λ (t : (k ≢ id) × (get_elem? vs k ≡ some u)). others k u t.0 t.1) (at_set vs id k w u e)
 
+pub left_same : (v w : View) → w.gone ≡ v.gone → (v.held ≡ [] → w.held ≡ []) → Left v → Left w
+left_same v w gone held l = ⊎_elim (λ (e : v.gone ≡ 0). inl (gone ∙ e)) (λ (e : (v.gone ≡ 1) × (v.held ≡ [])). inr (gone ∙ e.0, held e.1)) l
+
+-- the same where the ticket of one slot changes
+pub left_set : (v w : View) (i : ℕ) (h : Hold) → w.gone ≡ v.gone → w.held ≡ set v.held i h → Left v → Left w
+left_set v w i h gone held l = left_same v w gone (λ e. held ∙ ap (λ (hs : List Hold). set hs i h) e) l
+
 pub same_late : (z : Size) (c c' : View) (ws ws' : List ℕ) (i j : ℕ) → task ws' i ≡ task ws i → ban c' j ≡ ban c j → (c.about ≡ i + 1 → c.loaded ≢ task ws i) → Late z c' ws' i j → Late z c ws i j
 same_late z c c' ws ws' i j e b unseen l = record {
   stands = λ n. l.stands (ap (λ (x : Ban). x.parent) b ∙ n);
@@ -89,6 +96,7 @@ module _ (z : Size) (c : View) (owner at owner' at' : ℕ → ℕ) (ws ws' : Lis
     leads = ok.leads;
     unused = λ d. (drawn u.drawn (ok.unused d).0, (ok.unused d).1);
     holds = λ i n. let h = ok.holds i n in let t = kept i h.inside (λ e. other (sym h.owned ∙ e)) (λ e. n (sym h.is ∙ e)) in hold_stays z c owner owner' ws ws' k i (hold u i) t.0 t.1 t.2 h;
+    left = ok.left;
   }
 
   -- a word that stays, and the seat that holds it

@@ -1,5 +1,5 @@
 -- The steps of the control seat keep the rule, and so do the start and a split.
-use Rattle.std.proofs.Common.{◌≡◌, ◌≢◌, ℕ, zero, suc, ◌+◌, ◌-◌, ◌*◌, ◌%◌, ◌<◌, ◌≤◌, ◌⊎◌, List, [], ◌∷◌, ◌++◌, length, replicate, get_or, set, sym, refl, ap, ◌∙◌, subst, ⊎_elim, inl, inr, arith, eqb, eq-eqb, ne_eqb, get_or-set_other, get_or-set_same, length-set, length-append}
+use Rattle.std.proofs.Common.{◌≡◌, ◌≢◌, ℕ, zero, suc, ◌+◌, ◌-◌, ◌*◌, ◌%◌, ◌<◌, ◌≤◌, ◌⊎◌, List, [], ◌∷◌, ◌++◌, length, replicate, get_or, set, sym, refl, ap, ◌∙◌, subst, ⊎_elim, inl, inr, arith, eqb, eq-eqb, ne_eqb, get_or-set_other, get_or-set_same, length-set, length-append, count_by}
 use mathlib.Core.Logic.{dite}
 use mathlib.Core.Option.{none, some, some-injective, some-ne-none}
 use native.Mathlib.Decide.{ℕ_discrete}
@@ -15,10 +15,10 @@ use Rattle.race_board.specs.declared.views.Ban.{Ban}
 use Rattle.race_board.specs.declared.views.View.{View}
 use Rattle.std.specs.Int.{bit_at}
 use Rattle.race_board.specs.Words.{number, parent, cancel, banned, by, ban_word, with_mark}
-use Rattle.race_board.specs.Board.{hold, ban, no_hold, no_ban, newcomer, task, mask, Has, told_count, gone_count, In, Behind, Late, HoldOk, SeatOk, WordOk, BanOk, BoardAt, BoardOk}
+use Rattle.race_board.specs.Board.{hold, ban, no_hold, no_ban, newcomer, task, mask, Has, told_count, gone_count, is_out, In, Behind, Late, HoldOk, SeatOk, WordOk, BanOk, BoardAt, BoardOk}
 use Rattle.race_board.specs.Steps.{Goes, did, noted, with_ban, past, struck, missed, Wanted, after_half, after_whole, after_lift, after_note, after_ban, after_scan, after_mark}
 use Rattle.race_board.proofs.Parts.{zero_number, zero_parent, zero_cancel, ban_none, whole_ban, banned_small, number_mark, parent_mark, cancel_mark}
-use Rattle.race_board.proofs.Boards.{told-set, gone-set, each, same_late}
+use Rattle.race_board.proofs.Boards.{told-set, gone-set, each, left_same, same_late}
 
 abbrev Now : Type 0
 Now = State (Unit {0}) View
@@ -36,6 +36,11 @@ pub all_free : (n i : ℕ) → get_or (replicate n no_hold) i no_hold ≡ no_hol
 all_free zero i = refl
 all_free (suc n) zero = refl
 all_free (suc n) (suc i) = all_free n i
+
+-- a seat that has done nothing has no ticket
+none_out : (n : ℕ) → count_by is_out (replicate n no_hold) ≡ 0
+none_out zero = refl
+none_out (suc n) = none_out n
 
 pub all_lifted : (n i : ℕ) → get_or (replicate n no_ban) i no_ban ≡ no_ban
 all_lifted zero i = refl
@@ -61,6 +66,7 @@ blank_seat z c owner at ws k lead deal leads = record {
   once = omega arith;
   unused = λ f. absurd (f refl);
   holds = λ i f. absurd (f (ap (λ (h : Hold). h.number) (all_free z.slots i)));
+  left = inl refl;
 }
 
 -- the rule names the control's view, which is that of the seat 0
@@ -87,7 +93,7 @@ module _ (z : Size) (v : View) (s : Now) (r : BoardAt z v s) where
   }
 
   -- a step of the control seat, to the view w, whose own slots stay as they are
-  control_step : (w : View) (x y : ℕ) → get_elem? s.views 0 ≡ some v → w.size ≡ v.size → w.lead ≡ v.lead → w.held ≡ v.held → w.drawn ≡ v.drawn → w.told ≡ v.told → w.to_deal ≡ v.to_deal → (w.joined ≡ v.joined) × (w.gone ≡ v.gone) → length w.bans ≡ length v.bans → length w.last ≡ length v.last → x ≢ 0
+  control_step : (w : View) (x y : ℕ) → get_elem? s.views 0 ≡ some v → w.size ≡ v.size → w.lead ≡ v.lead → w.held ≡ v.held → w.drawn ≡ v.drawn → w.told ≡ v.told → w.to_deal ≡ v.to_deal → (w.joined ≡ v.joined) × (w.gone ≡ v.gone) × (w.taken ≡ v.taken) → length w.bans ≡ length v.bans → length w.last ≡ length v.last → x ≢ 0
       → ((i : ℕ) → i < z.slots → task (set s.words x y) i ≢ 0 → (number (task (set s.words x y) i) ≡ number (task s.words i)) × (task s.words i ≢ 0))
       → ((i : ℕ) → i < z.slots → task (set s.words x y) i ≢ 0 → (cancel (task (set s.words x y) i) ≢ 0 → In (number (task (set s.words x y) i)) w.marked) × (cancel (task (set s.words x y) i) ≡ 0 → ¬ In (number (task (set s.words x y) i)) w.marked) × (cancel (task (set s.words x y) i) ≢ 0 → get_or w.last i 0 ≡ number (task (set s.words x y) i)))
       → ((k i : ℕ) (h : Hold) → h.number ≢ 0 → HoldOk z v r.owner s.words k i h → HoldOk z w r.owner (set s.words x y) k i h)
@@ -108,6 +114,7 @@ module _ (z : Size) (v : View) (s : Now) (r : BoardAt z v s) where
       dealt = (λ i. length-set s.views 0 w i + deal i) ∙ r.dealt;
       first = at_zero s.views v w there;
       joins = ((let a = gone-set s.views 0 v w there in let b = r.joins.0 in let c = stay.0 in let d = stay.1 in omega arith), stay.1 ∙ r.joins.1);
+      taken = ap (count_by is_out) held ∙ (r.taken ∙ sym stay.2);
       counted = (let sum = told-set s.views 0 v w there in let total = r.counted in let front : get_or ws 0 0 ≡ get_or s.words 0 0 = get_or-set_other s.words x 0 y 0 (λ e. late (sym e)) in omega arith);
       unborn = λ n l. r.unborn n (subst (λ (q : ℕ). q < n) (get_or-set_other s.words x 0 y 0 (λ e. late (sym e))) l);
       seats = each (SeatOk z w r.owner r.at ws) s.views 0 w mine (λ k u _ e. other k u (r.seats k u e));
@@ -132,7 +139,7 @@ module _ (z : Size) (v : View) (s : Now) (r : BoardAt z v s) where
       ws = set s.words x y
 
       other : (k : ℕ) (u : View) → SeatOk z v r.owner r.at s.words k u → SeatOk z w r.owner r.at ws k u
-      other k u ok = record { once = ok.once; leads = ok.leads; unused = ok.unused; holds = λ i n. holds k i (hold u i) n (ok.holds i n) }
+      other k u ok = record { once = ok.once; leads = ok.leads; unused = ok.unused; holds = λ i n. holds k i (hold u i) n (ok.holds i n); left = ok.left }
 
       mine : SeatOk z w r.owner r.at ws 0 w
       mine = let ok = other 0 v (r.seats 0 v there) in record {
@@ -140,6 +147,7 @@ module _ (z : Size) (v : View) (s : Now) (r : BoardAt z v s) where
         once = subst (λ (n : ℕ). n < 2) (sym told) ok.once;
         unused = λ n. let u = ok.unused (λ e. n (drawn ∙ e)) in (ap r.at drawn ∙ u.0, subst (λ (n : ℕ). n < 1048576) (sym drawn) u.1);
         holds = λ i n. let e : hold w i ≡ hold v i = ap (λ (l : List Hold). get_or l i no_hold) held in subst (HoldOk z w r.owner ws 0 i) (sym e) (ok.holds i (λ f. n (ap (λ (h : Hold). h.number) e ∙ f)));
+        left = inl (stay.1 ∙ r.joins.1);
       }
 
       found : (i : ℕ) (t : WordOk v r.owner r.at s.words s.views i) → (u : View) × (get_elem? (set s.views 0 w) (r.owner i) ≡ some u) × ((hold t.view i).number ≡ (hold u i).number)
@@ -148,7 +156,7 @@ module _ (z : Size) (v : View) (s : Now) (r : BoardAt z v s) where
           (λ n. (t.view, set_else s.views 0 (r.owner i) w n ∙ t.seated, refl))
 
   -- the same where no task word changes, and the marks stay
-  control_calm : (w : View) (x y : ℕ) → get_elem? s.views 0 ≡ some v → w.size ≡ v.size → w.lead ≡ v.lead → w.held ≡ v.held → w.drawn ≡ v.drawn → w.told ≡ v.told → w.to_deal ≡ v.to_deal → (w.joined ≡ v.joined) × (w.gone ≡ v.gone) → length w.bans ≡ length v.bans → length w.last ≡ length v.last → x ≢ 0 → w.marked ≡ v.marked → w.last ≡ v.last
+  control_calm : (w : View) (x y : ℕ) → get_elem? s.views 0 ≡ some v → w.size ≡ v.size → w.lead ≡ v.lead → w.held ≡ v.held → w.drawn ≡ v.drawn → w.told ≡ v.told → w.to_deal ≡ v.to_deal → (w.joined ≡ v.joined) × (w.gone ≡ v.gone) × (w.taken ≡ v.taken) → length w.bans ≡ length v.bans → length w.last ≡ length v.last → x ≢ 0 → w.marked ≡ v.marked → w.last ≡ v.last
       → ((i : ℕ) → i < z.slots → task (set s.words x y) i ≡ task s.words i)
       → ((k i : ℕ) (h : Hold) → h.number ≢ 0 → HoldOk z v r.owner s.words k i h → HoldOk z w r.owner (set s.words x y) k i h)
       → ((j : ℕ) → j < z.bans → BanOk (set s.words x y) (z.slots + j + 1) (ban w j))
@@ -165,7 +173,7 @@ module _ (z : Size) (v : View) (s : Now) (r : BoardAt z v s) where
       holds bans (λ n h. r.marks n (subst (In n) marked h)) known nearly
 
   -- a load whose view keeps what it knows of masks
-  pub control_quiet : (w : View) (x : ℕ) → get_elem? s.views 0 ≡ some v → w.size ≡ v.size → w.lead ≡ v.lead → w.held ≡ v.held → w.drawn ≡ v.drawn → w.told ≡ v.told → w.to_deal ≡ v.to_deal → (w.joined ≡ v.joined) × (w.gone ≡ v.gone) → length w.bans ≡ length v.bans → length w.last ≡ length v.last → x ≢ 0 → w.marked ≡ v.marked → w.last ≡ v.last → w.masks ≡ v.masks → w.half ≡ v.half → w.half_mask ≡ v.half_mask
+  pub control_quiet : (w : View) (x : ℕ) → get_elem? s.views 0 ≡ some v → w.size ≡ v.size → w.lead ≡ v.lead → w.held ≡ v.held → w.drawn ≡ v.drawn → w.told ≡ v.told → w.to_deal ≡ v.to_deal → (w.joined ≡ v.joined) × (w.gone ≡ v.gone) × (w.taken ≡ v.taken) → length w.bans ≡ length v.bans → length w.last ≡ length v.last → x ≢ 0 → w.marked ≡ v.marked → w.last ≡ v.last → w.masks ≡ v.masks → w.half ≡ v.half → w.half_mask ≡ v.half_mask
       → ((i j : ℕ) → i < z.slots → Late z w s.words i j → Late z v s.words i j)
       → ((j : ℕ) → j < z.bans → BanOk s.words (z.slots + j + 1) (ban w j))
       → (w.about ≢ 0 → r.at (number w.loaded) % 2 ≡ 1)
@@ -195,7 +203,7 @@ module _ (z : Size) where
       let place : j ≡ x - me.0.size.slots - 1 = (let q : me.0.size.slots ≡ z.slots = ap (λ (y : Size). y.slots) size in omega arith) in (
         w,
         subst (λ e. BoardOk z record { words = set s.words x (either e word n); homes = s.homes; views = set s.views 0 w }) (sym (eq-eqb n 0 hit))
-            (control_calm z me.0 s r w x word there refl refl refl refl refl refl (refl, refl) (length-set me.0.bans j b) refl (λ e. omega arith) refl refl still
+            (control_calm z me.0 s r w x word there refl refl refl refl refl refl (refl, refl, refl) (length-set me.0.bans j b) refl (λ e. omega arith) refl refl still
             (λ k i h n ok. hold_control z me.0 s r w ws k i h (still i ok.inside) (get_or-set_other s.words x (z.slots + z.bans + i + 1) word 0 (λ e. omega arith))
             (λ q t. dite (ℕ_discrete q j)
             (λ e. let none_yet : i < 0 = subst (λ (y : Ban). i < y.next) (ap (ban w) e ∙ here) t.passed in absurd (omega arith))
@@ -212,13 +220,13 @@ module _ (z : Size) where
       (λ miss. let w : View = noted me.0 (did x n n) in (
         w,
         subst (λ e. BoardOk z record { words = set s.words x (either e word n); homes = s.homes; views = set s.views 0 w }) (sym (ne_eqb n 0 miss))
-            (control_quiet z me.0 s r w x there refl refl refl refl refl refl (refl, refl) refl refl (λ e. omega arith) refl refl refl refl refl (λ i q _ t. same_late z me.0 w s.words s.words i q refl refl t.unseen t) r.bans r.nearly),
+            (control_quiet z me.0 s r w x there refl refl refl refl refl refl (refl, refl, refl) refl refl (λ e. omega arith) refl refl refl refl refl (λ i q _ t. same_late z me.0 w s.words s.words i q refl refl t.unseen t) r.bans r.nearly),
         ((λ e. absurd (miss e)), λ _. goes me w bare),
       )))
 
   pub control_notes : (slots id : ℕ) (me : M) (x : ℕ) → me.0.lead ≡ 1 → me.1 ≡ [] → x ≢ 0 → Allows (BoardOk z) slots id me x (λ n. n) (after_note (step slots x 0 0 none) me)
   control_notes slots id me x first bare late = at_first z slots x me (λ n. n) (after_note (step slots x 0 0 none) me) id first (λ s r there. let n : ℕ = get_or s.words x 0 in let w : View = noted me.0 (did x n n) in
-      (w, control_quiet z me.0 s r w x there refl refl refl refl refl refl (refl, refl) refl refl late refl refl refl refl refl (λ i j _ t. same_late z me.0 w s.words s.words i j refl refl t.unseen t) r.bans r.nearly, goes me w bare))
+      (w, control_quiet z me.0 s r w x there refl refl refl refl refl refl (refl, refl, refl) refl refl late refl refl refl refl refl (λ i j _ t. same_late z me.0 w s.words s.words i j refl refl t.unseen t) r.bans r.nearly, goes me w bare))
 
   pub scans : (slots id : ℕ) (me : M) (i j : ℕ) → me.0.lead ≡ 1 → me.1 ≡ [] → i < z.slots → j < z.bans → length me.0.bans ≡ z.bans → (ban me.0 j).parent ≢ 0 → (ban me.0 j).next ≡ i → me.0.about ≡ 0
       → Allows (BoardOk z) slots id me (i + 1) (λ n. n) (after_scan j (step slots (i + 1) 0 0 none) me)
@@ -227,7 +235,7 @@ module _ (z : Size) where
       let here : (a l : ℕ) → ban (W a l) j ≡ b = λ a l. get_or-set_same me.0.bans j b no_ban (omega arith) in let rest : (a l k : ℕ) → k ≢ j → ban (W a l) k ≡ ban me.0 k = λ a l k e. get_or-set_other me.0.bans j k b no_ban e in
       -- the slot i is no exception, and every other is as it was
       let step_to : (a l : ℕ) → (Wanted me j n → (a ≡ i + 1) × (l ≡ n)) → (a ≢ 0 → r.at (number l) % 2 ≡ 1) → BoardOk z record { words = set s.words x n; homes = s.homes; views = set s.views 0 (W a l) } = λ a l wanted near.
-      control_quiet z me.0 s r (W a l) x there refl refl refl refl refl refl (refl, refl) (length-set me.0.bans j b) refl (λ e. omega arith) refl refl refl refl refl
+      control_quiet z me.0 s r (W a l) x there refl refl refl refl refl refl (refl, refl, refl) (length-set me.0.bans j b) refl (λ e. omega arith) refl refl refl refl refl
       (λ q p _ t. dite (ℕ_discrete p j)
       (λ e. let new : ban (W a l) p ≡ b = ap (ban (W a l)) e ∙ here a l in let old : ban me.0 p ≡ o = ap (ban me.0) e in let upto : q < i + 1 = subst (λ (f : Ban). q < f.next) new t.passed in
       let child : parent (task s.words q) ≡ o.parent = t.child ∙ ap (λ (f : Ban). f.parent) new in
@@ -267,7 +275,7 @@ module _ (z : Size) where
       let now_cancel : (k : ℕ) → k ≡ i → cancel (task ws k) ≡ c = λ k e. ap (λ (q : ℕ). cancel (task ws q)) e ∙ (ap cancel here ∙ cancel_mark old c unmarked) in (
         w,
         subst (λ e. BoardOk z record { words = set s.words x (either e new n); homes = s.homes; views = set s.views 0 w }) (sym (eq-eqb n old hit))
-            (control_step z me.0 s r w x new there refl refl refl refl refl refl (refl, refl) refl (length-set me.0.last i (number n)) (λ e. omega arith)
+            (control_step z me.0 s r w x new there refl refl refl refl refl refl (refl, refl, refl) refl (length-set me.0.last i (number n)) (λ e. omega arith)
             (λ k l some_word. dite (ℕ_discrete k i) (λ e. (same_number k e, λ f. full (sym hit ∙ (ap (task s.words) (sym e) ∙ f)))) (λ e. (ap number (rest k e), λ f. some_word (rest k e ∙ f))))
             (λ k l some_word. dite (ℕ_discrete k i)
             (λ e. ((λ _. subst (λ (q : ℕ). In q w.marked) (sym (same_number k e ∙ ap (λ (q : ℕ). number (task s.words q)) e)) (in_last (number n) me.0.marked)), (λ f. absurd (some_cancel (sym (now_cancel k e) ∙ f))), λ _. ap (λ (q : ℕ). get_or w.last q 0) e ∙ (get_or-set_same me.0.last i (number n) 0 (let l = r.lasts in omega arith) ∙ sym (same_number k e ∙ ap (λ (q : ℕ). number (task s.words q)) e))))
@@ -301,7 +309,7 @@ module _ (z : Size) where
       (λ miss. let w : View = noted (missed me.0) (did x n n) in (
         w,
         subst (λ e. BoardOk z record { words = set s.words x (either e new n); homes = s.homes; views = set s.views 0 w }) (sym (ne_eqb n old miss))
-            (control_quiet z me.0 s r w x there refl refl refl refl refl refl (refl, refl) refl refl (λ e. omega arith) refl refl refl refl refl
+            (control_quiet z me.0 s r w x there refl refl refl refl refl refl (refl, refl, refl) refl refl (λ e. omega arith) refl refl refl refl refl
             (λ q p _ y. same_late z me.0 w s.words s.words q p refl refl
             (λ f g. let a = about (λ b. let d : 0 ≡ q + 1 = sym b ∙ f in omega arith) in let same : q ≡ i = (let b = a.0 in omega arith) in miss (sym (ap (task s.words) same) ∙ (sym g ∙ a.1))) y)
             r.bans (λ f. absurd (f refl))),
@@ -322,6 +330,7 @@ module _ (z : Size) where
       dealt = (let e : 1 + z.seats ≡ z.seats + 1 = omega arith in e);
       first = refl;
       joins = (refl, refl);
+      taken = none_out z.slots;
       counted = (let e = blank 0 in omega arith);
       unborn = λ _ _. refl;
       seats = λ k u e. ⊎_elim (λ (t : (k ≡ 0) × (v ≡ u)). subst (λ (y : ℕ × View). SeatOk z v (λ _. 0) (λ _. 0) ws y.0 y.1) (λ i. (sym t.0 i, t.1 i)) (blank_seat z v (λ _. 0) (λ _. 0) ws 0 1 z.seats (λ _. refl)))
@@ -373,9 +382,10 @@ module _ (z : Size) where
           dealt = (let a = length-append (set s.views 0 w) (o ∷ []) in let b = length-set s.views 0 w in let c = r.dealt in omega arith);
           first = at_longer (set s.views 0 w) (o ∷ []) 0 w (at_zero s.views v w there);
           joins = ((let a = gone-more (set s.views 0 w) in let b = gone-set s.views 0 v w there in let c = r.joins.0 in omega arith), r.joins.1);
+          taken = r.taken;
           counted = (let a = told-more (set s.views 0 w) in let b = told-set s.views 0 v w there in let c = r.counted in omega arith);
           unborn = r.unborn;
-          seats = λ k u e. ⊎_elim (λ (f : get_elem? (set s.views 0 w) k ≡ some u). each (SeatOk z w r.owner r.at s.words) s.views 0 w (moved 0 v w refl refl refl refl refl refl (r.seats 0 v there)) (λ i y _ g. moved i y y refl refl refl refl refl refl (r.seats i y g)) k u f)
+          seats = λ k u e. ⊎_elim (λ (f : get_elem? (set s.views 0 w) k ≡ some u). each (SeatOk z w r.owner r.at s.words) s.views 0 w (moved 0 v w refl refl refl refl refl refl refl (r.seats 0 v there)) (λ i y _ g. moved i y y refl refl refl refl refl refl refl (r.seats i y g)) k u f)
               (λ (f : o ≡ u). subst (SeatOk z w r.owner r.at s.words k) f (blank_seat z w r.owner r.at s.words k 0 0 (λ f. absurd (f refl)))) (at_snoc (set s.views 0 w) o u k e);
           tasks = λ i l n. let t = r.tasks i l n in let f = found i t in record { stands = t.stands; view = f.0; seated = at_longer (set s.views 0 w) (o ∷ []) (r.owner i) f.0 f.1; is = t.is ∙ f.2; named = t.named; marked = t.marked; unmarked = t.unmarked; latest = t.latest };
           bans = r.bans;
@@ -385,8 +395,9 @@ module _ (z : Size) where
         },
       )
         where
-          moved : (k : ℕ) (u y : View) → y.size ≡ u.size → y.lead ≡ u.lead → y.held ≡ u.held → y.drawn ≡ u.drawn → y.told ≡ u.told → y.bans ≡ u.bans → SeatOk z v r.owner r.at s.words k u → SeatOk z w r.owner r.at s.words k y
-          moved k u y size_is lead held drawn told bans ok = record {
+          moved : (k : ℕ) (u y : View) → y.size ≡ u.size → y.lead ≡ u.lead → y.held ≡ u.held → y.drawn ≡ u.drawn → y.told ≡ u.told → y.bans ≡ u.bans → y.gone ≡ u.gone → SeatOk z v r.owner r.at s.words k u → SeatOk z w r.owner r.at s.words k y
+          moved k u y size_is lead held drawn told bans stay ok = record {
+            left = left_same u y stay (λ e. held ∙ e) ok.left;
             leads = λ n. ok.leads (λ e. n (lead ∙ e));
             once = subst (λ (n : ℕ). n < 2) (sym told) ok.once;
             unused = λ n. let t = ok.unused (λ e. n (drawn ∙ e)) in (ap r.at drawn ∙ t.0, subst (λ (n : ℕ). n < 1048576) (sym drawn) t.1);
@@ -405,7 +416,7 @@ module _ (z : Size) where
       let at : i ≡ x - me.0.size.slots - me.0.size.bans - 1 = (let b : me.0.size.slots ≡ z.slots = ap (λ (q : Size). q.slots) size in let d : me.0.size.bans ≡ z.bans = ap (λ (q : Size). q.bans) size in omega arith) in
       let w : View = noted (record me.0 { half = i + 1; half_mask = n }) (did x n n) in (
         w,
-        control_calm z me.0 s r w x n there refl refl refl refl refl refl (refl, refl) refl refl (λ f. omega arith) refl refl (λ k _. ap (λ (q : List ℕ). task q k) e)
+        control_calm z me.0 s r w x n there refl refl refl refl refl refl (refl, refl, refl) refl refl (λ f. omega arith) refl refl (λ k _. ap (λ (q : List ℕ). task q k) e)
             (λ k q h _ ok. let t : task ws q ≡ task s.words q = ap (λ (l : List ℕ). task l q) e in record {
               inside = ok.inside;
               owned = ok.owned;
@@ -426,7 +437,7 @@ module _ (z : Size) where
       dite (ℕ_discrete (cancel n) 0)
       (λ unmarked. let w : View = noted (record me.0 { half = 0; half_mask = 0 }) (did x n n) in (
         w,
-        control_calm z me.0 s r w x n there refl refl refl refl refl refl (refl, refl) refl refl (λ f. omega arith) refl refl (λ k _. ap (λ (q : List ℕ). task q k) e)
+        control_calm z me.0 s r w x n there refl refl refl refl refl refl (refl, refl, refl) refl refl (λ f. omega arith) refl refl (λ k _. ap (λ (q : List ℕ). task q k) e)
             (λ k q h _ ok. hold_control z me.0 s r w ws k q h (ap (λ (l : List ℕ). task l q) e) (ap (λ (l : List ℕ). mask z l q) e)
             (λ j l. ok.race j (same_late z me.0 w s.words ws q j (ap (λ (b : List ℕ). task b q) e) refl (λ f g. l.unseen f (g ∙ sym (ap (λ (b : List ℕ). task b q) e))) l)) (λ m f. f) (λ f. absurd (omega arith)) ok)
             (λ j l. subst (λ (q : List ℕ). BanOk q (z.slots + j + 1) (ban w j)) (sym e) (r.bans j l)) r.known r.nearly,
@@ -435,7 +446,7 @@ module _ (z : Size) where
       (λ marked. let w : View = noted (record me.0 { half = 0; half_mask = 0; masks = record { number = number n; nodes = me.0.half_mask } ∷ me.0.masks }) (did x n n) in
       let full : n ≢ 0 = λ f. marked (ap cancel f ∙ zero_cancel) in let here = r.tasks i inside full in let stands = here.stands in (
         w,
-        control_calm z me.0 s r w x n there refl refl refl refl refl refl (refl, refl) refl refl (λ f. omega arith) refl refl (λ k _. ap (λ (q : List ℕ). task q k) e)
+        control_calm z me.0 s r w x n there refl refl refl refl refl refl (refl, refl, refl) refl refl (λ f. omega arith) refl refl (λ k _. ap (λ (q : List ℕ). task q k) e)
             (λ k q h some_number ok. let t : task ws q ≡ task s.words q = ap (λ (l : List ℕ). task l q) e in record {
               inside = ok.inside;
               owned = ok.owned;
@@ -461,7 +472,7 @@ module _ (z : Size) where
       let still : (i : ℕ) → i < z.slots → task ws i ≡ task s.words i = λ i l. get_or-set_other s.words x (i + 1) 0 0 (λ e. omega arith) in
       let place : j ≡ x - me.0.size.slots - 1 = (let q : me.0.size.slots ≡ z.slots = ap (λ (y : Size). y.slots) size in omega arith) in (
         w,
-        control_calm z me.0 s r w x 0 there refl refl refl refl refl refl (refl, refl) (length-set me.0.bans j no_ban) refl (λ e. omega arith) refl refl still
+        control_calm z me.0 s r w x 0 there refl refl refl refl refl refl (refl, refl, refl) (length-set me.0.bans j no_ban) refl (λ e. omega arith) refl refl still
             (λ k i h m ok. hold_control z me.0 s r w ws k i h (still i ok.inside) (get_or-set_other s.words x (z.slots + z.bans + i + 1) 0 0 (λ e. omega arith))
             (λ q t. dite (ℕ_discrete q j) (λ e. absurd (t.stands (ap (λ (y : Ban). y.parent) (ap (ban w) e ∙ here)))) (λ e. ok.race q (same_late z me.0 w s.words ws i q (still i ok.inside) (rest q e) (λ f g. t.unseen f (g ∙ sym (still i ok.inside))) t)))
             (λ a f. f) (λ f. (f, refl)) ok)

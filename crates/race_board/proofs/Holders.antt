@@ -20,7 +20,7 @@ use Rattle.race_board.specs.Words.{number, parent, cancel, banned, by}
 use Rattle.race_board.specs.Board.{hold, ban, no_hold, task, mask, In, Has, Tracked, told_count, Behind, Late, HoldOk, SeatOk, WordOk, BoardAt, BoardOk}
 use Rattle.race_board.specs.Steps.{Goes, did, noted, drew, refused, took, fresh, with_hold, with_check, after_track, after_untrack, after_look, after_draw, after_claim, after_glance, after_check, after_end}
 use Rattle.race_board.proofs.Parts.{zero_number, banned_ban}
-use Rattle.race_board.proofs.Boards.{put, put_here, put_else, told-set, gone-set, told-most, each, same_late, hold_stays, other_seat, same_word}
+use Rattle.race_board.proofs.Boards.{put, put_here, put_else, told-set, gone-set, told-most, each, left_same, left_set, same_late, hold_stays, other_seat, same_word}
 
 abbrev Now : Type 0
 Now = State (Unit {0}) View
@@ -51,6 +51,7 @@ module _ (z : Size) (c : View) (s : Now) (r : BoardAt z c s) where
       dealt = ap (λ (n : ℕ). n + c.to_deal) (length-set s.views id w) ∙ r.dealt;
       first = set_else s.views id 0 w (λ e. holder (sym e)) ∙ r.first;
       joins = ((let a = gone-set s.views id v w there in let b = r.joins.0 in omega arith), r.joins.1);
+      taken = r.taken;
       counted = counted;
       unborn = unborn;
       seats = each (SeatOk z c owner' at' (set s.words x y)) s.views id w mine
@@ -75,8 +76,9 @@ module _ (z : Size) (c : View) (s : Now) (r : BoardAt z c s) where
       (λ j _. ap (λ (l : List ℕ). get_or l (z.slots + j + 1) 0) e)
 
   -- the same slots
-  alike : (id : ℕ) (v w : View) → w.size ≡ v.size → w.lead ≡ v.lead → w.held ≡ v.held → w.drawn ≡ v.drawn → w.told ≡ v.told → w.bans ≡ v.bans → SeatOk z c r.owner r.at s.words id v → SeatOk z c r.owner r.at s.words id w
-  alike id v w size lead held drawn told bans ok = record {
+  alike : (id : ℕ) (v w : View) → w.size ≡ v.size → w.lead ≡ v.lead → w.held ≡ v.held → w.drawn ≡ v.drawn → w.told ≡ v.told → w.bans ≡ v.bans → w.gone ≡ v.gone → SeatOk z c r.owner r.at s.words id v → SeatOk z c r.owner r.at s.words id w
+  alike id v w size lead held drawn told bans gone ok = record {
+    left = left_same v w gone (λ e. held ∙ e) ok.left;
     once = subst (λ (n : ℕ). n < 2) (sym told) ok.once;
     leads = λ n. ok.leads (λ e. n (lead ∙ e));
     unused = λ n. let u = ok.unused (λ e. n (drawn ∙ e)) in (ap r.at drawn ∙ u.0, subst (λ (n : ℕ). n < 1048576) (sym drawn) u.1);
@@ -106,7 +108,7 @@ module _ (z : Size) where
         w,
         keeps,
         tt,
-        quiet z c s r id me.0 w (i + 1) there holder refl refl (λ i. refl) (alike z c s r id me.0 w refl refl refl refl refl refl (r.seats id me.0 there)),
+        quiet z c s r id me.0 w (i + 1) there holder refl refl (λ i. refl) (alike z c s r id me.0 w refl refl refl refl refl refl refl (r.seats id me.0 there)),
         (a.is ∙ ap (λ (k : ℕ). (hold me.0 k).number) (back_one i), a.child_of ∙ ap (λ (k : ℕ). (hold me.0 k).parent) (back_one i), goes me w bare),
       )
 
@@ -128,6 +130,7 @@ module _ (z : Size) where
               (record {
                 once = omega arith;
                 leads = ok.leads;
+                left = ok.left;
                 unused = ok.unused;
                 holds = λ i h. hold_stays z c r.owner r.owner s.words (set s.words 0 (n + 1)) id i (hold w i) refl (rest i) (mask_rest i) (ok.holds i h);
               })
@@ -145,6 +148,7 @@ module _ (z : Size) where
                   (record {
                     once = ok.once;
                     leads = ok.leads;
+                    left = ok.left;
                     unused = λ _. (put_here r.at (n + 1) (2 * id + 2), omega arith);
                     holds = λ i h. hold_stays z c r.owner r.owner s.words (set s.words 0 (n + 1)) id i (hold w i) refl (rest i) (mask_rest i) (ok.holds i h);
                   })
@@ -182,6 +186,7 @@ module _ (z : Size) where
             (record {
               once = ok.once;
               leads = ok.leads;
+              left = left_set me.0 w i _ refl refl ok.left;
               unused = λ f. absurd (f refl);
               holds = λ k h. dite (ℕ_discrete k i)
                   (λ e. subst (λ (q : ℕ). HoldOk z c owner' ws id q (hold w q)) (sym e) (subst (HoldOk z c owner' ws id i) (sym held_here) record {
@@ -220,7 +225,7 @@ module _ (z : Size) where
         keeps,
         tt,
         subst (λ b. BoardOk z (stepped s (i + 1) (either b word n) id me.1 w keeps)) (sym (ne_eqb n 0 miss))
-            (quiet z c s r id me.0 w (i + 1) there holder refl refl (λ k. refl) (alike z c s r id me.0 w refl refl refl refl refl refl ok)),
+            (quiet z c s r id me.0 w (i + 1) there holder refl refl (λ k. refl) (alike z c s r id me.0 w refl refl refl refl refl refl refl ok)),
         ((λ e. absurd (miss e)), (λ _. goes me w bare), others),
       ))
 
@@ -239,6 +244,7 @@ module _ (z : Size) where
       let mine : (k : Progress) → ((b : ℕ) → Late z c s.words i b → Behind b k) → SeatOk z c r.owner r.at s.words id (W k) = λ k fits. record {
         once = ok.once;
         leads = ok.leads;
+        left = left_set me.0 (W k) i _ refl refl ok.left;
         unused = ok.unused;
         holds = λ q some_there. dite (ℕ_discrete q i)
             (λ e. subst (λ (y : ℕ). HoldOk z c r.owner s.words id y (hold (W k) y)) (sym e) (subst (HoldOk z c r.owner s.words id i) (sym (here k))
@@ -274,6 +280,7 @@ module _ (z : Size) where
             (record {
               once = ok.once;
               leads = ok.leads;
+              left = left_set me.0 w i _ refl refl ok.left;
               unused = λ f. let u = ok.unused f in let v = u.0 in (kept_at me.0.drawn (λ e. omega arith) ∙ u.0, u.1);
               holds = λ k f. let e = apart k f in let g = held_rest k e in subst (HoldOk z c r.owner ws id k) (sym g) (hold_stays z c r.owner r.owner s.words ws id k (hold me.0 k) refl (rest k e) (mask_rest k) (ok.holds k (λ y. f (ap (λ (q : Hold). q.number) g ∙ y))));
             })
@@ -292,6 +299,7 @@ module _ (z : Size) where
   own_seat c s r id v w i h ws ok e near new rest = subst (SeatOk z c r.owner r.at ws id) (sym e) record {
     once = ok.once;
     leads = ok.leads;
+    left = left_set v (record v { steps = w.steps; held = set v.held i h }) i h refl refl ok.left;
     unused = ok.unused;
     holds = λ k n. dite (ℕ_discrete k i)
         (λ f. subst (λ (y : ℕ). HoldOk z c r.owner ws id y (get_or (set v.held i h) y no_hold)) (sym f) (subst (HoldOk z c r.owner ws id i) (sym (get_or-set_same v.held i h no_hold near)) new))
@@ -316,6 +324,7 @@ module _ (z : Size) where
       (record {
         once = ok.once;
         leads = ok.leads;
+        left = left_set me.0 w i h refl refl ok.left;
         unused = ok.unused;
         holds = λ q f. dite (ℕ_discrete q i)
             (λ e. subst (λ (b : ℕ). HoldOk z c r.owner ws id b (hold w b)) (sym e) (subst (HoldOk z c r.owner ws id i) (sym (get_or-set_same me.0.held i h no_hold (omega arith))) record {

@@ -14,3 +14,8 @@ pub mod Tracked
 pub mod Masked
 pub mod Checking
 pub mod Marks
+pub mod Joined
+pub mod Counts
+pub mod Last
+pub mod Tickets
+pub mod Known

@@ -20,10 +20,10 @@ twice v u w i h f d d' l a b = let steps : w.steps ≡ u.steps ++ d' ∷ [] = ap
 
 -- the ticket after both
 pub after_both : (v u w : View) (i bit n : ℕ) (d d' : Did) → i < length v.held → u ≡ noted (with_hold v i (seeking (hold v i) bit)) d → (cancel n ≡ 0 → w ≡ noted (with_hold u i (cleared_hold (hold u i))) d') → (cancel n ≢ 0 → w ≡ noted (with_hold u i (seeking (hold u i) 0)) d')
-    → (h : Hold) × Becomes v w i h × (h.number ≡ (hold v i).number) × (h.parent ≡ (hold v i).parent) × (h.seek ≡ 0)
+    → (h : Hold) × Becomes v w i h × (h.number ≡ (hold v i).number) × (h.parent ≡ (hold v i).parent) × (h.seek ≡ 0) × (h.check ≡ (hold v i).check)
 after_both v u w i bit n d d' l a free marked = let h : Hold = seeking (hold v i) bit in dite (ℕ_discrete (cancel n) 0)
-    (λ e. (cleared_hold h, twice v u w i h cleared_hold d d' l a (free e), refl, refl, refl))
-    (λ e. (seeking h 0, twice v u w i h (λ q. seeking q 0) d d' l a (marked e), refl, refl, refl))
+    (λ e. (cleared_hold h, twice v u w i h cleared_hold d d' l a (free e), refl, refl, refl, refl))
+    (λ e. (seeking h 0, twice v u w i h (λ q. seeking q 0) d d' l a (marked e), refl, refl, refl, refl))
 
 pub becomes_fields : (v w : View) (i : ℕ) (h : Hold) → i < length v.held → Becomes v w i h → h.number ≡ (hold v i).number → h.parent ≡ (hold v i).parent → h.seek ≡ 0 → ((q : ℕ) → (hold v q).seek ≡ 0)
     → (q : ℕ) → ((hold w q).number ≡ (hold v q).number) × ((hold w q).parent ≡ (hold v q).parent) × ((hold w q).seek ≡ 0)

@@ -1,5 +1,5 @@
 -- The rule of the words.
-use Rattle.std.specs.Prelude.{◌≡◌, ◌≢◌, ℕ, zero, suc, ◌+◌, ◌*◌, ◌%◌, ◌<◌, ◌≤◌, ◌⊎◌, List, [], ◌∷◌, length, replicate, slice_index, slice_index_or}
+use Rattle.std.specs.Prelude.{◌≡◌, ◌≢◌, ℕ, zero, suc, ◌+◌, ◌*◌, ◌%◌, ◌<◌, ◌≤◌, ◌⊎◌, ◌==◌, Bool, not, count_by, List, [], ◌∷◌, length, replicate, slice_index, slice_index_or}
 use mathlib.Core.Option.{some}
 use lib.ListN.{get_elem?}
 use Rattle.atomic_table.specs.Table.{State}
@@ -36,9 +36,17 @@ merge [] bs = bs
 merge (a ∷ rest) [] = a ∷ rest
 merge (a ∷ rest) (b ∷ bs) = pick_hold a.number a b ∷ merge rest bs
 
+-- there is a ticket
+abbrev pub is_out : Hold → Bool
+is_out h = not (h.number == 0)
+
+-- the tickets that a seat still has
+abbrev pub tickets_out : View → ℕ
+tickets_out v = count_by is_out v.held
+
 -- the control seat takes in the tickets of another
 abbrev pub both : View → View → View
-both v w = record v { held = merge v.held w.held; joined = v.joined + 1 }
+both v w = record v { held = merge v.held w.held; joined = v.joined + 1; taken = v.taken + tickets_out w }
 
 abbrev pub spent : View
 spent = record {
@@ -59,6 +67,7 @@ spent = record {
   masks = [];
   to_deal = 0;
   joined = 0;
+  taken = 0;
   gone = 1;
 }
 
@@ -84,6 +93,7 @@ newcomer z lead deal = record {
   masks = [];
   to_deal = deal;
   joined = 0;
+  taken = 0;
   gone = 0;
 }
 
@@ -129,6 +139,10 @@ module _ (z : Size) (control : View) (words : List ℕ) where
     pub unmarked : cancel (task words i) ≡ 0
     pub unseen : control.about ≡ i + 1 → control.loaded ≢ task words i
 
+-- a seat that was joined has nothing left
+abbrev pub Left : View → Type 0
+Left v = (v.gone ≡ 0) ⊎ ((v.gone ≡ 1) × (v.held ≡ []))
+
 -- the ticket h of the seat k at the slot i
 pub record HoldOk (z : Size) (control : View) (owner : ℕ → ℕ) (words : List ℕ) (k i : ℕ) (h : Hold) : Type 0 where
   pub inside : i < z.slots
@@ -146,6 +160,7 @@ pub record SeatOk (z : Size) (control : View) (owner at : ℕ → ℕ) (words : 
   pub leads : v.lead ≢ 0 → k ≡ 0
   pub unused : v.drawn ≢ 0 → (at v.drawn ≡ 2 * k + 2) × (v.drawn < 1048576)
   pub holds : (i : ℕ) → (hold v i).number ≢ 0 → HoldOk z control owner words k i (hold v i)
+  pub left : Left v
 
 -- the ban stands in its word, and a word with no ban is 0
 pub record BanOk (words : List ℕ) (x : ℕ) (b : Ban) : Type 0 where
@@ -174,6 +189,7 @@ pub record BoardAt (z : Size) (control : View) (s : State (Unit {0}) View) : Typ
   pub dealt : length s.views + control.to_deal ≡ z.seats + 1
   pub first : get_elem? s.views 0 ≡ some control
   pub joins : (gone_count s.views ≡ control.joined) × (control.gone ≡ 0)
+  pub taken : tickets_out control ≡ control.taken
   pub counted : slice_index s.words 0 ≤ 1048575 + told_count s.views
   pub unborn : (n : ℕ) → slice_index s.words 0 < n → at n ≡ 0
   pub seats : (k : ℕ) (v : View) → get_elem? s.views k ≡ some v → SeatOk z control owner at s.words k v

@@ -29,6 +29,15 @@ abbrev pub Checks : View → View → TicketParts → Size → Check → Type 0
 Checks v w t z answer.Clear = ((ticket_parent t ≡ 0) × (w ≡ v)) ⊎ ((i : ℕ) × ((hold v i).number ≡ t.id.number) × SawNoBan v w z.slots z.bans (ticket_parent t) × Checked v w i state.Clear)
 Checks v w t z (answer.Banned c) = (ticket_parent t ≢ 0) × ((i : ℕ) × ((hold v i).number ≡ t.id.number) × SawBan v w z.slots (ticket_parent t) c × Checked v w i (state.Banned c))
 
+-- the ticket's check is clear
+abbrev pub IsClear : View → ℕ → Type 0
+IsClear v n = (i : ℕ) → (hold v i).number ≡ n → (hold v i).check ≡ state.Clear
+
+-- who is told Clear may ask
+abbrev pub MayAsk : View → ℕ → Check → Type 0
+MayAsk w n answer.Clear = IsClear w n
+MayAsk w n (answer.Banned c) = Unit {0}
+
 abbrev pub BannedBy : (ℕ → Type 0) → Check → Type 0
 BannedBy allowed answer.Clear = Unit {0}
 BannedBy allowed (answer.Banned c) = allowed c
@@ -40,10 +49,6 @@ Ends v w n m = (i : ℕ) × (seen : ℕ) × ((hold v i).number ≡ n) × (number
 -- one load saw the ticket's word, with that mark
 abbrev pub Looks : View → View → ℕ → Option ℕ → Type 0
 Looks v w n m = (i : ℕ) × (seen : ℕ) × ((hold v i).number ≡ n) × (number seen ≡ n) × (m ≡ mark_in seen) × (w ≡ noted v (did (i + 1) seen seen))
-
--- the ticket's check is clear
-abbrev pub IsClear : View → ℕ → Type 0
-IsClear v n = (i : ℕ) → (hold v i).number ≡ n → (hold v i).check ≡ state.Clear
 
 -- the ticket of the slot i is h now, and the seat took steps
 abbrev pub Becomes : View → View → ℕ → Hold → Type 0

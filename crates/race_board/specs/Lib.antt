@@ -10,3 +10,4 @@ pub mod Seats
 pub mod Calls
 pub mod Checks
 pub mod Lists
+pub mod Closing

@@ -3,7 +3,7 @@ use Rattle.std.specs.Prelude.{◌≡◌, ◌≢◌, ℕ, ◌+◌, ◌%◌, ◌<�
 use Rattle.task_table.specs.declared.ended.MarkAnswer.{MarkAnswer}
 use Rattle.task_table.specs.declared.ended.MarkAnswer.TheVariants.{Marked, Already, NotFound}
 use Rattle.race_board.specs.Words.{number, cancel, ban_word}
-use Rattle.race_board.specs.Board.{ban, no_ban}
+use Rattle.race_board.specs.Board.{ban, no_ban, In}
 use Rattle.race_board.specs.Steps.{did, noted, banning, with_ban}
 use Rattle.race_board.specs.Calls.{Saw, OnlySteps}
 use Rattle.race_board.specs.declared.views.Size.{Size}
@@ -50,6 +50,12 @@ abbrev pub Marks : View → View → Size → ℕ → MarkAnswer → Type 0
 Marks v w z n Marked = (i : ℕ) × (seen : ℕ) × Saw v w (i + 1) seen × (number seen ≡ n) × (cancel seen ≡ 0) × (w ≡ record v { steps = w.steps; marked = v.marked ++ n ∷ []; last = slice_set v.last i n })
 Marks v w z n (Already k) = OnlySteps v w × ((i : ℕ) × (seen : ℕ) × Saw v w (i + 1) seen × (number seen ≡ n) × (cancel seen ≡ k) × (k ≢ 0))
 Marks v w z n NotFound = OnlySteps v w × (SawNone v w z.slots n ⊎ SawGo v w n)
+
+-- who was marked now is among those that the seat marked
+abbrev pub KnownBy : View → ℕ → MarkAnswer → Type 0
+KnownBy w n Marked = In n w.marked
+KnownBy w n (Already k) = Unit {0}
+KnownBy w n NotFound = Unit {0}
 
 abbrev pub AlreadyBy : (ℕ → Type 0) → MarkAnswer → Type 0
 AlreadyBy allowed Marked = Unit {0}

@@ -29,6 +29,8 @@ impl<N: BoardName> RaceBoard<N> {
         requires node { IsNode to }
         ensures fits { IsSeatOf self.now seat.new }
         ensures steps { Longer (seat_view seat.old) (seat_view seat.new) }
+        ensures held { HasTicket (seat_view seat.new) ticket.now }
+        ensures clear { IsClear (seat_view seat.new) ticket.now.id.number }
         ensures tracks { Tracks (seat_view seat.old) (seat_view seat.new) ticket.now.id.number (2 ^ to) result }
         ensures allowed { CancelledBy N.allowed result }
     {
@@ -46,6 +48,7 @@ impl<N: BoardName> RaceBoard<N> {
         requires ticket { HasTicket (seat_view seat.old) ticket.now }
         requires node { IsNode to }
         ensures fits { IsSeatOf self.now seat.new }
+        ensures held { HasTicket (seat_view seat.new) ticket.now }
         ensures untracks { Untracks (seat_view seat.old) (seat_view seat.new) (board_size self.now) ticket.now.id.number to }
     {
         let slot = seat.slot_of(ticket.id().number);

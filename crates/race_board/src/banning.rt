@@ -1,7 +1,7 @@
 //! The calls of the control seat on bans. Each takes `&self` and no memory, and none waits.
-ghost use Rattle.std.specs.Prelude.{◌≡◌, ◌≢◌, ℕ, ◌+◌, ◌<◌, ◌≤◌, ◌++◌, [], length, take, IfOk, IfErr, IfSome, IfNone, MatchBool};
+ghost use Rattle.std.specs.Prelude.{◌≡◌, ◌≢◌, ℕ, ◌+◌, ◌<◌, ◌≤◌, ◌++◌, [], length, take, slice_index, IfOk, IfErr, IfSome, IfNone, MatchBool};
 ghost use Rattle.task_ids.specs.Limits.{IsCancel};
-ghost use Rattle.race_board.specs.Board.{ban};
+ghost use Rattle.race_board.specs.Board.{ban, In};
 ghost use Rattle.race_board.specs.Keys.{task_key};
 ghost use Rattle.race_board.specs.Seats.{control_view, board_size, IsControlOf};
 ghost use Rattle.race_board.specs.Calls.{Longer};
@@ -101,6 +101,7 @@ impl<N: BoardName> RaceBoard<N> {
         ensures fits { IsControlOf self.now seat.new }
         ensures steps { Longer (control_view seat.old) (control_view seat.new) }
         ensures found { (length found.new ≡ length found.old) × (result ≤ length found.new) }
+        ensures known { (k : ℕ) → k < result → In (slice_index found.new k) (control_view seat.new).marked }
         ensures listed { Listing (control_view seat.old) (control_view seat.new) place (board_size self.now).slots ((control_view seat.old).marked ++ take result found.new) }
     {
         let place = place as usize;

@@ -18,7 +18,8 @@ pub(crate) struct BoardWords<N: BoardName> {
     pub(crate) size: Size,
     ghost counted: { table.shared.table_id.words ≡ 2 * size.slots + size.bans + 1 },
     ghost keyed: { table.shared.key ≡ size },
-    ghost bounded: { (size.slots < 1025) × (0 < size.slots) × (size.bans < 1025) × (0 < size.bans) },
+    ghost slotless: { table.shared.table_id.slots ≡ 0 },
+    ghost bounded: { (size.slots < 1025) × (0 < size.slots) × (size.bans < 1025) × (0 < size.bans) × (size.seats ≤ 4) },
 }
 
 impl<N: BoardName> BoardWords<N> {

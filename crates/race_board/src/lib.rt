@@ -5,6 +5,7 @@ mod asking;
 mod banning;
 mod board;
 mod board_words;
+mod closing;
 mod control_steps;
 mod data_steps;
 mod living;
@@ -15,12 +16,11 @@ mod plays;
 mod registering;
 mod rule;
 mod seats;
-#[cfg(test)]
-mod tests;
 mod views;
 mod words;
 
 pub use board::{BoardParts, RaceBoard};
+pub use closing::Closed;
 pub use seats::{ControlSeat, DataSeat};
 pub use task_ids::{AnyCancel, BoardName};
 pub use task_table::{Check, Full, NoRoom, Track};

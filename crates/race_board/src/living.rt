@@ -3,7 +3,7 @@ ghost use Rattle.std.specs.Prelude.{◌≡◌, ◌≢◌, ℕ, ◌+◌, ◌-◌,
 ghost use Rattle.child_track.specs.Track.{unanswered, sealed};
 ghost use Rattle.race_board.specs.Seats.{seat_view, board_size, IsSeatOf};
 ghost use Rattle.race_board.specs.Calls.{Longer, HasTicket};
-ghost use Rattle.race_board.specs.Checks.{Checks, BannedBy, Ends, Looks};
+ghost use Rattle.race_board.specs.Checks.{Checks, MayAsk, BannedBy, Ends, Looks};
 
 use crate::board::RaceBoard;
 use crate::seats::DataSeat;
@@ -19,6 +19,8 @@ impl<N: BoardName> RaceBoard<N> {
         requires ticket { HasTicket (seat_view seat.old) ticket.now }
         ensures fits { IsSeatOf self.now seat.new }
         ensures steps { Longer (seat_view seat.old) (seat_view seat.new) }
+        ensures held { HasTicket (seat_view seat.new) ticket.now }
+        ensures clear { MayAsk (seat_view seat.new) ticket.now.id.number result }
         ensures checked { Checks (seat_view seat.old) (seat_view seat.new) ticket.now (board_size self.now) result }
         ensures allowed { BannedBy N.allowed result }
     {
@@ -41,6 +43,7 @@ impl<N: BoardName> RaceBoard<N> {
         requires fits { IsSeatOf self.now seat.old }
         requires ticket { HasTicket (seat_view seat.old) ticket.now }
         ensures fits { IsSeatOf self.now seat.new }
+        ensures held { HasTicket (seat_view seat.new) ticket.now }
         ensures looks { Looks (seat_view seat.old) (seat_view seat.new) ticket.now.id.number result }
         ensures allowed { IfSome result N.allowed }
     {

@@ -1,7 +1,10 @@
 //! A new board with its seats.
 ghost use Rattle.std.specs.Prelude.{◌≡◌, ℕ, ◌+◌, ◌-◌, ◌<◌, ◌≤◌, [], length, slice_index, replicate, IfOk, All};
 ghost use Rattle.task_ids.specs.Limits.{IsNode, IsSlotCount};
+ghost use Rattle.task_ids.specs.declared.task_id.TaskId.{TaskId};
 ghost use Rattle.race_board.specs.Board.{newcomer};
+ghost use Rattle.race_board.specs.Keys.{task_key};
+ghost use Rattle.race_board.specs.Lists.{NoneOf};
 ghost use Rattle.race_board.specs.Seats.{seat_view, control_view, board_size, IsSeatOf, IsControlOf, IsNew};
 
 use crate::board::{BoardParts, RaceBoard};
@@ -68,6 +71,7 @@ impl<N: BoardName> RaceBoard<N> {
         requires seats { (1 ≤ data_seats) × (data_seats ≤ 4) }
         ensures board { IfOk result (λ p. (p.board.node ≡ node) × (board_size p.board ≡ record { slots = slots; bans = bans; seats = data_seats })) }
         ensures control { IfOk result (λ p. IsControlOf p.board p.control × (control_view p.control ≡ newcomer (board_size p.board) 1 0)) }
+        ensures free { IfOk result (λ p. (t : TaskId) → NoneOf (control_view p.control) (board_size p.board) (task_key t)) }
         ensures seats { IfOk result (λ p. (length p.seats.items ≡ data_seats) × All (IsNew p.board) p.seats.items) }
     {
         let size = Size {

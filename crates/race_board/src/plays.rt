@@ -3,14 +3,14 @@
 ghost use Rattle.std.specs.Prelude.{ℕ, ◌≡◌, ◌≢◌, ◌+◌, ◌-◌, ◌%◌, ◌^◌, [], ◌==◌, bit_or, bit_and};
 ghost use prog.Atomic.{either};
 ghost use Rattle.race_board.specs.Words.{number, cancel};
-ghost use Rattle.race_board.specs.Board.{newcomer, hold, ban, In};
+ghost use Rattle.race_board.specs.Board.{newcomer, both, spent, hold, ban, In};
 ghost use Rattle.race_board.specs.Steps.{after_draw, after_claim, after_note, after_glance, after_check, after_end, after_ban, after_scan, after_mark, after_track, after_untrack, after_look, after_half, after_whole, after_lift};
 ghost use Rattle.race_board.specs.StepEvents.{of_claim, of_check, of_end, of_ban, of_scan, of_mark, of_track_look, of_look, of_unban};
 ghost use Rattle.race_board.specs.Turn.{Turned, MayMark, MayBan};
 
 use crate::name::About;
 use crate::views::View;
-use atomic_table::{Play, Split};
+use atomic_table::{Join, Play, Split};
 use std::marker::PhantomData;
 use task_ids::BoardName;
 
@@ -124,4 +124,12 @@ impl Split<View> for Deal {
     ghost left = { λ v. record v { to_deal = v.to_deal - 1 } };
 
     ghost right = { λ v. newcomer v.size 0 0 };
+}
+
+pub(crate) struct Glue;
+
+impl Join<View> for Glue {
+    ghost both = { both };
+
+    ghost spent = { spent };
 }

@@ -5,7 +5,7 @@ ghost use Rattle.race_board.specs.Words.{number, parent, cancel};
 ghost use Rattle.race_board.specs.Keys.{parent_key};
 ghost use Rattle.race_board.specs.Steps.{did, noted, drew};
 ghost use Rattle.race_board.specs.Seats.{seat_view, board_size, IsSeatOf};
-ghost use Rattle.race_board.specs.Calls.{Longer, OnlySteps, Refuses, SawFull, Takes, TakesAt};
+ghost use Rattle.race_board.specs.Calls.{Longer, HasTicket, OnlySteps, Refuses, SawFull, Takes, TakesAt};
 
 use crate::board::RaceBoard;
 use crate::seats::DataSeat;
@@ -75,6 +75,7 @@ impl<N: BoardName> RaceBoard<N> {
         ensures fits { IsSeatOf self.now seat.new }
         ensures steps { Longer (seat_view seat.old) (seat_view seat.new) }
         ensures ticket { IfOk result (λ t. (t.id.node ≡ self.now.node) × (t.id.number ≡ number) × (t.token ≡ token)) }
+        ensures held { IfOk result (HasTicket (seat_view seat.new)) }
         ensures takes { OnOk result (Takes (seat_view seat.old) (seat_view seat.new) number (parent_key parent)) }
         ensures full { OnErr result (OnlySteps (seat_view seat.old) (seat_view seat.new) × SawFull (seat_view seat.old) (seat_view seat.new) (board_size self.now).slots) }
         ensures given_back { IfErr result (λ full. full.0 ≡ token) }

@@ -2,6 +2,7 @@
 ghost use Rattle.std.specs.Prelude.{◌≡◌, ◌≢◌, ℕ, ◌+◌, ◌<◌, [], length, slice_index, true, false};
 ghost use Rattle.race_board.specs.Words.{number, parent, by, ban_word};
 ghost use Rattle.race_board.specs.Board.{hold, ban};
+ghost use Rattle.race_board.specs.declared.views.Progress.TheVariants.{Clear};
 
 use crate::rule::Place;
 use crate::words::number_of;
@@ -24,6 +25,7 @@ pub struct DataSeat<N: BoardName> {
     ghost sized: { (length words.items ≡ place.me.0.size.slots) × (length place.me.0.held ≡ place.me.0.size.slots) },
     ghost tickets: { (i : ℕ) → (number (slice_index words.items i) ≡ (hold place.me.0 i).number) × (parent (slice_index words.items i) ≡ (hold place.me.0 i).parent) },
     ghost distinct: { (i j : ℕ) → (hold place.me.0 i).number ≢ 0 → (hold place.me.0 i).number ≡ (hold place.me.0 j).number → i ≡ j },
+    ghost roots: { (i : ℕ) → (hold place.me.0 i).parent ≡ 0 → (hold place.me.0 i).check ≡ Clear },
     ghost calm: { (i : ℕ) → (hold place.me.0 i).seek ≡ 0 },
     ghost refused: { (told ≡ false → place.me.0.told ≡ 0) × (told ≡ true → place.me.0.told ≡ 1) },
     ghost drawn: { place.me.0.drawn < 1048576 },
@@ -45,6 +47,7 @@ pub struct ControlSeat<N: BoardName> {
     ghost sized: { (length bans.items ≡ place.me.0.size.bans) × (length place.me.0.bans ≡ place.me.0.size.bans) },
     ghost latest: { (length marked.items ≡ place.me.0.size.slots) × (marked.items ≡ place.me.0.last) },
     ghost idle: { (place.me.0.about ≡ 0) × (place.me.0.loaded ≡ 0) × (place.me.0.half ≡ 0) },
+    ghost whole: { (place.me.0.to_deal ≡ 0) × (place.me.0.joined ≡ 0) × (place.me.0.taken ≡ 0) },
     ghost standing: { (j : ℕ) → (slice_index bans.items j ≡ ban_word (ban place.me.0 j).parent (ban place.me.0 j).cancel) × ((ban place.me.0 j).parent < 16777216) × ((ban place.me.0 j).cancel < 65536) × ((ban place.me.0 j).parent ≢ 0 → (ban place.me.0 j).cancel ≢ 0) },
 }
 

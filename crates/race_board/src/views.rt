@@ -77,9 +77,10 @@ pub struct View {
     pub half: u64,
     pub half_mask: u64,
     pub masks: [Mask; 0],
-    /// How many data seats have still to be split off, and how many were joined again.
+    /// How many data seats have still to be split off, how many were joined again, and how many tickets they had.
     pub to_deal: u64,
     pub joined: u64,
+    pub taken: u64,
     /// 1 once the seat was joined to the control seat.
     pub gone: u64,
 }

@@ -14,6 +14,7 @@ use Rattle.race_board.specs.declared.views.View.{View}
 use Rattle.race_board.proofs.Parts.{banned_some}
 use Rattle.race_board.proofs.Gained.{longer_same, longer_more, saw_now}
 use Rattle.race_board.proofs.Checking.{reached, reached_next, reached_end, checked_at_first, checked_hold, checked_goes, checked_on, steps_on, none_more, ticket_at, check_fields, some_check}
+use Rattle.race_board.proofs.Tickets.{Roots, roots_set}
 use Rattle.race_board.proofs.board.RaceBoard.check.Goals as goal
 
 pub loop-place-init : goal.loop-place-init
@@ -52,6 +53,7 @@ invariant_of-seat g c = let seat = c.loop-place.seat in let u : View = seat.plac
     let wide : length u.held ≡ length c.args.seat.now.place.me.0.held = ap (λ (q : View). length q.held) c.loop-place.invariant.on ∙ length-set c.args.seat.now.place.me.0.held i (record (hold c.args.seat.now.place.me.0 i) { check = reached c.loop-place.place z.bans (hold c.args.seat.now.place.me.0 i).check }) in
     let inside : i < length u.held = subst (λ (m : ℕ). i < m) (sym wide) c.loop-place.invariant.inside in
     let held : w.held ≡ set u.held i (record (hold u i) { check = k }) = ap (λ (q : View). q.held) e in
+    let here : hold u i ≡ _ = checked_hold c.args.seat.now.place.me.0 u i (reached c.loop-place.place z.bans (hold c.args.seat.now.place.me.0 i).check) c.loop-place.invariant.inside c.loop-place.invariant.on in
     let fields : (q : ℕ) → ((hold w q).number ≡ (hold u q).number) × ((hold w q).parent ≡ (hold u q).parent) × ((hold w q).seek ≡ (hold u q).seek) =
     λ q. subst (λ (hs : List Hold). ((get_or hs q no_hold).number ≡ (hold u q).number) × ((get_or hs q no_hold).parent ≡ (hold u q).parent) × ((get_or hs q no_hold).seek ≡ (hold u q).seek)) (sym held) (check_fields u.held i k q inside) in
     record {
@@ -60,6 +62,7 @@ invariant_of-seat g c = let seat = c.loop-place.seat in let u : View = seat.plac
       sized = (seat.sized.0 ∙ sym (ap (λ (q : View). q.size.slots) e), ap length held ∙ (length-set u.held i (record (hold u i) { check = k }) ∙ (seat.sized.1 ∙ sym (ap (λ (q : View). q.size.slots) e))));
       tickets = λ q. let t = seat.tickets q in (t.0 ∙ sym (fields q).0, t.1 ∙ sym (fields q).1);
       distinct = λ q r m f. seat.distinct q r (λ x. m ((fields q).0 ∙ x)) (sym (fields q).0 ∙ (f ∙ (fields r).0));
+      roots = subst Roots (sym held) (roots_set u.held i (record (hold u i) { check = k }) inside (λ f. absurd (c.key_of-parent.ensures.some.0 (sym (ap (λ (h : Hold). h.parent) here ∙ c.loop-place.invariant.child) ∙ f))) seat.roots);
       calm = λ q. (fields q).2 ∙ seat.calm q;
       refused = subst (λ (m : ℕ). (seat.told ≡ Rattle.std.specs.Prelude.false → m ≡ 0) × (seat.told ≡ Rattle.std.specs.Prelude.true → m ≡ 1)) (sym (ap (λ (q : View). q.told) e)) seat.refused;
       drawn = subst (λ (m : ℕ). m < 1048576) (sym (ap (λ (q : View). q.drawn) e)) seat.drawn;

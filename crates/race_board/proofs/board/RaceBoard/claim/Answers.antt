@@ -1,8 +1,10 @@
 use Rattle.std.proofs.Common.{rules, ◌≡◌, ℕ, ◌<◌, sym, ap, ◌∙◌, subst}
+use Rattle.child_track.specs.Token.{token_parent}
 use Rattle.race_board.specs.Words.{number, parent, cancel}
 use Rattle.race_board.specs.Keys.{parent_key}
-use Rattle.race_board.specs.Calls.{TakesAt}
+use Rattle.race_board.specs.Calls.{Takes, TakesAt}
 use Rattle.race_board.proofs.Parts.{number_task, parent_task, cancel_task}
+use Rattle.race_board.proofs.Tickets.{claimed}
 use Rattle.race_board.proofs.board.RaceBoard.claim.Goals as goal
 
 pub take_slot-requires-clause-word : goal.take_slot-requires-clause-word
@@ -17,3 +19,6 @@ returns-in-Some-clause-takes g c = let seat = c.args.seat.now in let n : ℕ = c
     let is : c.task_of-word.result ≡ Rattle.race_board.specs.Words.task_word n p = search rules in
     let numbered : number c.task_of-word.result ≡ n = ap number is ∙ number_task n p small in let child : parent c.task_of-word.result ≡ p = ap parent is ∙ parent_task n p small key in
     (c.in-Some.field-0, subst (λ (q : ℕ × ℕ). TakesAt seat.place.me.0 c.take_slot.new.seat.place.me.0 c.in-Some.field-0 q.0 q.1) (λ k. (numbered k, child k)) c.in-Some.ensures.taken)
+
+pub returns-in-Some-clause-held : goal.returns-in-Some-clause-held
+returns-in-Some-clause-held g c = let seat = c.args.seat.now in let token_is : c.args.token ≡ c.new.result.token = search rules in let number_is : c.args.number ≡ c.new.result.id.number = search rules in claimed seat.place.me.0 c.take_slot.new.seat.place.me.0 c.new.result (parent_key c.args.parent) (sym seat.sized.1) (subst (λ (n : ℕ). Takes seat.place.me.0 c.take_slot.new.seat.place.me.0 n (parent_key c.args.parent)) number_is (returns-in-Some-clause-takes g c)) (ap parent_key (sym c.requires.token ∙ ap token_parent token_is))

@@ -24,6 +24,7 @@ invariant_of-result g c = let w : View = c.split_seat-place.result.me.0 in let z
       sized = (c.requires.blank.0 ∙ sym (ap (λ (v : View). v.size.slots) is), ap (λ (v : View). length v.held) is ∙ (length-replicate z.slots no_hold ∙ sym (ap (λ (v : View). v.size.slots) is)));
       tickets = λ i. (ap number (c.requires.blank.1 i) ∙ (zero_number ∙ sym (ap (λ (h : Hold). h.number) (free i))), ap parent (c.requires.blank.1 i) ∙ (zero_parent ∙ sym (ap (λ (h : Hold). h.parent) (free i))));
       distinct = λ i j f. absurd (f (ap (λ (h : Hold). h.number) (free i)));
+      roots = λ i _. ap (λ (h : Hold). h.check) (free i);
       calm = λ i. ap (λ (h : Hold). h.seek) (free i);
       refused = ((λ _. ap (λ (v : View). v.told) is), λ e. search rules);
       drawn = subst (λ (n : ℕ). n < 1048576) (sym (ap (λ (v : View). v.drawn) is)) (omega arith);

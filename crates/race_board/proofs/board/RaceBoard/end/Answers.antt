@@ -6,6 +6,7 @@ use Rattle.race_board.specs.declared.views.Hold.{Hold}
 use Rattle.race_board.specs.declared.views.View.{View}
 use Rattle.race_board.proofs.Parts.{zero_number, zero_parent}
 use Rattle.race_board.proofs.Gained.{tickets_set, calm_set, Distinct, distinct_set}
+use Rattle.race_board.proofs.Tickets.{Roots, roots_set}
 use Rattle.race_board.proofs.board.RaceBoard.end.Goals as goal
 
 pub invariant_of-seat : goal.invariant_of-seat
@@ -19,6 +20,7 @@ invariant_of-seat g c = let seat = c.args.seat.now in let v : View = seat.place.
       tickets = subst (λ (hs : List Hold). (k : ℕ) → (number (get_or (set seat.words.items i 0) k 0) ≡ (get_or hs k no_hold).number) × (parent (get_or (set seat.words.items i 0) k 0) ≡ (get_or hs k no_hold).parent))
           (sym held) (tickets_set seat.words.items v.held i 0 no_hold near inside zero_number zero_parent seat.tickets);
       distinct = subst Distinct (sym held) (distinct_set v.held i no_hold inside seat.distinct (λ k f n h. n h));
+      roots = subst Roots (sym held) (roots_set v.held i no_hold inside (λ _. refl) seat.roots);
       calm = subst (λ (hs : List Hold). (k : ℕ) → (get_or hs k no_hold).seek ≡ 0) (sym held) (calm_set v.held i no_hold inside refl seat.calm);
       refused = subst (λ (n : ℕ). (seat.told ≡ Rattle.std.specs.Prelude.false → n ≡ 0) × (seat.told ≡ Rattle.std.specs.Prelude.true → n ≡ 1)) (sym (ap (λ (q : View). q.told) e)) seat.refused;
       drawn = subst (λ (n : ℕ). n < 1048576) (sym (ap (λ (q : View). q.drawn) e)) seat.drawn;

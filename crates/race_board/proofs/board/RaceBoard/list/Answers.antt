@@ -1,8 +1,8 @@
-use Rattle.std.proofs.Common.{rules, arith, ◌≡◌, ℕ, ◌+◌, ◌<◌, ◌≤◌, List, [], ◌∷◌, ◌++◌, length, take, slice_index, sym, refl, ap, ◌∙◌, subst, append_assoc}
+use Rattle.std.proofs.Common.{rules, arith, ◌≡◌, ℕ, ◌+◌, ◌<◌, ◌≤◌, List, [], ◌∷◌, ◌++◌, length, take, slice_index, get_or, sym, refl, ap, ◌∙◌, subst, append_assoc}
 use Rattle.std.proofs.lemmas.Grind.{get_or_default_zero}
 use Rattle.std.proofs.lemmas.List.{take_more_set}
 use Rattle.race_board.specs.Words.{banned, by}
-use Rattle.race_board.specs.Board.{ban}
+use Rattle.race_board.specs.Board.{ban, In}
 use Rattle.race_board.specs.Calls.{Longer}
 use Rattle.race_board.specs.Lists.{Listing, with_one}
 use Rattle.race_board.specs.declared.views.Size.{Size}
@@ -10,6 +10,7 @@ use Rattle.race_board.specs.declared.views.View.{View}
 use Rattle.race_board.proofs.Parts.{banned_ban, by_ban}
 use Rattle.race_board.proofs.Gained.{longer_same, longer_trans}
 use Rattle.race_board.proofs.Listed.{listing_first, listing_passes, listing_marked}
+use Rattle.race_board.proofs.Known.{in_behind, in_taken}
 use Rattle.race_board.proofs.board.RaceBoard.list.Goals.{in-Some, in_default}
 use Rattle.race_board.proofs.board.RaceBoard.list.Goals as goal
 
@@ -65,3 +66,7 @@ loop-slot-preserved g c = let v : View = c.args.seat.now.place.me.0 in let u : V
         room = search rules;
       }
     ]
+
+pub returns-clause-known : goal.returns-clause-known
+returns-clause-known g c k l = let v : View = c.args.seat.now.place.me.0 in let inv = c.loop-slot.invariant in let few = inv.few in let room = inv.room in
+    subst (In (get_or c.loop-slot.found k 0)) (sym (ap (λ (q : View). q.marked) inv.on)) (in_behind (get_or c.loop-slot.found k 0) v.marked (take c.loop-slot.count c.loop-slot.found) (in_taken c.loop-slot.found c.loop-slot.count k (omega arith) (omega arith)))

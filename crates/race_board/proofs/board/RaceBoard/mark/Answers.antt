@@ -4,6 +4,7 @@ use Rattle.race_board.specs.declared.views.View.{View}
 use Rattle.race_board.proofs.Gained.{longer_more, longer_trans, only_more, saw_now}
 use Rattle.race_board.proofs.Listed.{none_seen}
 use Rattle.race_board.proofs.MarkSteps.{marks_then}
+use Rattle.race_board.proofs.Known.{known_by}
 use Rattle.race_board.proofs.board.RaceBoard.mark.Goals as goal
 
 pub loop-slot-preserved : goal.loop-slot-preserved
@@ -24,3 +25,6 @@ returns-then-is_word_of-clause-marks g c = let v : View = c.args.seat.now.place.
 pub returns-then-is_word_of-clause-steps : goal.returns-then-is_word_of-clause-steps
 returns-then-is_word_of-clause-steps g c = let v : View = c.args.seat.now.place.me.0 in let u : View = c.loop-slot.seat.place.me.0 in let w : View = c.note-seen.new.seat.me.0 in let x : View = c.mark_seen.new.seat.place.me.0 in let n : ℕ = c.note-seen.result in let i : ℕ = c.loop-slot.slot in let inv = c.loop-slot.invariant in
     let e : w ≡ noted u (did (i + 1) n n) = c.note-seen.ensures.notes in longer_trans v w x (longer_more v u w (did (i + 1) n n) inv.longer (ap (λ (q : View). q.steps) e)) c.mark_seen.ensures.steps
+
+pub returns-then-is_word_of-clause-known : goal.returns-then-is_word_of-clause-known
+returns-then-is_word_of-clause-known g c = known_by c.args.seat.now.place.me.0 c.mark_seen.new.seat.place.me.0 c.args.self.now.words.size c.args.number c.mark_seen.result (returns-then-is_word_of-clause-marks g c)

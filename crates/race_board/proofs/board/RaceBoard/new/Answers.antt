@@ -1,4 +1,4 @@
-use Rattle.std.proofs.Common.{rules, arith, ◌≡◌, ◌≢◌, ℕ, ◌+◌, ◌-◌, ◌<◌, [], ◌∷◌, All, get_or, length, replicate, slice_index, refl, sym, ap, ◌∙◌, subst}
+use Rattle.std.proofs.Common.{rules, arith, ◌≡◌, ◌≢◌, ℕ, ◌+◌, ◌-◌, ◌<◌, ◌≤◌, [], ◌∷◌, All, get_or, length, replicate, slice_index, refl, sym, ap, ◌∙◌, subst}
 use lib.ListN.{length-replicate}
 use Rattle.std.proofs.lemmas.List.Elements.{All-append}
 use Rattle.race_board.specs.Words.{ban_word}
@@ -10,6 +10,7 @@ use Rattle.race_board.specs.declared.views.Ban.{Ban}
 use Rattle.race_board.specs.declared.views.View.{View}
 use Rattle.race_board.proofs.Parts.{ban_none}
 use Rattle.race_board.proofs.Controls.{all_lifted}
+use Rattle.race_board.proofs.Known.{no_ban_yet}
 use Rattle.race_board.proofs.board.RaceBoard.new.Goals as goal
 
 pub invariant_of-control : goal.invariant_of-control
@@ -23,6 +24,7 @@ invariant_of-control g c = let v : View = c.loop.place.me.0 in let z : Size = c.
       sized = (blank.0 ∙ (sym bans_are ∙ sym (ap (λ (q : View). q.size.bans) is)), ap (λ (q : View). length q.bans) is ∙ (length-replicate z.bans no_ban ∙ sym (ap (λ (q : View). q.size.bans) is)));
       latest = (none.0 ∙ (sym slots_are ∙ sym (ap (λ (q : View). q.size.slots) is)), none.1 ∙ (ap (λ (n : ℕ). replicate n 0) (sym slots_are) ∙ sym (ap (λ (q : View). q.last) is)));
       idle = (ap (λ (q : View). q.about) is, ap (λ (q : View). q.loaded) is, ap (λ (q : View). q.half) is);
+      whole = (ap (λ (q : View). q.to_deal) is ∙ (let a : c.args.data_seats ≤ c.loop.counter = search rules in let b : z.seats ≡ c.args.data_seats = search rules in omega arith), ap (λ (q : View). q.joined) is, ap (λ (q : View). q.taken) is);
       standing = λ j. let Of : Ban → Type 0 = λ b. (slice_index c.in_ok-bans.bans.items j ≡ ban_word b.parent b.cancel) × (b.parent < 16777216) × (b.cancel < 65536) × (b.parent ≢ 0 → b.cancel ≢ 0) in
           subst Of (sym (lifted j)) (blank.1 j ∙ sym (ban_none 0 0 refl refl), omega arith, omega arith, λ f. absurd (f refl));
     }
@@ -35,3 +37,6 @@ loop-preserved g c = let v : View = c.loop.place.me.0 in let z : Size = c.in_ok-
       count = search rules;
       all = subst (All (IsNew c.in_ok-board.board)) (sym c.in_ok-push.ensures.items) (All-append (IsNew c.in_ok-board.board) c.loop.seats.items (c.deal.result ∷ []) c.loop.invariant.all (λ k d l. subst (λ (q : ℕ). IsNew c.in_ok-board.board (get_or (c.deal.result ∷ []) q d)) (let e : 0 ≡ k = omega arith in e) c.deal.ensures.seat));
     }
+
+pub returns-clause-free : goal.returns-clause-free
+returns-clause-free g c = let z : Size = c.in_ok-board.board.words.size in no_ban_yet z c.loop.place.me.0 (z.seats - c.loop.counter) (ap (λ (m : Sat). m.0) c.loop.invariant.me)

@@ -7,6 +7,7 @@ use Rattle.race_board.specs.declared.views.Size.{Size}
 use Rattle.race_board.specs.declared.views.Hold.{Hold}
 use Rattle.race_board.specs.declared.views.View.{View}
 use Rattle.race_board.proofs.Gained.{tickets_set, calm_set, Distinct, distinct_set, longer_more, only_more, full_more, takes_at}
+use Rattle.race_board.proofs.Tickets.{Roots, roots_set, fresh_root}
 use Rattle.race_board.proofs.board.RaceBoard.take_slot.Goals as goal
 
 pub claim-requires-clause-data : goal.claim-requires-clause-data
@@ -45,6 +46,7 @@ invariant_of-seat g c = let seat = c.loop-slot.seat in let i : ℕ = c.loop-slot
       tickets = subst (λ (hs : List Hold). (k : ℕ) → (number (get_or (set seat.words.items i y) k 0) ≡ (get_or hs k no_hold).number) × (parent (get_or (set seat.words.items i y) k 0) ≡ (get_or hs k no_hold).parent))
           (sym held) (tickets_set seat.words.items u.held i y new near inside refl refl seat.tickets);
       distinct = subst Distinct (sym held) (distinct_set u.held i new inside seat.distinct (λ k f n h. c.claim.ensures.alone k n (h ∙ is)));
+      roots = subst Roots (sym held) (roots_set u.held i new inside (fresh_root (parent y)) seat.roots);
       calm = subst (λ (hs : List Hold). (k : ℕ) → (get_or hs k no_hold).seek ≡ 0) (sym held) (calm_set u.held i new inside refl seat.calm);
       refused = subst (λ (n : ℕ). (seat.told ≡ Rattle.std.specs.Prelude.false → n ≡ 0) × (seat.told ≡ Rattle.std.specs.Prelude.true → n ≡ 1)) (sym (ap (λ (q : View). q.told) e)) seat.refused;
       drawn = subst (λ (n : ℕ). n < 1048576) (sym (ap (λ (q : View). q.drawn) e)) (omega arith);

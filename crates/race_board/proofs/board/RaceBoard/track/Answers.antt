@@ -9,6 +9,7 @@ use Rattle.race_board.specs.declared.views.View.{View}
 use Rattle.race_board.proofs.Gained.{longer_same, longer_more, saw_now}
 use Rattle.race_board.proofs.Marks.{cleared_mark, cancelled_mark}
 use Rattle.race_board.proofs.Tracked.{twice, after_both, becomes_fields}
+use Rattle.race_board.proofs.Tickets.{Roots, roots_set, tracked_clear}
 use Rattle.race_board.proofs.board.RaceBoard.track.Goals as goal
 
 pub invariant_of-seat : goal.invariant_of-seat
@@ -22,6 +23,7 @@ invariant_of-seat g c = let seat = c.args.seat.now in let v : View = seat.place.
       sized = (seat.sized.0 ∙ sym (ap (λ (q : View). q.size.slots) e), ap (λ (q : View). length q.held) e ∙ (length-set v.held i t.0 ∙ (seat.sized.1 ∙ sym (ap (λ (q : View). q.size.slots) e))));
       tickets = λ q. let k = seat.tickets q in (k.0 ∙ sym (fields q).0, k.1 ∙ sym (fields q).1);
       distinct = λ q r some f. seat.distinct q r (λ x. some ((fields q).0 ∙ x)) (sym (fields q).0 ∙ (f ∙ (fields r).0));
+      roots = subst Roots (sym (ap (λ (q : View). q.held) e)) (roots_set v.held i t.0 inside (λ f. t.5 ∙ seat.roots i (sym t.3 ∙ f)) seat.roots);
       calm = λ q. (fields q).2;
       refused = subst (λ (k : ℕ). (seat.told ≡ Rattle.std.specs.Prelude.false → k ≡ 0) × (seat.told ≡ Rattle.std.specs.Prelude.true → k ≡ 1)) (sym (ap (λ (q : View). q.told) e)) seat.refused;
       drawn = subst (λ (k : ℕ). k < 1048576) (sym (ap (λ (q : View). q.drawn) e)) seat.drawn;
@@ -60,3 +62,15 @@ returns-in-Some-clause-steps g c = let seat = c.args.seat.now in let v : View = 
     let m : ℕ = c.set_bits.result in let d : Did = did (z.slots + z.bans + i + 1) m (bit_or m b) in
     let mark = cancelled_mark n c.in-Some.mark (sym c.mark_in.ensures ∙ c.in-Some.is) in let e = c.track_look.ensures.marked (λ f. mark.1 (sym mark.0 ∙ f)) in
     longer_more v u w (did (i + 1) n n) (longer_more v v u d (longer_same v) (ap (λ (q : View). q.steps) c.set_bits.ensures.sets)) (ap (λ (q : View). q.steps) e)
+
+pub returns-in-Some-clause-clear : goal.returns-in-Some-clause-clear
+returns-in-Some-clause-clear g c = let seat = c.args.seat.now in let v : View = seat.place.me.0 in let i : ℕ = c.slot_of-slot.result in let n : ℕ = c.track_look.result in let z : Size = c.args.self.now.words.size in let m : ℕ = c.set_bits.result in
+    let inside : i < length v.held = (let p = c.slot_of-slot.ensures.0 in let q = seat.sized in omega arith) in
+    tracked_clear v c.set_bits.new.seat.me.0 c.track_look.new.seat.me.0 i c.node_bit.result n c.args.ticket.now.id.number (did (z.slots + z.bans + i + 1) m (bit_or m c.node_bit.result)) (did (i + 1) n n) inside c.set_bits.ensures.sets c.track_look.ensures.cleared c.track_look.ensures.marked
+    (λ e. c.slot_of-slot.ensures.2 (ap (λ x. x.number) c.id.ensures ∙ e)) (c.slot_of-slot.ensures.1 ∙ ap (λ x. x.number) c.id.ensures) seat.distinct c.requires.clear
+
+pub returns-in-None-clause-clear : goal.returns-in-None-clause-clear
+returns-in-None-clause-clear g c = let seat = c.args.seat.now in let v : View = seat.place.me.0 in let i : ℕ = c.slot_of-slot.result in let n : ℕ = c.track_look.result in let z : Size = c.args.self.now.words.size in let m : ℕ = c.set_bits.result in
+    let inside : i < length v.held = (let p = c.slot_of-slot.ensures.0 in let q = seat.sized in omega arith) in
+    tracked_clear v c.set_bits.new.seat.me.0 c.track_look.new.seat.me.0 i c.node_bit.result n c.args.ticket.now.id.number (did (z.slots + z.bans + i + 1) m (bit_or m c.node_bit.result)) (did (i + 1) n n) inside c.set_bits.ensures.sets c.track_look.ensures.cleared c.track_look.ensures.marked
+    (λ e. c.slot_of-slot.ensures.2 (ap (λ x. x.number) c.id.ensures ∙ e)) (c.slot_of-slot.ensures.1 ∙ ap (λ x. x.number) c.id.ensures) seat.distinct c.requires.clear

@@ -20,6 +20,7 @@ invariant_of-seat g c = let seat = c.args.seat.now in let v : View = seat.place.
       sized = (length-set seat.bans.items j 0 ∙ (seat.sized.0 ∙ sym (ap (λ (q : Size). q.bans) size)), ap length bans_are ∙ (length-set v.bans j no_ban ∙ (seat.sized.1 ∙ sym (ap (λ (q : Size). q.bans) size))));
       latest = (seat.latest.0 ∙ sym (ap (λ (q : Size). q.slots) size), seat.latest.1 ∙ sym (ap (λ (q : View). q.last) e));
       idle = (ap (λ (q : View). q.about) e ∙ seat.idle.0, ap (λ (q : View). q.loaded) e ∙ seat.idle.1, ap (λ (q : View). q.half) e ∙ seat.idle.2);
+      whole = (ap (λ (q : View). q.to_deal) e ∙ seat.whole.0, ap (λ (q : View). q.joined) e ∙ seat.whole.1, ap (λ (q : View). q.taken) e ∙ seat.whole.2);
       standing = subst (λ (x : ℕ × List Ban). (i : ℕ) → (slice_index (set seat.bans.items j x.0) i ≡ ban_word (get_or x.1 i no_ban).parent (get_or x.1 i no_ban).cancel) × ((get_or x.1 i no_ban).parent < 16777216) × ((get_or x.1 i no_ban).cancel < 65536) × ((get_or x.1 i no_ban).parent ≢ 0 → (get_or x.1 i no_ban).cancel ≢ 0))
           (λ i. (ban_none 0 0 refl refl i, sym bans_are i)) (bans_set seat.bans.items v.bans j no_ban near inside (omega arith) (omega arith) (λ f. absurd (f refl)) seat.standing);
     }

@@ -1,7 +1,7 @@
 ghost use Rattle.std.specs.Prelude.{◌≡◌, IfOk};
 ghost use Rattle.race_board.specs.Seats.{seat_view, IsSeatOf};
 
-use crate::{AnyCancel, BoardParts, DataSeat, RaceBoard};
+use race_board::{AnyCancel, BoardParts, DataSeat, RaceBoard};
 use std::alloc::{AllocError, Global};
 use std::test::Fail;
 use std::thread;
