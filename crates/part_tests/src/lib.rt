@@ -22,3 +22,5 @@ mod shards;
 mod tables;
 #[cfg(test)]
 mod tracks;
+#[cfg(test)]
+mod waits;
