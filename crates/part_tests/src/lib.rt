@@ -15,6 +15,8 @@ mod ids;
 #[cfg(test)]
 mod phases;
 #[cfg(test)]
+mod reindexes;
+#[cfg(test)]
 mod scripts;
 #[cfg(test)]
 mod shards;
