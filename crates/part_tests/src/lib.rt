@@ -15,6 +15,8 @@ mod ids;
 #[cfg(test)]
 mod phases;
 #[cfg(test)]
+mod reindexes;
+#[cfg(test)]
 mod scripts;
 #[cfg(test)]
 mod shards;
@@ -22,3 +24,5 @@ mod shards;
 mod tables;
 #[cfg(test)]
 mod tracks;
+#[cfg(test)]
+mod waits;

@@ -6,7 +6,7 @@ ghost use Rattle.query_parse.specs.Bodies.{Gives, count_of, count_or, from_of, s
 
 use crate::fault::{BodyError, QueryFault};
 use crate::reading::read_query;
-use crate::shape::{is_one_of, member};
+use crate::shape::{first_unknown, member};
 use crate::sort_reading::read_sort;
 use query_match::{Items, Query, SearchBody, SortBy, Text};
 use serde_json::{Map, Value};
@@ -62,12 +62,7 @@ const BODY_FIELDS: [&str; 5] = ["query", "sort", "from", "size", "track_total_hi
 fn unknown_field(members: &Map<String, Value>) -> Option<&str>
     ensures { option_map (λ f. f.now) result ≡ unknown_field (members_view members.now.entries) }
 {
-    for (key, _) in members.iter() {
-        if !is_one_of(key.as_str(), &BODY_FIELDS) {
-            return Some(key.as_str());
-        }
-    }
-    None
+    first_unknown(members, &BODY_FIELDS)
 }
 
 #[tactic(auto, unfolding(crate::specs::Bodies::query_of))]

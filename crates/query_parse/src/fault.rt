@@ -128,3 +128,58 @@ impl BodyError {
         }
     }
 }
+
+/// Why the body of a reindex could not be read: the first fault, in the order of unknown fields, `source`, `dest`, the query and `size`.
+#[derive(Drop)]
+pub enum ReindexError {
+    /// The path of the first field that is not known: of the body, then of `source`, then of `dest`, each in the order of their bytes.
+    UnknownField(Text),
+    /// The path of the first missing or wrong field: `source`, `source.index`, `dest`, `dest.index`, which is also wrong where it is the source's, `dest.op_type` or `source.size`. A body that is no object is wrong at the empty path.
+    BadReindex(Text),
+    /// The first fault of the query. The path has the keys and the places of lists from `query` on, joined by dots.
+    BadQuery { path: Text, kind: QueryFault },
+    /// Memory ran out.
+    Memory,
+}
+
+impl From<AllocError> for ReindexError {
+    ghost use Rattle.std.specs.Prelude.{◌≡◌};
+    ghost use Rattle.query_parse.specs.declared.fault.ReindexError.TheVariants.{Memory};
+
+    ghost from_gives = { λ _ e. e ≡ Memory };
+
+    fn from(_e: AllocError) -> ReindexError {
+        ReindexError::Memory
+    }
+}
+
+impl From<QueryError> for ReindexError {
+    ghost use Rattle.std.specs.Prelude.{◌≡◌};
+    ghost use Rattle.query_parse.specs.Reindexes.{reindex_error};
+
+    ghost from_gives = { λ e r. r ≡ reindex_error e };
+
+    fn from(error: QueryError) -> ReindexError {
+        match error {
+            QueryError::Bad { path, kind } => ReindexError::BadQuery { path, kind },
+            QueryError::Memory => ReindexError::Memory,
+        }
+    }
+}
+
+impl ReindexError {
+    /// An equal error. It fails only for want of memory.
+    pub fn copy(&self) -> Result<ReindexError, AllocError>
+        ensures { IfOk result (λ error. error ≡ self.now) }
+    {
+        match self {
+            ReindexError::UnknownField(field) => Ok(ReindexError::UnknownField(field.copy()?)),
+            ReindexError::BadReindex(field) => Ok(ReindexError::BadReindex(field.copy()?)),
+            ReindexError::BadQuery { path, kind } => Ok(ReindexError::BadQuery {
+                path: path.copy()?,
+                kind: *kind,
+            }),
+            ReindexError::Memory => Ok(ReindexError::Memory),
+        }
+    }
+}

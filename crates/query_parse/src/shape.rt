@@ -1,6 +1,6 @@
 //! The shapes of JSON values that bodies are made of.
 
-ghost use Rattle.std.specs.Prelude.{◌≡◌, map, option_map};
+ghost use Rattle.std.specs.Prelude.{◌≡◌, map, option_map, find, not};
 ghost use Rattle.std.specs.List.{list_all};
 ghost use Rattle.serde_json.specs.Find.{get_member};
 ghost use Rattle.serde_json.specs.View.{view, members_view};
@@ -71,6 +71,19 @@ pub(crate) fn is_one_of(name: &str, names: &[&str]) -> bool
         }
     }
     false
+}
+
+/// The first key that is none of some names.
+pub(crate) fn first_unknown<'v>(members: &'v Map<String, Value>, names: &[&str]) -> Option<&'v str>
+    ensures { option_map (λ f. f.now) result
+        ≡ find (λ k. not (is_one_of (map (λ n. n.now) names.now) k)) (member_keys (members_view members.now.entries)) }
+{
+    for (key, _) in members.iter() {
+        if !is_one_of(key.as_str(), names) {
+            return Some(key.as_str());
+        }
+    }
+    None
 }
 
 /// Whether each key is one of some names.
