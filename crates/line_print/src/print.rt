@@ -63,7 +63,7 @@ fn push_hit(alloc: Global, out: &mut Vec<u8>, hit: &Hit) -> Result<(), AllocErro
     push(out, "{\"_id\":")?;
     push_quoted(alloc, out, hit.doc.id.as_str())?;
     push(out, ",\"_index\":")?;
-    push_quoted(alloc, out, hit.index.as_str())?;
+    push_quoted(alloc, out, hit.index.get().as_str())?;
     push(out, ",\"_source\":")?;
     hit.doc.source.print(alloc, out)?;
     push(out, "}")

@@ -1,9 +1,10 @@
 //! The text of one event, into bytes, and a copy of a request, which no command makes yet.
 
 use event_text::print_event;
+use shared_value::Shared;
 use std::alloc::{AllocError, Global};
 use task_events::{Event, FetchAsk, Request};
-use task_ids::{Boxed, Items, TaskId, Text};
+use task_ids::{Items, TaskId, Text};
 
 /// Whether this text is told of a refusal.
 fn tells(alloc: Global, wanted: &[u8]) -> bool {
@@ -27,12 +28,12 @@ fn request(alloc: Global) -> Result<Request, AllocError> {
     places.push(3)?;
     places.push(5)?;
     let ask = FetchAsk {
-        index: Text::new(String::from_str(alloc, "books")?),
+        index: Shared::new(alloc, Text::new(String::from_str(alloc, "books")?))?,
         shard: 1,
         version: 7,
         places,
     };
-    Ok(Request::Fetch(Boxed::new(alloc, ask)?))
+    Ok(Request::Fetch(Shared::new(alloc, ask)?))
 }
 
 /// Whether the copy of a request asks the same.
@@ -41,7 +42,7 @@ fn is_copied(request: &Request) -> bool {
         return false;
     };
     let (asked, copied) = (asked.get(), copied.get());
-    copied.index.as_str() == asked.index.as_str()
+    copied.index.get().as_str() == asked.index.get().as_str()
         && copied.shard == asked.shard
         && copied.version == asked.version
         && copied.places.as_slice() == asked.places.as_slice()

@@ -7,6 +7,7 @@ use query_match::{Query, SearchBody, SortBy};
 use search_phase::{FetchAnswer, ShardFetch, ShardQuery, TurnAnswer};
 use serde_json::Value;
 use shard_docs::Shard;
+use shared_value::Shared;
 use std::alloc::{AllocError, Global};
 use task_events::{FetchAsk, Hit, HitKey, ShardAsk, ShardTop, SlicePick};
 use task_ids::{Doc, DocSource, Items, Text};
@@ -26,7 +27,7 @@ fn text(alloc: Global, text: &str) -> Result<Text, AllocError> {
 fn write(alloc: Global, shard: &mut Shard, line: &str) -> Option<()> {
     let (id, source) = line.split_once(" ")?;
     let id = text(alloc, id).ok()?;
-    let source = DocSource::new(Value::from_str(alloc, source).ok()?).ok()?;
+    let source = DocSource::new(alloc, Value::from_str(alloc, source).ok()?).ok()?;
     shard.write(Doc { id, source }).ok()?;
     Some(())
 }
@@ -49,7 +50,7 @@ fn by_n(alloc: Global) -> Option<SearchBody> {
     })
     .ok()?;
     Some(SearchBody {
-        query: Query::all(),
+        query: Query::all(alloc).ok()?,
         sort,
         from: 0,
         size: 10,
@@ -63,8 +64,8 @@ fn ask(
     slice: Option<SlicePick>,
     after: Option<HitKey>,
 ) -> Option<ShardAsk> {
-    let index = Text::new(String::new(alloc));
-    let body = by_n(alloc)?;
+    let index = Shared::new(alloc, Text::new(String::new(alloc))).ok()?;
+    let body = Shared::new(alloc, by_n(alloc)?).ok()?;
     Some(ShardAsk {
         index,
         shard: 0,
@@ -163,7 +164,7 @@ fn hits_in(alloc: Global, shard: &Shard, ask: FetchAsk) -> Option<Items<Hit>> {
 fn hits(alloc: Global, version: u32, places: &[u32]) -> Option<Items<Hit>> {
     let places = Vec::from_slice(alloc, places).ok()?;
     let ask = FetchAsk {
-        index: Text::new(String::new(alloc)),
+        index: Shared::new(alloc, Text::new(String::new(alloc))).ok()?,
         shard: 0,
         version,
         places: Items::from_vec(places),

@@ -17,7 +17,7 @@ fn hashes_place_documents(rt: HostRuntime) {
 fn write(alloc: Global, shard: &mut Shard, source: &str) -> Option<Written> {
     let id = Text::new(String::from_str(alloc, "x").ok()?);
     let value = Value::from_str(alloc, source).ok()?;
-    let source = DocSource::new(value).ok()?;
+    let source = DocSource::new(alloc, value).ok()?;
     shard.write(Doc { id, source }).ok()
 }
 

@@ -1,14 +1,16 @@
-ghost use Rattle.std.specs.Prelude.{◌≡◌};
+ghost use Rattle.std.specs.Prelude.{◌≡◌, IfOk};
 
 use crate::items::Items;
 use crate::scalar::Scalar;
 use crate::text::Text;
+use shared_value::Shared;
+use std::alloc::{AllocError, Global};
 use std::marker::Model;
 
-/// A query of a search.
+/// A query of a search. It is never changed, and its copies are other owners of the same tree.
 #[derive(Drop)]
 pub struct Query {
-    pub(crate) node: Node,
+    node: Shared<Node>,
 }
 
 impl Model for Query {
@@ -28,25 +30,36 @@ impl Query {
     ghost use Rattle.query_match.specs.Query.{match_all};
     ghost use Rattle.query_match.specs.View.{query_view};
 
-    /// The query that a tree stands for, which moves in.
-    pub fn new(node: Node) -> Query
-        ensures { result ≡ query_view node }
+    /// The query that a tree stands for, which moves in. It fails only for want of memory.
+    pub fn new(alloc: Global, node: Node) -> Result<Query, AllocError>
+        ensures { IfOk result (λ query. query ≡ query_view node) }
     {
-        Query { node }
+        Ok(Query {
+            node: Shared::new(alloc, node)?,
+        })
     }
 
     /// The tree, borrowed.
     pub fn node(&self) -> &Node
         ensures { query_view result.now ≡ self.now }
     {
-        &self.node
+        self.node.get()
     }
 
-    /// The query that every document matches.
-    pub fn all() -> Query
-        ensures { result ≡ match_all }
+    /// The query that every document matches. It fails only for want of memory.
+    pub fn all(alloc: Global) -> Result<Query, AllocError>
+        ensures { IfOk result (λ query. query ≡ match_all) }
     {
-        Query { node: Node::All }
+        Query::new(alloc, Node::All)
+    }
+
+    /// An equal query, which takes no memory. It fails only where there are 2^63 of them.
+    pub fn copy(&self) -> Result<Query, AllocError>
+        ensures { IfOk result (λ query. query ≡ self.now) }
+    {
+        Ok(Query {
+            node: self.node.copy()?,
+        })
     }
 }
 

@@ -190,5 +190,5 @@ fn read_list(alloc: Global, path: &Path<'_>, values: &[Value]) -> Result<Vec<Nod
 pub fn read_query(alloc: Global, value: &Value) -> Result<Query, QueryError>
     ensures { Gives (λ q. q) result (query_at (codes "query") (view value.now)) }
 {
-    Ok(Query::new(read_node(alloc, &Path::Query, value)?))
+    Ok(Query::new(alloc, read_node(alloc, &Path::Query, value)?)?)
 }

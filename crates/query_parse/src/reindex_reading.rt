@@ -160,7 +160,7 @@ fn query_or_all(alloc: Global, value: Option<&Value>) -> Result<Query, ReindexEr
     ensures { Gives (λ q. q) result (query_of (option_map (λ v. view v.now) value.entry)) }
 {
     match value {
-        None => Ok(Query::all()),
+        None => Ok(Query::all(alloc)?),
         Some(value) => Ok(read_query(alloc, value)?),
     }
 }

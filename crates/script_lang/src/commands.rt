@@ -20,7 +20,7 @@ use crate::fields::{
 use crate::kind::Kind;
 use serde_json::{Map, Value};
 use std::alloc::Global;
-use task_ids::{Cause, DocSource, Text};
+use task_ids::{Cause, DocSource, NotSource, Text};
 
 /// Why a task is cancelled where a script does not say.
 const DEFAULT_REASON: &str = "by user request";
@@ -83,7 +83,11 @@ fn body_from(alloc: Global, value: Option<&Value>) -> Result<DocSource, CommandE
         Some(body) => body.clone()?,
         None => Value::Object(Map::new(alloc)),
     };
-    Ok(DocSource::new(body).unwrap())
+    match DocSource::new(alloc, body) {
+        Ok(body) => Ok(body),
+        Err(NotSource::Memory) => Err(CommandError::Memory),
+        Err(NotSource::NotWhole | NotSource::NotObject) => unreachable!(),
+    }
 }
 
 /// The index, the node and the body of a search on a cluster of so many nodes.

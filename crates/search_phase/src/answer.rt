@@ -112,7 +112,7 @@ fn hits_of(asked: &Asked) -> &[Hit]
     ensures { result.now ≡ hits_in asked.now.answer }
 {
     match &asked.answer {
-        Some(Reply::Hits(hits)) => hits.as_slice(),
+        Some(Reply::Hits(hits)) => hits.get().as_slice(),
         _ => &[],
     }
 }

@@ -9,9 +9,9 @@ ghost use Rattle.search_phase.specs.FetchPhase.{fetch_by, request_by};
 
 use crate::fetching::Fetching;
 use crate::possible::{fetch_can_have, query_can_have};
+use shared_value::Shared;
 use std::alloc::{AllocError, Global};
 use task_events::{FetchAsk, Reply, Request, SearchAsk, ShardAsk};
-use task_ids::Boxed;
 
 /// The request of the query of a shard.
 fn query_request(alloc: Global, ask: &SearchAsk, shard: u32) -> Result<Option<Request>, AllocError>
@@ -25,7 +25,7 @@ fn query_request(alloc: Global, ask: &SearchAsk, shard: u32) -> Result<Option<Re
         after: None,
         slice: ask.slice,
     };
-    let query = Boxed::new(alloc, query)?;
+    let query = Shared::new(alloc, query)?;
     Ok(Some(Request::Query(query)))
 }
 
@@ -34,7 +34,7 @@ fn fetch_request(alloc: Global, fetch: &FetchAsk) -> Result<Option<Request>, All
     ensures { IfOk result (λ request. request ≡ Some (Request.Fetch fetch.now)) }
 {
     let fetch = fetch.copy()?;
-    let fetch = Boxed::new(alloc, fetch)?;
+    let fetch = Shared::new(alloc, fetch)?;
     Ok(Some(Request::Fetch(fetch)))
 }
 

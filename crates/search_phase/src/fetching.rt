@@ -110,7 +110,7 @@ fn fetching_of(alloc: Global, ask: &SearchAsk, queries: &[Asked]) -> Result<Fetc
 {
     let tops = tops_of(alloc, queries)?;
     let keys = keys_of(alloc, tops.as_slice())?;
-    let won = Items::from_vec(cut_keys(alloc, keys, ask.body.from, ask.body.size)?);
+    let won = Items::from_vec(cut_keys(alloc, keys, ask.body.get().from, ask.body.get().size)?);
     let fetches = fetches_of(alloc, ask, won.as_slice(), tops.as_slice())?;
     Ok(Fetching { won, fetches })
 }

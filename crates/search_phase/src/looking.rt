@@ -23,7 +23,7 @@ fn is_found(ask: &ShardAsk, doc: &Doc) -> bool
     ensures { result ≡ is_found ask.now.body ask.now.slice doc.now }
 {
     let id = doc.id.as_str().as_bytes();
-    matches(&ask.body.query, id, doc.source.as_value()) && is_in_slice(ask.slice, id)
+    matches(&ask.body.get().query, id, doc.source.as_value()) && is_in_slice(ask.slice, id)
 }
 
 /// Adds the key of a row, where it matches.
@@ -34,7 +34,7 @@ fn add_key(keys: &mut Vec<HitKey>, ask: &ShardAsk, place: u32, doc: &Doc) -> Res
     if is_found(ask, doc) {
         let sort = sort_key(
             *keys.allocator(),
-            ask.body.sort.as_slice(),
+            ask.body.get().sort.as_slice(),
             doc.source.as_value(),
         )?;
         keys.push(HitKey {

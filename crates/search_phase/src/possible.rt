@@ -39,7 +39,7 @@ fn is_top_for(ask: &SearchAsk, shard: u32, top: &ShardTop) -> bool
     ensures { result ≡ is_top_for (query_of ask.now shard) top.now }
 {
     let keys = top.keys.as_slice();
-    let window = u64::from(ask.body.from) + u64::from(ask.body.size);
+    let window = u64::from(ask.body.get().from) + u64::from(ask.body.get().size);
     top.shard == shard
         && top.count < MAX_COUNT
         && keys.len() as u64 <= window
@@ -62,7 +62,7 @@ pub(crate) fn query_can_have(ask: &SearchAsk, shard: u32, reply: &Reply) -> bool
 fn are_of_index(hits: &[Hit], index: &str) -> bool
     ensures { result ≡ list_all (λ hit. bytes_eq index.now hit.index) hits.now }
 {
-    hits.iter().all(|hit| index == hit.index.as_str())
+    hits.iter().all(|hit| index == hit.index.get().as_str())
 }
 
 /// Whether the places of some hits are some of these, in their order.
@@ -85,8 +85,9 @@ pub(crate) fn fetch_can_have(fetch: &FetchAsk, reply: &Reply) -> bool
     match reply {
         Reply::Cancelled { .. } | Reply::Rejected { .. } => true,
         Reply::Hits(hits) => {
-            let hits = hits.as_slice();
-            are_of_index(hits, fetch.index.as_str()) && are_among(hits, fetch.places.as_slice())
+            let hits = hits.get().as_slice();
+            are_of_index(hits, fetch.index.get().as_str())
+                && are_among(hits, fetch.places.as_slice())
         }
         Reply::Search(_) | Reply::Top(_) | Reply::AllFailed(_) => false,
     }

@@ -129,7 +129,7 @@ impl ShardQuery {
         let end = start + (version - start).min(ROWS_PER_TURN);
         let found = keys_between(self.alloc, &self.ask, shard, version, start, end)?;
         let matched = found.len() as u64;
-        let most = self.ask.body.from as usize + self.ask.body.size as usize;
+        let most = self.ask.body.get().from as usize + self.ask.body.get().size as usize;
         keep_all(&mut self.first, most, &self.ask.after, found)?;
         self.version = Some(version);
         self.turns += 1;

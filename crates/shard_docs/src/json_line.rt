@@ -61,9 +61,10 @@ pub(crate) fn source_of_line(
     ensures { Gives (λ source. source) result (on_line number (source_of line.now)) }
 {
     let value = value_of_line(alloc, number, line)?;
-    match DocSource::new(value) {
+    match DocSource::new(alloc, value) {
         Ok(source) => Ok(source),
         Err(NotSource::NotWhole) => Err(CorpusError::at(number, Cause::NotWhole)),
         Err(NotSource::NotObject) => Err(CorpusError::at(number, Cause::NotObject)),
+        Err(NotSource::Memory) => Err(CorpusError::Memory),
     }
 }

@@ -6,7 +6,7 @@ use crate::reply::{Hit, Reply, SearchReply, ShardTop};
 use crate::request::{FetchAsk, HitKey, Request, SearchAsk, ShardAsk};
 use query_match::{Copied, copies_of};
 use std::alloc::AllocError;
-use task_ids::{Boxed, Items};
+use task_ids::Items;
 
 impl HitKey {
     /// An equal key.
@@ -112,15 +112,9 @@ impl Request {
         ensures { IfOk result (λ request. request ≡ self.now) }
     {
         match self {
-            Request::Search(ask) => {
-                Ok(Request::Search(Boxed::new(ask.allocator(), ask.get().copy()?)?))
-            }
-            Request::Query(ask) => {
-                Ok(Request::Query(Boxed::new(ask.allocator(), ask.get().copy()?)?))
-            }
-            Request::Fetch(ask) => {
-                Ok(Request::Fetch(Boxed::new(ask.allocator(), ask.get().copy()?)?))
-            }
+            Request::Search(ask) => Ok(Request::Search(ask.copy()?)),
+            Request::Query(ask) => Ok(Request::Query(ask.copy()?)),
+            Request::Fetch(ask) => Ok(Request::Fetch(ask.copy()?)),
         }
     }
 }
@@ -175,31 +169,15 @@ impl SearchReply {
     }
 }
 
-/// An equal answer, in a box of its own.
-fn copy_search_reply(reply: &Boxed<SearchReply>) -> Result<Boxed<SearchReply>, AllocError>
-    ensures { IfOk result (λ copy. copy ≡ reply.now) }
-{
-    let copy = reply.get().copy()?;
-    Ok(Boxed::new(reply.allocator(), copy)?)
-}
-
-/// An equal top, in a box of its own.
-fn copy_top(top: &Boxed<ShardTop>) -> Result<Boxed<ShardTop>, AllocError>
-    ensures { IfOk result (λ copy. copy ≡ top.now) }
-{
-    let copy = top.get().copy()?;
-    Ok(Boxed::new(top.allocator(), copy)?)
-}
-
 impl Reply {
     /// An equal reply.
     pub fn copy(&self) -> Result<Reply, AllocError>
         ensures { IfOk result (λ reply. reply ≡ self.now) }
     {
         match self {
-            Reply::Search(reply) => Ok(Reply::Search(copy_search_reply(reply)?)),
-            Reply::Top(top) => Ok(Reply::Top(copy_top(top)?)),
-            Reply::Hits(hits) => Ok(Reply::Hits(copy_hits(hits)?)),
+            Reply::Search(reply) => Ok(Reply::Search(reply.copy()?)),
+            Reply::Top(top) => Ok(Reply::Top(top.copy()?)),
+            Reply::Hits(hits) => Ok(Reply::Hits(hits.copy()?)),
             Reply::AllFailed(failed) => Ok(Reply::AllFailed(copy_values(failed)?)),
             Reply::Cancelled {
                 task,

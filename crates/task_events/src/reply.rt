@@ -2,17 +2,18 @@ ghost use Rattle.std.specs.Prelude.{◌≡◌};
 ghost use Rattle.task_events.specs.Tasks.{no_counts};
 
 use crate::request::HitKey;
-use task_ids::{Boxed, Doc, Items, TaskId, Text};
+use shared_value::Shared;
+use task_ids::{Doc, Items, TaskId, Text};
 
-/// What a task answers when it ends.
+/// What a task answers when it ends. What is large in it is shared, so a copy costs a count.
 #[derive(Drop)]
 pub enum Reply {
     /// A search's answer.
-    Search(Boxed<SearchReply>),
+    Search(Shared<SearchReply>),
     /// What a shard found in the query phase.
-    Top(Boxed<ShardTop>),
+    Top(Shared<ShardTop>),
     /// The documents of the fetch phase.
-    Hits(Items<Hit>),
+    Hits(Shared<Items<Hit>>),
     /// Every shard of a search failed. The shards ascend.
     AllFailed(Items<FailedShard>),
     /// The task was cancelled, or refused, by the cancellation of this number.
@@ -105,7 +106,7 @@ pub struct ShardCount {
 /// A document that a search found.
 #[derive(Drop)]
 pub struct Hit {
-    pub index: Text,
+    pub index: Shared<Text>,
     pub doc: Doc,
     /// The place of the document's row in its shard, from 0.
     pub place: u32,

@@ -1,24 +1,25 @@
 ghost use Rattle.std.specs.Prelude.{◌<◌};
 
 use query_match::{SearchBody, SortKey};
-use task_ids::{Boxed, Items, TaskId, Text};
+use shared_value::Shared;
+use task_ids::{Items, TaskId, Text};
 
-/// What a task is asked to do.
+/// What a task is asked to do. What is large in it is shared, so a copy costs a count.
 #[derive(Drop)]
 pub enum Request {
     /// A search of all shards of an index.
-    Search(Boxed<SearchAsk>),
+    Search(Shared<SearchAsk>),
     /// The query phase of a search, of one shard.
-    Query(Boxed<ShardAsk>),
+    Query(Shared<ShardAsk>),
     /// The fetch phase of a search, of one shard.
-    Fetch(Boxed<FetchAsk>),
+    Fetch(Shared<FetchAsk>),
 }
 
 /// A search of all shards of an index, after Elasticsearch's search API.
 #[derive(Drop)]
 pub struct SearchAsk {
-    pub index: Text,
-    pub body: SearchBody,
+    pub index: Shared<Text>,
+    pub body: Shared<SearchBody>,
     /// The keep-alive of the context that the search opens, in milliseconds, where it opens one that expires.
     pub scroll: Option<u64>,
     /// The slice of the index's documents that it reads, where it does not read all.
@@ -43,10 +44,10 @@ pub struct SlicePick {
 /// The query phase of a search in one shard: which rows match, and which of them stand first.
 #[derive(Drop)]
 pub struct ShardAsk {
-    pub index: Text,
+    pub index: Shared<Text>,
     /// The shard, from 0.
     pub shard: u32,
-    pub body: SearchBody,
+    pub body: Shared<SearchBody>,
     /// The version to read, a number of first writes. Where there is none, the shard's version at the first turn is read.
     pub version: Option<u32>,
     /// The cursor: where there is one, only rows after it in hit order are kept.
@@ -58,7 +59,7 @@ pub struct ShardAsk {
 /// The fetch phase of a search in one shard: the documents of some rows.
 #[derive(Drop)]
 pub struct FetchAsk {
-    pub index: Text,
+    pub index: Shared<Text>,
     /// The shard, from 0.
     pub shard: u32,
     /// The version to read, a number of first writes.

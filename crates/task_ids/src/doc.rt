@@ -7,6 +7,7 @@ ghost use Rattle.serde_json.specs.Written.{has_float, items_have_float, members_
 
 use crate::text::Text;
 use serde_json::{Map, Value};
+use shared_value::Shared;
 use std::alloc::{AllocError, Global};
 use std::marker::Model;
 
@@ -29,10 +30,11 @@ impl Doc {
     }
 }
 
-/// The source of a document: a JSON object whose numbers are all whole. Contracts see it as the JSON value.
+/// The source of a document: a JSON object whose numbers are all whole. Contracts see it as the JSON value. It is never changed, and its
+/// copies are other owners of the same value.
 #[derive(Drop)]
 pub struct DocSource {
-    value: Value,
+    value: Shared<Value>,
 }
 
 impl Model for DocSource {
@@ -58,11 +60,13 @@ pub enum NotSource {
     NotWhole,
     /// It is no object.
     NotObject,
+    /// Memory ran out.
+    Memory,
 }
 
 impl DocSource {
     /// The source that a JSON value is, which nests no deeper than 127 as every value that was read.
-    pub fn new(value: Value) -> Result<DocSource, NotSource>
+    pub fn new(alloc: Global, value: Value) -> Result<DocSource, NotSource>
         requires { depth (view value) ≤ max_depth }
         ensures ok { IfOk result (λ source. source ≡ view value) }
         ensures not_whole { IsErrOf result NotSource.NotWhole ↔ (has_float (view value) ≡ true) }
@@ -75,21 +79,24 @@ impl DocSource {
         if !value.is_object() {
             return Err(NotSource::NotObject);
         }
-        Ok(DocSource { value })
+        match Shared::new(alloc, value) {
+            Ok(value) => Ok(DocSource { value }),
+            Err(_) => Err(NotSource::Memory),
+        }
     }
 
     /// The source as a JSON value: an object whose numbers are all whole.
     pub fn as_value(&self) -> &Value
         ensures { view result.now ≡ self.now }
     {
-        &self.value
+        self.value.get()
     }
 
-    /// An equal source. It fails only for want of memory.
+    /// An equal source, which takes no memory. It fails only where there are 2^63 of them.
     pub fn copy(&self) -> Result<DocSource, AllocError>
         ensures { IfOk result (λ source. source ≡ self.now) }
     {
-        let value = self.value.clone()?;
+        let value = self.value.copy()?;
         Ok(DocSource { value })
     }
 
@@ -98,7 +105,7 @@ impl DocSource {
         ensures ok { OnOk result (out.new.items ≡ out.old.items ++ compact_text self.now) }
         ensures err { OnErr result (out.new.items ≡ out.old.items) }
     {
-        let text = self.value.to_string(alloc)?;
+        let text = self.value.get().to_string(alloc)?;
         out.extend_from_slice(text.as_bytes())
     }
 }

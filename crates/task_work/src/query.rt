@@ -7,16 +7,16 @@ ghost use Rattle.task_work.specs.Works.{found_top};
 
 use search_phase::{ShardQuery, TurnAnswer};
 use shard_docs::Shard;
+use shared_value::Shared;
 use std::alloc::AllocError;
 use task_events::{Reply, ShardTop};
-use task_ids::Boxed;
 
 /// The reply with what a query has found.
 pub(crate) fn top_reply(top: &ShardTop) -> Result<Reply, AllocError>
     ensures { IfOk result (λ reply. reply ≡ Reply.Top top.now) }
 {
     let copy = top.copy()?;
-    Ok(Reply::Top(Boxed::new(top.keys.allocator(), copy)?))
+    Ok(Reply::Top(Shared::new(top.keys.allocator(), copy)?))
 }
 
 /// Takes a turn of a query, and keeps what it has found where it was the last.

@@ -7,9 +7,9 @@ ghost use Rattle.task_work.specs.declared.work.Work.{Work};
 ghost use Rattle.task_work.specs.declared.work.Work.TheVariants as works;
 
 use search_phase::{RootPlan, SearchRoot};
+use shared_value::Shared;
 use std::alloc::AllocError;
 use task_events::{Do, Reply, SearchReply};
-use task_ids::Boxed;
 
 /// The reply with the answer of a search, which tells of the failed shards alone where all have failed.
 fn reply_with(shards: u32, answer: SearchReply) -> Result<Reply, AllocError>
@@ -19,7 +19,7 @@ fn reply_with(shards: u32, answer: SearchReply) -> Result<Reply, AllocError>
         let SearchReply { failed, .. } = answer;
         return Ok(Reply::AllFailed(failed));
     }
-    Ok(Reply::Search(Boxed::new(answer.failed.allocator(), answer)?))
+    Ok(Reply::Search(Shared::new(answer.failed.allocator(), answer)?))
 }
 
 /// What a search does next.

@@ -3,13 +3,13 @@ ghost use Rattle.task_ids.specs.declared.doc.Doc.{Doc};
 ghost use Rattle.task_events.specs.Tasks.{no_counts};
 ghost use Rattle.task_work.specs.Works.{new_work, IsWorkOn, HasTurned, next_of, with_turn, can_ask, work_with_ask, work_takes, work_with_answer, EndsPlainly, does_wait, place_of};
 
-use crate::fetch::turn_of_fetch;
+use crate::fetch::{hits_reply, turn_of_fetch};
 use crate::query::{top_reply, turn_of_query};
 use crate::search::next_of_search;
 use search_phase::{SearchRoot, ShardFetch, ShardQuery};
 use shard_docs::Shard;
 use std::alloc::{AllocError, Global};
-use task_events::{Do, Hit, Reply, Request, ShardTop, copy_hits};
+use task_events::{Do, Hit, Reply, Request, ShardTop};
 use task_ids::{Cluster, Items, TaskId};
 
 /// The work of a task.
@@ -58,11 +58,11 @@ impl Work {
             Work::Search(_) => None,
             Work::Query(query, _) => {
                 let ask = query.ask();
-                Some((ask.index.as_str(), ask.shard))
+                Some((ask.index.get().as_str(), ask.shard))
             }
             Work::Fetch(fetch, _) => {
                 let ask = fetch.ask();
-                Some((ask.index.as_str(), ask.shard))
+                Some((ask.index.get().as_str(), ask.shard))
             }
         }
     }
@@ -77,7 +77,7 @@ impl Work {
         match self {
             Work::Search(root) => next_of_search(root),
             Work::Query(_, Some(top)) => Ok(Do::Finish(top_reply(top)?)),
-            Work::Fetch(_, Some(hits)) => Ok(Do::Finish(Reply::Hits(copy_hits(hits)?))),
+            Work::Fetch(_, Some(hits)) => Ok(Do::Finish(hits_reply(hits)?)),
             Work::Query(_, None) | Work::Fetch(_, None) => Ok(Do::Turn),
         }
     }

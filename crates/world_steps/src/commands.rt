@@ -22,7 +22,8 @@ use node_parts::listing::Listing;
 use query_match::SearchBody;
 use query_parse::{BodyError, read_body};
 use script_lang::{CancelTarget, Command};
-use std::alloc::Global;
+use shared_value::Shared;
+use std::alloc::{AllocError, Global};
 use std::collections::BTreeSet;
 use task_events::{Event, SearchAsk, Stop};
 use task_ids::{DocSource, TaskId, Text};
@@ -51,13 +52,19 @@ fn body_of(alloc: Global, body: &DocSource) -> Result<Option<SearchBody>, Stop>
     }
 }
 
+/// A copy of a text, to be shared.
+fn shared_copy(alloc: Global, text: &Text) -> Result<Shared<Text>, AllocError>
+    ensures { IfOk result (λ copy. copy ≡ text.now) }
+{
+    Ok(Shared::new(alloc, text.copy()?)?)
+}
+
 /// The search of all documents of an index that match, which opens no context.
-fn whole_ask(index: &Text, body: SearchBody) -> Result<SearchAsk, Stop>
+fn whole_ask(alloc: Global, index: &Text, body: SearchBody) -> Result<SearchAsk, Stop>
     ensures ask { IfOk result (λ ask. ask ≡ whole_ask index.now body) }
     ensures memory { IfErr result (λ stop. stop ≡ Stop.Memory) }
 {
-    let Ok(index) = index.copy() else {
-        drop(body);
+    let (Ok(index), Ok(body)) = (shared_copy(alloc, index), Shared::new(alloc, body)) else {
         return Err(Stop::Memory);
     };
     Ok(SearchAsk {
@@ -100,7 +107,7 @@ fn search(
         drop(body);
         return Ok(());
     }
-    let ask = whole_ask(index, body)?;
+    let ask = whole_ask(state.alloc, index, body)?;
     let before = state.history.len();
     start(state, number, node, ask)?;
     match refresh(state, ready, before) {

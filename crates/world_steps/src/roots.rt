@@ -13,10 +13,11 @@ ghost use Rattle.world_moves.specs.Ties.{IsTied, Keeps, task_at};
 
 use node_parts::running::Running;
 use node_parts::starting::{new_task, with_work};
+use shared_value::Shared;
 use std::alloc::Global;
 use std::collections::BTreeMap;
 use task_events::{Event, History, Request, SearchAsk, Stop};
-use task_ids::{Boxed, TaskId};
+use task_ids::TaskId;
 use task_table::PutError;
 use world_moves::append::append;
 use world_moves::starting::{keep_started, put_on, spend};
@@ -147,7 +148,7 @@ fn search_request(alloc: Global, ask: SearchAsk) -> Result<Request, Stop>
     ensures request { IfOk result (λ request. request ≡ Request.Search ask) }
     ensures memory { IfErr result (λ stop. stop ≡ Stop.Memory) }
 {
-    match Boxed::new(alloc, ask) {
+    match Shared::new(alloc, ask) {
         Ok(search) => Ok(Request::Search(search)),
         Err(refused) => {
             drop(refused);
