@@ -39,7 +39,8 @@ fn is_top_for(ask: &SearchAsk, shard: u32, top: &ShardTop) -> bool
     ensures { result ≡ is_top_for (query_of ask.now shard) top.now }
 {
     let keys = top.keys.as_slice();
-    let window = u64::from(ask.body.get().from) + u64::from(ask.body.get().size);
+    let body = ask.body.get();
+    let window = u64::from(body.from) + u64::from(body.size);
     top.shard == shard
         && top.count < MAX_COUNT
         && keys.len() as u64 <= window

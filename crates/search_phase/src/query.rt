@@ -129,7 +129,8 @@ impl ShardQuery {
         let end = start + (version - start).min(ROWS_PER_TURN);
         let found = keys_between(self.alloc, &self.ask, shard, version, start, end)?;
         let matched = found.len() as u64;
-        let most = self.ask.body.get().from as usize + self.ask.body.get().size as usize;
+        let body = self.ask.body.get();
+        let most = body.from as usize + body.size as usize;
         keep_all(&mut self.first, most, &self.ask.after, found)?;
         self.version = Some(version);
         self.turns += 1;
