@@ -3,9 +3,9 @@
 
 ghost use Rattle.std.specs.Prelude.{◌≡◌, ◌++◌, [], ◌∷◌, OnOk, OnErr, Some, codes, decimal, string_bytes};
 ghost use Rattle.std.specs.List.{join_with_byte};
-ghost use Rattle.task_ids.specs.TaskId.{task_id_text};
+ghost use Rattle.task_ids.specs.TaskId.{task_id_text, node_name};
 ghost use Rattle.task_events.specs.declared.event.Event.TheVariants.{Acked, Cancel, End, Put, Refuse, RootRejected, Write};
-ghost use Rattle.task_events.specs.Texts.{event_text, node_name};
+ghost use Rattle.task_events.specs.Texts.{event_text};
 
 use std::alloc::AllocError;
 use std::fmt;

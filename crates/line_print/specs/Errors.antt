@@ -7,12 +7,11 @@ use Rattle.query_parse.specs.declared.fault.BodyError.TheVariants.{UnknownField,
 use Rattle.query_parse.specs.declared.fault.QueryFault.{QueryFault}
 use Rattle.query_parse.specs.declared.fault.QueryFault.TheVariants.{UnknownQuery, BadValue, NotOneKey}
 use Rattle.task_ids.specs.declared.task_id.TaskId.{TaskId}
-use Rattle.task_ids.specs.TaskId.{task_id_text}
+use Rattle.task_ids.specs.TaskId.{task_id_text, node_name}
 use Rattle.task_events.specs.declared.reply.FailedShard.{FailedShard}
 use Rattle.task_events.specs.declared.reply.ShardFailure.{ShardFailure}
 use Rattle.task_events.specs.declared.reply.ShardFailure.TheVariants.{Cancelled, Rejected}
 use Rattle.task_events.specs.Printed.{object_of, count}
-use Rattle.task_events.specs.Texts.{node_name}
 
 -- ---- why a search did not start
 

@@ -4,8 +4,7 @@ ghost use Rattle.std.specs.Prelude.{◌≡◌, [], ◌∷◌, ◌++◌, OnOk, If
 ghost use Rattle.serde_json.specs.Data.{string, array, put, no_members};
 ghost use Rattle.query_parse.specs.declared.fault.BodyError.TheVariants.{BadQuery, WindowTooLarge};
 ghost use Rattle.serde_json.specs.View.{view, items_of, members_view};
-ghost use Rattle.task_ids.specs.TaskId.{task_id_text};
-ghost use Rattle.task_events.specs.Texts.{node_name};
+ghost use Rattle.task_ids.specs.TaskId.{task_id_text, node_name};
 ghost use Rattle.task_events.specs.declared.reply.ShardFailure.TheVariants.{Cancelled, Rejected};
 ghost use Rattle.line_print.specs.Errors.{body_error, index_not_found, rejected, task_cancelled, shard_failure, failed_shard, all_shards_failed, id_or_null, not_found, plain_error, no_such_message, field_error, fault_name};
 

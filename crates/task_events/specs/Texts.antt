@@ -1,17 +1,13 @@
 -- How events are told: one line of words with a space between each two.
 use Rattle.std.specs.Prelude.{ℕ, Bool, true, false, List, [], ◌∷◌, codes, decimal}
 use Rattle.std.specs.List.{join_with_byte}
-use Rattle.task_ids.specs.TaskId.{task_id_text}
+use Rattle.task_ids.specs.TaskId.{task_id_text, node_name}
 use Rattle.task_events.specs.declared.reply.Reply.{Reply}
 use Rattle.task_events.specs.declared.reply.Reply.TheVariants.{AllFailed, Cancelled, Rejected}
 use Rattle.task_events.specs.declared.event.Outcome.{Outcome}
 use Rattle.task_events.specs.declared.event.Outcome.TheVariants.{Created, Updated}
 use Rattle.task_events.specs.declared.event.Event.{Event}
 use Rattle.task_events.specs.declared.event.Event.TheVariants.{Begin, Root, RootRejected, Ask, Put, Reject, Pass, Refuse, Cancel, NotFound, Mark, BanPut, Listed, Acked, BanGone, Work, Write, Answered, End, AnswerPlaced, AnswerDone, Tick}
-
--- a node's name
-abbrev pub node_name : ℕ → List ℕ
-node_name n = 110 ∷ decimal n
 
 abbrev pub outcome_name : Outcome → List ℕ
 outcome_name Created = codes "created"

@@ -3,4 +3,5 @@ pub mod Looping
 pub mod TaskParts
 pub mod TopLemmas
 pub mod TreeLemmas
+pub mod Ways
 pub mod WholeLemmas

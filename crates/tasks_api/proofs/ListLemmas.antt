@@ -6,15 +6,15 @@ use Rattle.serde_json.specs.Data.{Data, object, Members, no_members}
 use Rattle.task_ids.specs.declared.task_id.TaskId.{TaskId}
 use Rattle.task_ids.specs.declared.task_info.TaskInfo.{TaskInfo}
 use Rattle.tasks_api.specs.declared.list.GroupBy.TheVariants as groups
-use Rattle.tasks_api.specs.Objects.{object_of}
+use Rattle.tasks_api.specs.Objects.{object_with}
 use Rattle.tasks_api.specs.Lists.{children_of, tree_json, is_top, by_id, on_node, with_node, list_json}
 
 -- the tasks below each parent are its children among the rows
 pub parents_are : (look : List Data → TaskInfo → Data) (below : TaskId → List TaskInfo) (rows tops : List TaskInfo) (levels : ℕ) (tasks : Data) → ((t : TaskId) → below t ≡ children_of rows t)
     → tops ≡ filter (λ row. is_top rows row) rows → levels ≡ length rows → tasks ≡ by_id (tree_json look below levels) tops
-    → object_of ((codes "tasks", tasks) ∷ []) ≡ list_json groups.Parents look rows
+    → object_with ((codes "tasks", tasks) ∷ []) ≡ list_json groups.Parents look rows
 parents_are look below rows tops levels tasks children top all are =
-    ap (λ t. object_of ((codes "tasks", t) ∷ [])) (are ∙ (λ i. by_id (tree_json look (λ t. children t i) (all i)) (top i)))
+    ap (λ t. object_with ((codes "tasks", t) ∷ [])) (are ∙ (λ i. by_id (tree_json look (λ t. children t i) (all i)) (top i)))
 
 -- the nodes from 1 up to one
 abbrev pub first_nodes : (TaskInfo → Data) → List TaskInfo → ℕ → Members
@@ -41,5 +41,5 @@ nodes_more look rows here done now node low is before did =
 
 -- the nodes from 1 up to the last
 pub nodes_are : (look : List Data → TaskInfo → Data) (rows : List TaskInfo) (nodes : Members) (node : ℕ) (whole : Data) → node ≡ 16 → nodes ≡ first_nodes (look []) rows (node - 1) → whole ≡ object nodes
-    → object_of ((codes "nodes", whole) ∷ []) ≡ list_json groups.Nodes look rows
-nodes_are look rows nodes node whole last are is = ap (λ w. object_of ((codes "nodes", w) ∷ [])) (is ∙ ap object (are ∙ ap (first_nodes (look []) rows) (ap (λ n. n - 1) last)))
+    → object_with ((codes "nodes", whole) ∷ []) ≡ list_json groups.Nodes look rows
+nodes_are look rows nodes node whole last are is = ap (λ w. object_with ((codes "nodes", w) ∷ [])) (is ∙ ap object (are ∙ ap (first_nodes (look []) rows) (ap (λ n. n - 1) last)))

@@ -2,7 +2,7 @@
 use Rattle.std.proofs.Common.{◌≡◌, ℕ, List, ◌++◌, ◌∙◌, sym, ap}
 use Rattle.std.proofs.lemmas.List.Sums.{fold-append}
 use Rattle.serde_json.specs.Data.{Data, object, Members, no_members}
-use Rattle.tasks_api.specs.Objects.{with_members, object_of}
+use Rattle.tasks_api.specs.Objects.{with_members, object_with}
 
 abbrev Named : Type 0
 Named = List (List ℕ × Data)
@@ -15,7 +15,7 @@ then_part m n xs ys h e = e ∙ ap (λ k. with_members k ys) h ∙ sym (with_bot
 
 pub part_by_part : (m0 m1 m2 m3 m4 m5 m6 : Members) (a b c d e f : Named) → m0 ≡ no_members
     → m1 ≡ with_members m0 a → m2 ≡ with_members m1 b → m3 ≡ with_members m2 c → m4 ≡ with_members m3 d → m5 ≡ with_members m4 e → m6 ≡ with_members m5 f
-    → object m6 ≡ object_of (a ++ b ++ c ++ d ++ e ++ f)
+    → object m6 ≡ object_with (a ++ b ++ c ++ d ++ e ++ f)
 part_by_part m0 m1 m2 m3 m4 m5 m6 a b c d e f h0 h1 h2 h3 h4 h5 h6 =
     let e1 = h1 ∙ ap (λ m. with_members m a) h0 in
     let e2 = then_part m1 m2 a b e1 h2 in

@@ -13,7 +13,7 @@ use Rattle.task_ids.specs.declared.task_id.TaskId.{TaskId}
 use Rattle.task_ids.specs.declared.task_info.TaskInfo.{TaskInfo}
 use Rattle.tasks_api.specs.declared.list.GroupBy.{GroupBy}
 use Rattle.tasks_api.specs.declared.list.GroupBy.TheVariants as groups
-use Rattle.tasks_api.specs.Objects.{with_each, with_members, object_of}
+use Rattle.tasks_api.specs.Objects.{with_each, with_members, object_with}
 use Rattle.tasks_api.specs.Lists.{state_part, children_part, description_part, headers_part, place_part, parent_part, start_part, task_json, by_id, on_node, node_json, with_node, nodes_json, children_of, tree_json, is_top, list_json}
 
 either : (a b : Bool) → a ≡ false → b ≡ false → (a || b) ≡ false
@@ -49,7 +49,7 @@ members_whole : (ms : Members) (named : List (List ℕ × Data)) → AreWhole na
 members_whole ms [] h e = e
 members_whole ms (m ∷ named) h e = members_whole (put m.0 m.1 ms) named h.1 (put_whole m.0 m.1 ms h.0 e)
 
-object_whole : (named : List (List ℕ × Data)) → AreWhole named → has_float (object_of named) ≡ false
+object_whole : (named : List (List ℕ × Data)) → AreWhole named → has_float (object_with named) ≡ false
 object_whole named h = members_whole no_members named h refl
 
 both_whole : (xs ys : List (List ℕ × Data)) → AreWhole xs → AreWhole ys → AreWhole (xs ++ ys)
@@ -110,7 +110,7 @@ nodes_whole : (f : TaskInfo → Data) (rows : List TaskInfo) (ms : Members) (nod
 nodes_whole f rows ms [] h e = e
 nodes_whole f rows ms (node ∷ nodes) h e = nodes_whole f rows (with_node f node (on_node node rows) ms) nodes h (node_whole f node (on_node node rows) ms h e)
 
-one_whole : (key : List ℕ) (value : Data) → has_float value ≡ false → has_float (object_of ((key, value) ∷ [])) ≡ false
+one_whole : (key : List ℕ) (value : Data) → has_float value ≡ false → has_float (object_with ((key, value) ∷ [])) ≡ false
 one_whole key value h = object_whole ((key, value) ∷ []) (h, tt)
 
 pub list_whole : (group : GroupBy) (detailed : Bool) (now : ℕ) (rows : List TaskInfo) → has_float (list_json group (task_json detailed now) rows) ≡ false

@@ -1,7 +1,7 @@
 -- The list of the tasks that a filter shows, after Elasticsearch's task management API.
 use Rattle.std.specs.Prelude.{ℕ, suc, zero, ◌-◌, ◌*◌, ◌==◌, Bool, true, false, not, if◌then◌else◌, List, [], ◌∷◌, ◌++◌, length, map, filter, fold, Option, Some, None, is_some, codes}
-use Rattle.std.specs.List.{list_any, range_with_len}
-use Rattle.serde_json.specs.Data.{Data, boolean, string, array, object, Members, no_members, put}
+use Rattle.std.specs.List.{list_any, range_with_len, IsDistinct}
+use Rattle.serde_json.specs.Data.{Data, number, unsigned, boolean, string, array, object, Members, no_members, put}
 use Rattle.serde_json.specs.View.{items_of}
 use Rattle.serde_json.specs.Written.{compact_text}
 use Rattle.task_ids.specs.Action.{action_text}
@@ -11,8 +11,8 @@ use Rattle.task_ids.specs.declared.task_info.TaskInfo.{TaskInfo}
 use Rattle.tasks_api.specs.declared.filter.Filter.{Filter}
 use Rattle.tasks_api.specs.declared.list.GroupBy.{GroupBy}
 use Rattle.tasks_api.specs.declared.list.GroupBy.TheVariants as groups
-use Rattle.tasks_api.specs.Filters.{filter_matches, is_child_of}
-use Rattle.tasks_api.specs.Objects.{object_by, object_of, count}
+use Rattle.tasks_api.specs.Filters.{filter_matches, is_task, is_child_of}
+use Rattle.tasks_api.specs.Objects.{object_by, object_with}
 
 -- ---- one task
 
@@ -47,17 +47,17 @@ state_part row = (codes "action", string (action_text row.action)) ∷ (codes "c
 
 -- what its request carried, and where it runs
 abbrev pub place_part : TaskInfo → List (List ℕ × Data)
-place_part row = (codes "headers", object_of (headers_part row.headers.opaque_id)) ∷ (codes "id", count row.id.number) ∷ (codes "node", string (node_name row.id.node)) ∷ []
+place_part row = (codes "headers", object_with (headers_part row.headers.opaque_id)) ∷ (codes "id", number (unsigned row.id.number)) ∷ (codes "node", string (node_name row.id.node)) ∷ []
 
 -- how long it has run at a moment, when it started, and how its request came
 abbrev pub start_part : ℕ → TaskInfo → List (List ℕ × Data)
 start_part now row =
-    (codes "running_time_in_nanos", count ((now - row.start_ms) * 1000000)) ∷ (codes "start_time_in_millis", count row.start_ms) ∷ (codes "type", string (way row.id.node row.parent)) ∷ []
+    (codes "running_time_in_nanos", number (unsigned ((now - row.start_ms) * 1000000))) ∷ (codes "start_time_in_millis", number (unsigned row.start_ms)) ∷ (codes "type", string (way row.id.node row.parent)) ∷ []
 
 -- a task as a list shows it, detailed or not and at a moment, with these tasks below it
 abbrev pub task_json : Bool → ℕ → List Data → TaskInfo → Data
 task_json detailed now children row =
-    object_of (state_part row ++ children_part children ++ description_part detailed row.description ++ place_part row ++ parent_part row.parent ++ start_part now row)
+    object_with (state_part row ++ children_part children ++ description_part detailed row.description ++ place_part row ++ parent_part row.parent ++ start_part now row)
 
 -- ---- grouped tasks
 
@@ -70,7 +70,7 @@ on_node node rows = filter (λ row. node == row.id.node) rows
 
 -- a node with these tasks of its own
 abbrev pub node_json : (TaskInfo → Data) → ℕ → List TaskInfo → Data
-node_json look node rows = object_of ((codes "name", string (node_name node)) ∷ (codes "tasks", by_id look rows) ∷ [])
+node_json look node rows = object_with ((codes "name", string (node_name node)) ∷ (codes "tasks", by_id look rows) ∷ [])
 
 -- the members with a node at its name, where it has a task
 abbrev pub with_node : (TaskInfo → Data) → ℕ → List TaskInfo → Members → Members
@@ -93,13 +93,20 @@ tree_json look below (suc levels) row = look (map (λ child. tree_json look belo
 abbrev pub is_top : List TaskInfo → TaskInfo → Bool
 is_top rows row = not (list_any (λ other. is_child_of other.id row.parent) rows)
 
+-- the tasks at the top, with so many levels below them
+abbrev pub parents_json : ℕ → (List Data → TaskInfo → Data) → List TaskInfo → Data
+parents_json levels look rows = by_id (λ row. tree_json look (children_of rows) levels row) (filter (λ row. is_top rows row) rows)
+
 -- The tasks that are shown, by their nodes, by their parents, or plainly. By parents a task stands below its parent where that is shown,
--- and else at the top. A task has fewer tasks above it than there are, so that many levels show all.
+-- and else at the top. As many levels as there are tasks show all of them.
 abbrev pub list_json : GroupBy → (List Data → TaskInfo → Data) → List TaskInfo → Data
-list_json groups.Nodes look rows = object_of ((codes "nodes", nodes_json (look []) rows) ∷ [])
-list_json groups.Parents look rows =
-    object_of ((codes "tasks", by_id (λ row. tree_json look (children_of rows) (length rows) row) (filter (λ row. is_top rows row) rows)) ∷ [])
-list_json groups.None look rows = object_of ((codes "tasks", array (items_of (map (look []) rows))) ∷ [])
+list_json groups.Nodes look rows = object_with ((codes "nodes", nodes_json (look []) rows) ∷ [])
+list_json groups.Parents look rows = object_with ((codes "tasks", parents_json (length rows) look rows) ∷ [])
+list_json groups.None look rows = object_with ((codes "tasks", array (items_of (map (look []) rows))) ∷ [])
+
+-- each id stands once among the tasks
+abbrev pub HasEachOnce : List TaskInfo → Type 0
+HasEachOnce rows = IsDistinct is_task (map (λ row. row.id) rows)
 
 -- the tasks that a filter shows, in their order
 abbrev pub shown : Filter → List TaskInfo → List TaskInfo

@@ -1,6 +1,6 @@
 -- Objects of JSON, whose keys stand in byte order.
 use Rattle.std.specs.Prelude.{ℕ, List, fold}
-use Rattle.serde_json.specs.Data.{Data, number, unsigned, object, Members, no_members, put}
+use Rattle.serde_json.specs.Data.{Data, object, Members, no_members, put}
 
 -- the members with one more for each of some things, at the key of its own
 abbrev pub with_each : {X : Type 0} → (X → List ℕ) → (X → Data) → Members → List X → Members
@@ -15,8 +15,5 @@ abbrev pub with_members : Members → List (List ℕ × Data) → Members
 with_members members named = with_each (λ m. m.0) (λ m. m.1) members named
 
 -- an object with these members
-abbrev pub object_of : List (List ℕ × Data) → Data
-object_of named = object (with_members no_members named)
-
-abbrev pub count : ℕ → Data
-count n = number (unsigned n)
+abbrev pub object_with : List (List ℕ × Data) → Data
+object_with named = object (with_members no_members named)

@@ -4,6 +4,7 @@
 
 mod filter;
 mod groups;
+mod levels;
 mod list;
 mod members;
 mod names;
@@ -11,4 +12,5 @@ mod task;
 mod tree;
 
 pub use filter::Filter;
+pub use levels::no_level_is_missing;
 pub use list::{GroupBy, list_line};

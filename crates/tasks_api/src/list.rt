@@ -5,7 +5,7 @@ ghost use Rattle.serde_json.specs.View.{view, members_view};
 ghost use Rattle.task_ids.specs.Limits.{IsNode};
 ghost use Rattle.tasks_api.specs.declared.list.GroupBy.TheVariants as groups;
 ghost use Rattle.tasks_api.specs.Groups.{group_in};
-ghost use Rattle.tasks_api.specs.Objects.{object_of};
+ghost use Rattle.tasks_api.specs.Objects.{object_with};
 ghost use Rattle.tasks_api.specs.Lists.{list_text, list_json, task_json, node_json, with_node, shown};
 
 use crate::filter::Filter;
@@ -84,7 +84,7 @@ fn list_value(
 
 /// An object with one member.
 fn one_member(alloc: Global, key: &str, value: Value) -> Result<Value, AllocError>
-    ensures { IfOk result (λ whole. view whole ≡ object_of ((key.now, view value) ∷ [])) }
+    ensures { IfOk result (λ whole. view whole ≡ object_with ((key.now, view value) ∷ [])) }
 {
     let mut members = Map::new(alloc);
     put(&mut members, alloc, key, value)?;

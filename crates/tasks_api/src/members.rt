@@ -1,9 +1,8 @@
 //! Members of JSON objects.
 
 ghost use Rattle.std.specs.Prelude.{◌≡◌, [], ◌∷◌, ◌++◌, OnOk, map};
-ghost use Rattle.serde_json.specs.Data.{string, array, object, put};
+ghost use Rattle.serde_json.specs.Data.{number, unsigned, string, array, object, put};
 ghost use Rattle.serde_json.specs.View.{view, members_view, items_of};
-ghost use Rattle.tasks_api.specs.Objects.{count};
 
 use serde_json::{Map, Value, put};
 use std::alloc::{AllocError, Global};
@@ -26,11 +25,11 @@ pub(crate) fn put_number(
     alloc: Global,
     members: &mut Map<String, Value>,
     key: &str,
-    number: u64,
+    count: u64,
 ) -> Result<(), AllocError>
-    ensures { OnOk result (members_view members.new.entries ≡ put key.now (count number) (members_view members.old.entries)) }
+    ensures { OnOk result (members_view members.new.entries ≡ put key.now (number (unsigned count)) (members_view members.old.entries)) }
 {
-    put(members, alloc, key, Value::from(number))
+    put(members, alloc, key, Value::from(count))
 }
 
 /// The object of some members.

@@ -3,7 +3,7 @@
 ghost use Rattle.std.specs.Prelude.{◌≡◌, ◌<◌, ◌≤◌, ◌-◌, ◌*◌, ◌^◌, [], ◌∷◌, OnOk, IfOk, map, codes, option_map, string_bytes};
 ghost use Rattle.serde_json.specs.View.{view, members_view};
 ghost use Rattle.task_ids.specs.TaskId.{task_id_text};
-ghost use Rattle.tasks_api.specs.Objects.{with_members, object_of};
+ghost use Rattle.tasks_api.specs.Objects.{with_members, object_with};
 ghost use Rattle.tasks_api.specs.Lists.{children_part, description_part, headers_part, parent_part, state_part, place_part, start_part, way, task_json};
 
 use crate::members::{object_value, put_number, put_text};
@@ -67,7 +67,7 @@ fn put_opaque_id(
 
 /// What a task's request carried, as an object.
 fn headers_value(alloc: Global, headers: &Headers) -> Result<Value, AllocError>
-    ensures { IfOk result (λ value. view value ≡ object_of (headers_part headers.now.opaque_id)) }
+    ensures { IfOk result (λ value. view value ≡ object_with (headers_part headers.now.opaque_id)) }
 {
     let mut members = Map::new(alloc);
     put_opaque_id(alloc, &mut members, &headers.opaque_id)?;
