@@ -13,7 +13,7 @@ use Rattle.task_events.specs.Same.{same_task}
 use Rattle.task_events.specs.Tasks.{no_counts, is_live, live_tasks, has_ended, is_new, has_passed, refusal_of, reply_of, live_child, live_on, parent_of, ancestors, descends}
 use Rattle.task_events.specs.Asks.{is_unanswered, unanswered, node_of_ask, request_of_ask, answer_of}
 use Rattle.task_events.specs.Bans.{mark_of, late_ban, banned_nodes, standing_ban, listing_is_open, is_listed, is_acked, is_gone, bans_are_placed, unbans_are_sent}
-use Rattle.task_events.specs.declared.request.Request.{Request as Asked}
+use Rattle.task_events.specs.declared.request.Request.{Request as AskedFor}
 use Rattle.task_events.specs.Messages.{Message, in_flight, is_request, is_answer, is_ban, is_ack, is_unban, without, number_in_flight}
 use Rattle.task_events.specs.Messages.Message.{Request, Answer, Ban, Ack, Unban}
 use Rattle.task_events.specs.Cancels.{last_command, has_acted, turn_of, is_named, waits, found_none, is_answered_placed, is_answered_done, names_one_of}
@@ -152,7 +152,7 @@ pub record EventsHaveCauses (cluster : Cluster) : Type 0 where
   -- a task ends with a cancelled reply exactly where it is marked, with the mark's number
   pub ended_by : (t : TaskId) (reply : Reply) (h : List Event) → Lawful cluster (End t reply ∷ h) → cancellation_in reply ≡ option_map (λ c. (t, c)) (mark_of t h)
   -- a live task asks and works only after its first step, and only until it is marked
-  pub asks : (p : TaskId) (k n : ℕ) (r : Asked) (h : List Event) → Lawful cluster (Ask p k n r ∷ h) → (mark_of p h ≡ None) × (is_new p h ≡ false) × (is_live p h ≡ true)
+  pub asks : (p : TaskId) (k n : ℕ) (r : AskedFor) (h : List Event) → Lawful cluster (Ask p k n r ∷ h) → (mark_of p h ≡ None) × (is_new p h ≡ false) × (is_live p h ≡ true)
   pub works : (t : TaskId) (h : List Event) → Lawful cluster (Work t ∷ h) → (mark_of t h ≡ None) × (is_new t h ≡ false) × (is_live t h ≡ true)
   -- on the ask's node, a rejection comes exactly where as many tasks are live as it has slots
   pub rejected : (n : ℕ) (p : TaskId) (k : ℕ) (h : List Event) → Lawful cluster (Reject n p k ∷ h) → (live_on n h ≡ cluster.slots) × (node_of_ask p k h ≡ Some n)
@@ -256,7 +256,7 @@ IsDeliveredAt i kind h = (0 < number_in_flight kind h) × (without kind (in_flig
 
 -- Whichever message in flight is delivered next, it is taken from its own place, and the order of the others stays.
 pub record DeliversAnyMessage (h : List Event) : Type 0 where
-  pub request : (i : ℕ) (p : TaskId) (k n : ℕ) (r : Asked) → slice_get (in_flight h) i ≡ Some (Request p k n r) → IsDeliveredAt i (is_request p k) h
+  pub request : (i : ℕ) (p : TaskId) (k n : ℕ) (r : AskedFor) → slice_get (in_flight h) i ≡ Some (Request p k n r) → IsDeliveredAt i (is_request p k) h
   pub answer : (i : ℕ) (p : TaskId) (k : ℕ) (reply : Reply) → slice_get (in_flight h) i ≡ Some (Answer p k reply) → IsDeliveredAt i (is_answer p k) h
   pub ban : (i : ℕ) (p : TaskId) (c n : ℕ) → slice_get (in_flight h) i ≡ Some (Ban p c n) → IsDeliveredAt i (is_ban n p) h
   pub ack : (i : ℕ) (p : TaskId) (n : ℕ) → slice_get (in_flight h) i ≡ Some (Ack p n) → IsDeliveredAt i (is_ack n p) h

@@ -1,7 +1,7 @@
 -- The messages in flight.
 use Rattle.std.specs.Prelude.{ℕ, Bool, false, List, [], ◌∷◌, ◌++◌, Option, Some, None, map, count_by, if◌then◌else◌}
 use Rattle.task_ids.specs.declared.task_id.TaskId.{TaskId}
-use Rattle.task_events.specs.declared.request.Request.{Request as Asked}
+use Rattle.task_events.specs.declared.request.Request.{Request as AskedFor}
 use Rattle.task_events.specs.declared.reply.Reply.{Reply}
 use Rattle.task_events.specs.declared.reply.Reply.TheVariants.{Cancelled, Rejected}
 use Rattle.task_events.specs.declared.event.Event.{Event}
@@ -13,7 +13,7 @@ use Rattle.task_events.specs.Bans.{banned_nodes, unbans_are_sent}
 
 pub data Message : Type 0 where
   -- of an ask, to its node
-  Request : (parent : TaskId) → (ask to : ℕ) → (request : Asked) → Message
+  Request : (parent : TaskId) → (ask to : ℕ) → (request : AskedFor) → Message
   -- to the task that asked
   Answer : (parent : TaskId) → (ask : ℕ) → (reply : Reply) → Message
   -- of the children of a marked task, with the number of the cancellation, to a node

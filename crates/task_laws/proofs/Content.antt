@@ -6,7 +6,7 @@ use Rattle.task_ids.specs.declared.task_id.TaskId.{TaskId}
 use Rattle.task_ids.specs.declared.cluster.Cluster.{Cluster}
 use Rattle.task_events.specs.declared.reply.Reply.{Reply}
 use Rattle.task_events.specs.declared.reply.Reply.TheVariants.{Cancelled, Rejected}
-use Rattle.task_events.specs.declared.request.Request.{Request as Asked}
+use Rattle.task_events.specs.declared.request.Request.{Request as AskedFor}
 use Rattle.task_events.specs.declared.event.Event.{Event}
 use Rattle.task_events.specs.declared.event.Event.TheVariants.{Ask, Put, Reject, Refuse, Mark, BanPut, Listed, Acked, BanGone, Answered, End}
 use Rattle.task_events.specs.Same.{same_task}
@@ -113,7 +113,7 @@ module _ (cluster : Cluster) where
   still_answer (End u s) h a f g p k r e = grind (arith, same_tests, g.reply_ended u, f.live_or_ended u)
   still_answer _ h a f g p k r e = e
 
-  still_request : (e : Event) (h : List Event) → Allowed cluster e h → AnswerFacts h → (p : TaskId) (k n : ℕ) (r : Asked) → (node_of_ask p k h ≡ Some n) × (request_of_ask p k h ≡ Some r) → (node_of_ask p k (e ∷ h) ≡ Some n) × (request_of_ask p k (e ∷ h) ≡ Some r)
+  still_request : (e : Event) (h : List Event) → Allowed cluster e h → AnswerFacts h → (p : TaskId) (k n : ℕ) (r : AskedFor) → (node_of_ask p k h ≡ Some n) × (request_of_ask p k h ≡ Some r) → (node_of_ask p k (e ∷ h) ≡ Some n) × (request_of_ask p k (e ∷ h) ≡ Some r)
   still_request (Ask q j m w) h a g p k n r e =
       let i = g.node_asked p k n e.0 in
       let f = e.0 in

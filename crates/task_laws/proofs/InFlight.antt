@@ -4,7 +4,7 @@ use Rattle.std.specs.Prelude.{◌==◌}
 use Rattle.task_ids.specs.declared.task_id.TaskId.{TaskId}
 use Rattle.task_events.specs.declared.reply.Reply.{Reply}
 use Rattle.task_events.specs.declared.reply.Reply.TheVariants.{Cancelled, Rejected}
-use Rattle.task_events.specs.declared.request.Request.{Request as Asked}
+use Rattle.task_events.specs.declared.request.Request.{Request as AskedFor}
 use Rattle.task_events.specs.declared.event.Event.{Event}
 use Rattle.task_events.specs.declared.event.Event.TheVariants.{Ask, Put, Reject, Refuse, Mark, BanPut, Listed, Acked, BanGone, Answered, End}
 use Rattle.task_events.specs.Same.{same_task, same_pair}
@@ -107,7 +107,7 @@ unbanned_by a t true ns = number-none (test_of a) (Unban t) (λ n. refl) ns
 unbanned_by a t false ns = refl
 
 -- each event changes the list as it changes the count
-at_ask : (a : Kind) (q : TaskId) (j n : ℕ) (w : Asked) (h : List Event) → number (test_of a) (in_flight h) ≡ count_of a h → number (test_of a) (in_flight (Ask q j n w ∷ h)) ≡ count_of a (Ask q j n w ∷ h)
+at_ask : (a : Kind) (q : TaskId) (j n : ℕ) (w : AskedFor) (h : List Event) → number (test_of a) (in_flight h) ≡ count_of a h → number (test_of a) (in_flight (Ask q j n w ∷ h)) ≡ count_of a (Ask q j n w ∷ h)
 at_ask (of_request p k) q j n w h e = let x = number-append (is_request p k) (in_flight h) (Request q j n w ∷ []) in omega arith
 at_ask a q j n w h e = let x = number-append (test_of a) (in_flight h) (Request q j n w ∷ []) in omega arith
 

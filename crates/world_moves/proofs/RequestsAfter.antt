@@ -11,7 +11,7 @@ use Rattle.child_track.specs.Token.{Token}
 use Rattle.task_table.specs.Table.{Table}
 use Rattle.task_work.specs.Works.{IsWorkOn}
 use Rattle.script_lang.specs.declared.command.Script.{Script}
-use Rattle.task_events.specs.declared.request.Request.{Request as Asked}
+use Rattle.task_events.specs.declared.request.Request.{Request as AskedFor}
 use Rattle.task_events.specs.declared.request.Request.TheVariants as asks
 use Rattle.task_events.specs.declared.reply.Reply.TheVariants.{Rejected}
 use Rattle.task_events.specs.declared.event.Event.{Event}
@@ -79,7 +79,7 @@ module _ (cluster : Cluster) (corpus : Corpus) (script : Script) (h : List Event
             let none = unborn cluster t (root_request script) h ties.lawful (let next = takes.next in omega arith) in
             at_put (root_request script) t h token.parent token.ask
             ∙ ap (λ (f : Facts). record f { live = true; new = true; parent = Some token.parent; ask = token.ask; request = request_of_ask token.parent token.ask h }) none
-            ∙ ap (λ (o : Option Asked). record blank { live = true; new = true; parent = Some token.parent; ask = token.ask; request = o }) arrives.request
+            ∙ ap (λ (o : Option AskedFor). record blank { live = true; new = true; parent = Some token.parent; ask = token.ask; request = o }) arrives.request
 
   -- no slot is free
   module _ (full : cluster.slots ≤ live_on to h) where

@@ -6,7 +6,7 @@ use Rattle.task_ids.specs.declared.cluster.Cluster.{Cluster}
 use Rattle.task_ids.specs.declared.corpus.Corpus.{Corpus}
 use Rattle.child_track.specs.Token.{Token}
 use Rattle.task_table.specs.Table.{Table}
-use Rattle.task_events.specs.declared.request.Request.{Request as Asked}
+use Rattle.task_events.specs.declared.request.Request.{Request as AskedFor}
 use Rattle.task_events.specs.declared.event.Event.{Event}
 use Rattle.task_events.specs.Asks.{node_of_ask, request_of_ask}
 use Rattle.task_events.specs.Messages.{Message, in_flight, is_request, without, number_in_flight}
@@ -29,7 +29,7 @@ use Rattle.world_moves.proofs.ByPlace.{pair_at, all_here}
 
 -- The entry is the request of an ask to the node, and stands in flight at its place.
 pub record Arrives (cluster : Cluster) (h : List Event) (nth : ℕ) (token : Token) (to at : ℕ) : Type 0 where
-  pub asked : Asked
+  pub asked : AskedFor
   pub stands : option_and_then request_in (event_at at h) ≡ Some asked
   pub here : slice_get (in_flight h) nth ≡ Some (Request token.parent token.ask to asked)
   pub requested : 0 < number_in_flight (is_request token.parent token.ask) h
@@ -39,7 +39,7 @@ pub record Arrives (cluster : Cluster) (h : List Event) (nth : ℕ) (token : Tok
   pub low : 1 ≤ to
   pub high : to ≤ cluster.nodes
 
-message_is : (token : Token) (to : ℕ) (o : Option Asked) (m : Message) → option_map (λ r. Request token.parent token.ask to r) o ≡ Some m → (r : Asked) × (o ≡ Some r) × (Some m ≡ Some (Request token.parent token.ask to r))
+message_is : (token : Token) (to : ℕ) (o : Option AskedFor) (m : Message) → option_map (λ r. Request token.parent token.ask to r) o ≡ Some m → (r : AskedFor) × (o ≡ Some r) × (Some m ≡ Some (Request token.parent token.ask to r))
 message_is token to None m e = absurd (cc)
 message_is token to (Some r) m e = (r, refl, sym e)
 

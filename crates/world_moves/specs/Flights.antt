@@ -2,7 +2,7 @@
 use Rattle.std.specs.Prelude.{ℕ, Bool, true, false, List, [], ◌∷◌, length, ◌==◌, Option, Some, None, option_map, option_and_then, if◌then◌else◌}
 use Rattle.task_ids.specs.declared.task_id.TaskId.{TaskId}
 use Rattle.child_track.specs.Token.{ReceiptParts}
-use Rattle.task_events.specs.declared.request.Request.{Request as Asked}
+use Rattle.task_events.specs.declared.request.Request.{Request as AskedFor}
 use Rattle.task_events.specs.declared.reply.Reply.{Reply}
 use Rattle.task_events.specs.declared.reply.Reply.TheVariants.{Cancelled, Rejected}
 use Rattle.task_events.specs.declared.event.Event.{Event}
@@ -21,7 +21,7 @@ event_at at [] = None
 event_at at (e ∷ h) = if at == length h then Some e else event_at at h
 
 -- the request that an ask sends
-abbrev pub request_in : Event → Option Asked
+abbrev pub request_in : Event → Option AskedFor
 request_in (Ask p k n r) = Some r
 request_in _ = None
 

@@ -11,7 +11,7 @@ use Rattle.task_ids.specs.declared.corpus.Corpus.{Corpus}
 use Rattle.task_ids.specs.TaskIdOrder.{task_id_cmp}
 use Rattle.task_ids.proofs.OneValue.{one_value}
 use Rattle.task_ids.proofs.TaskIdKeys.{exact_ids, ids_total}
-use Rattle.task_events.specs.declared.request.Request.{Request as Asked}
+use Rattle.task_events.specs.declared.request.Request.{Request as AskedFor}
 use Rattle.task_events.specs.declared.reply.Reply.{Reply}
 use Rattle.task_events.specs.declared.event.Event.{Event}
 use Rattle.task_events.specs.declared.event.Event.TheVariants.{Begin, Root, RootRejected, Put, Reject, Mark, Listed, Answered, BanPut, Acked, BanGone}
@@ -60,7 +60,7 @@ module _ (cluster : Cluster) (h : List Event) where
   abbrev Requested : TaskId → ℕ → ℕ → Event → Type 0
   Requested p k n e = ((t : TaskId) × (e ≡ Put t p k) × TakesSlot cluster t h × (t.node ≡ n)) ⊎ ((e ≡ Reject n p k) × (cluster.slots ≤ live_on n h))
 
-  requested : (p : TaskId) (k n : ℕ) (r : Asked) (e : Event) → IsDelivery cluster h (Request p k n r) e → Requested p k n e
+  requested : (p : TaskId) (k n : ℕ) (r : AskedFor) (e : Event) → IsDelivery cluster h (Request p k n r) e → Requested p k n e
   requested p k n r (Put t q j) (takes, at, asker, ask) = inl (t, cc (asker, ask), takes, at)
   requested p k n r (Reject m q j) (full, at, asker, ask) = inr (cc (at, asker, ask), full)
   requested p k n r _ d = absurd d
