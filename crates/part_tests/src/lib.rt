@@ -13,6 +13,8 @@ mod histories;
 #[cfg(test)]
 mod ids;
 #[cfg(test)]
+mod lists;
+#[cfg(test)]
 mod phases;
 #[cfg(test)]
 mod reindexes;

@@ -100,7 +100,7 @@ fn some_match(patterns: &[Text], text: &str) -> bool
 }
 
 /// Whether a task with this parent, or with none, is a child of a task.
-pub(crate) fn is_child_of(task: TaskId, parent: Option<TaskId>) -> bool
+fn is_child_of(task: TaskId, parent: Option<TaskId>) -> bool
     ensures { result ≡ is_child_of task parent }
 {
     parent.is_some_and(|parent| parent == task)
