@@ -82,7 +82,7 @@ impl<N: BoardName> RaceBoard<N> {
         let mask = self.words.load_mask(&mut seat.place, slot);
         let seen = self.words.load_masked(&mut seat.place, slot);
         if is_word_of(seen, number) {
-            NodeSet((mask % 65_536) as u16)
+            NodeSet(mask as u16)
         } else {
             NodeSet(0)
         }
