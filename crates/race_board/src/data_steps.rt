@@ -36,6 +36,7 @@ impl<N: BoardName> BoardWords<N> {
         ensures fits { (seat.new.table_id ≡ seat.old.table_id) × (seat.new.me.1 ≡ []) }
         ensures takes { result ≡ 0 → seat.new.me.0 ≡ noted (took seat.old.me.0 slot word) (did (slot + 1) 0 word) }
         ensures taken { result ≢ 0 → seat.new.me.0 ≡ noted seat.old.me.0 (did (slot + 1) result result) }
+        ensures free { result ≡ 0 → (hold seat.old.me.0 slot).number ≡ 0 }
         ensures alone { (i : ℕ) → (hold seat.old.me.0 i).number ≢ 0 → (hold seat.old.me.0 i).number ≢ seat.old.me.0.drawn }
         ensures turn { Turn seat.old.me.0.size seat.old.me.0 seat.new.me.0 (slot + 1) result (either (result == 0) word result) (of_claim result word) }
     {

@@ -21,7 +21,7 @@ claim-requires-clause-word g c = let drawn : c.loop-slot.seat.place.me.0.drawn �
 
 pub returns-then-claim-eq0-clause-taken : goal.returns-then-claim-eq0-clause-taken
 returns-then-claim-eq0-clause-taken g c = let seat = c.loop-slot.seat in let i : ℕ = c.loop-slot.slot in let v : View = c.args.seat.now.place.me.0 in let w : View = c.claim.new.seat.me.0 in
-    takes_at v seat.place.me.0 w i c.args.word c.loop-slot.invariant.only c.loop-slot.invariant.longer (subst (λ (z : Size). i < z.slots) (sym c.requires.fits.1) c.loop-slot-test.true) (c.claim.ensures.takes c.if-claim-eq0.true)
+    takes_at v seat.place.me.0 w i c.args.word c.loop-slot.invariant.only c.loop-slot.invariant.longer (subst (λ (z : Size). i < z.slots) (sym c.requires.fits.1) c.loop-slot-test.true) (c.claim.ensures.takes c.if-claim-eq0.true) (c.claim.ensures.free c.if-claim-eq0.true)
 
 pub loop-slot-preserved : goal.loop-slot-preserved
 loop-slot-preserved g c = let seat = c.loop-slot.seat in let i : ℕ = c.loop-slot.slot in let v : View = c.args.seat.now.place.me.0 in let w : View = c.claim.new.seat.me.0 in let n : ℕ = c.claim.result in
