@@ -48,7 +48,7 @@ module _ (A : ℕ → Type 0) (z key : Size) (same : key ≡ z) (slots id : ℕ)
             (λ e. let here : get_or (set s.words x w) (z.slots + q + 1) 0 ≡ w = (λ k. get_or (set s.words x w) (z.slots + e k + 1) 0) ∙ get_or-set_same s.words x w 0 (omega arith) in dite (ℕ_discrete n 0)
             (λ hit. inl (λ _. subst (λ (y : ℕ). A (by y) × (by y < 65536)) (sym (here ∙ hit_is n 0 word hit)) may))
             (λ miss. inr (here ∙ (miss_is n 0 word miss ∙ (λ k. get_or s.words (z.slots + sym e k + 1) 0)))))
-            (λ e. inr (get_or-set_other s.words x (z.slots + q + 1) w 0 (λ f. e (omega arith))))),
+            (λ e. inr (get_or-set_other s.words x (z.slots + q + 1) w 0 (λ f. e (omega arith))))) (λ k l. inr (get_or-set_other s.words x (z.slots + z.bans + k + 1) w 0 (λ e. omega arith))),
         λ free. let b = r.bans j inside in let free' : (ban me.0 j).parent ≡ 0 = ap (λ (k : ℕ). (ban me.0 k).parent) (sym (place_is j)) ∙ free in b.stands ∙ ban_none (ban me.0 j).parent (ban me.0 j).cancel free' (b.none_yet free'),
       ))
       (puts z slots id me j word lead bare inside size sized child)
@@ -77,13 +77,13 @@ module _ (A : ℕ → Type 0) (z key : Size) (same : key ≡ z) (slots id : ℕ)
       (λ hit. inl (λ _. subst A (sym (ap cancel (here ∙ hit_is n old y hit) ∙ cancel_mark old c free)) (allowed_by c may s (d, r) there name)))
       (λ miss. inr (here ∙ (miss_is n old y miss ∙ ap (task s.words) (sym f)))))
       (λ f. inr (get_or-set_other s.words (i + 1) (k + 1) w 0 (λ g. f (omega arith)))))
-      (λ j _. inr (get_or-set_other s.words (i + 1) (z.slots + j + 1) w 0 (λ g. omega arith))))
+      (λ j _. inr (get_or-set_other s.words (i + 1) (z.slots + j + 1) w 0 (λ g. omega arith))) (λ k l. inr (get_or-set_other s.words (i + 1) (z.slots + z.bans + k + 1) w 0 (λ e. omega arith))))
       (strikes z slots id me i old c lead bare inside full free some_cancel about whole))
 
-  pub halves_turn : (i : ℕ) → i < z.slots → Allows (Rule A key) slots id me (z.slots + z.bans + i + 1) (λ n. n) (λ n m'. after_half (step slots (z.slots + z.bans + i + 1) 0 0 none) me n m' × Turned (step slots (z.slots + z.bans + i + 1) 0 0 none) me m' n n [])
-  halves_turn i inside = let x : ℕ = z.slots + z.bans + i + 1 in turns A z key same slots id me x (λ n. n) (after_half (step slots x 0 0 none) me) (λ _. []) size
+  pub halves_turn : (i : ℕ) → i < z.slots → Allows (Rule A key) slots id me (z.slots + z.bans + i + 1) (λ n. n) (λ n m'. after_half (step slots (z.slots + z.bans + i + 1) 0 0 none) me n m' × Turned (step slots (z.slots + z.bans + i + 1) 0 0 none) me m' n n [] × (n < 65536))
+  halves_turn i inside = let x : ℕ = z.slots + z.bans + i + 1 in turns_told A z key same slots id me x (λ n. n) (after_half (step slots x 0 0 none) me) (λ _. []) (λ n. n < 65536) size
       (λ s ok there. calm_follows z s.words (set s.words x (get_or s.words x 0)) [] tt (set-get_or s.words x 0))
-      (λ s ok there name. load_named A z s x name)
+      (λ s ok there name. (load_named A z s x name, name.masks i inside))
       (halves z slots id me i lead bare inside size)
 
   pub wholes_turn : (i : ℕ) → i < z.slots → me.0.half ≡ i + 1
@@ -100,5 +100,5 @@ module _ (A : ℕ → Type 0) (z key : Size) (same : key ≡ z) (slots id : ℕ)
       (λ s (c, r) there name. let wide = r.wide in stays_named A z s.words (set s.words x 0) name (λ i l. inr (get_or-set_other s.words x (i + 1) 0 0 (λ e. omega arith)))
       (λ q l. dite (ℕ_discrete q j)
       (λ e. inl (λ n. absurd (n ((λ k. get_or (set s.words x 0) (z.slots + e k + 1) 0) ∙ get_or-set_same s.words x 0 0 (omega arith)))))
-      (λ e. inr (get_or-set_other s.words x (z.slots + q + 1) 0 0 (λ f. e (omega arith))))))
+      (λ e. inr (get_or-set_other s.words x (z.slots + q + 1) 0 0 (λ f. e (omega arith))))) (λ k l. inr (get_or-set_other s.words x (z.slots + z.bans + k + 1) 0 0 (λ e. omega arith))))
       (lifts z slots id me j lead bare inside size sized)

@@ -7,7 +7,8 @@ use lib.Seq.{set-get_or}
 use prog.Atomic.{either}
 use Rattle.atomic_table.specs.Table.{step, Allows}
 use Rattle.race_board.specs.Words.{number, cancel, banned}
-use Rattle.race_board.specs.Board.{hold, task}
+use Rattle.std.proofs.lemmas.Nat.{or_of_16, and_le_l}
+use Rattle.race_board.specs.Board.{hold, task, mask}
 use Rattle.race_board.specs.Steps.{Sat, after_draw, after_claim, after_glance, after_check, after_end, after_track, after_untrack, after_look}
 use Rattle.race_board.specs.StepEvents.{of_claim, of_check, of_end, of_track_look, of_look}
 use Rattle.race_board.specs.Theorem.{Moment}
@@ -39,7 +40,7 @@ module _ (A : ℕ → Type 0) (z key : Size) (same : key ≡ z) (slots id : ℕ)
       → Allows (Rule A key) slots id me 0 (λ n. (n + 1) % 2 ^ 64) (λ n m'. after_draw (step slots 0 1 0 none) me n m' × Turned (step slots 0 1 0 none) me m' n ((n + 1) % 2 ^ 64) [])
   draws_turn free untold = turns A z key same slots id me 0 (λ n. (n + 1) % 2 ^ 64) (after_draw (step slots 0 1 0 none) me) (λ _. []) size
       (λ s ok there. let y : ℕ = (get_or s.words 0 0 + 1) % 2 ^ 64 in same_follows z s.words (set s.words 0 y) [] tt (λ i _. get_or-set_other s.words 0 (i + 1) y 0 (λ e. omega arith)) (λ j _. get_or-set_other s.words 0 (z.slots + j + 1) y 0 (λ e. omega arith)))
-      (λ s ok there name. let y : ℕ = (get_or s.words 0 0 + 1) % 2 ^ 64 in stays_named A z s.words (set s.words 0 y) name (λ i _. inr (get_or-set_other s.words 0 (i + 1) y 0 (λ e. omega arith))) (λ j _. inr (get_or-set_other s.words 0 (z.slots + j + 1) y 0 (λ e. omega arith))))
+      (λ s ok there name. let y : ℕ = (get_or s.words 0 0 + 1) % 2 ^ 64 in stays_named A z s.words (set s.words 0 y) name (λ i _. inr (get_or-set_other s.words 0 (i + 1) y 0 (λ e. omega arith))) (λ j _. inr (get_or-set_other s.words 0 (z.slots + j + 1) y 0 (λ e. omega arith))) (λ k l. inr (get_or-set_other s.words 0 (z.slots + z.bans + k + 1) y 0 (λ e. omega arith))))
       (draws z slots id me lead bare free untold)
 
   pub claims_turn : (i word : ℕ) → length me.0.held ≡ z.slots → i < z.slots → me.0.drawn ≢ 0 → number word ≡ me.0.drawn → cancel word ≡ 0
@@ -52,7 +53,7 @@ module _ (A : ℕ → Type 0) (z key : Size) (same : key ≡ z) (slots id : ℕ)
       (λ hit. inl (λ some_mark. absurd (some_mark (ap cancel (here ∙ hit_is n 0 word hit) ∙ free))))
       (λ miss. inr (here ∙ (miss_is n 0 word miss ∙ ap (task s.words) (sym e)))))
       (λ e. inr (get_or-set_other s.words (i + 1) (k + 1) w 0 (λ f. e (omega arith)))))
-      (λ j _. inr (get_or-set_other s.words (i + 1) (z.slots + j + 1) w 0 (λ e. omega arith))))
+      (λ j _. inr (get_or-set_other s.words (i + 1) (z.slots + j + 1) w 0 (λ e. omega arith))) (λ k l. inr (get_or-set_other s.words (i + 1) (z.slots + z.bans + k + 1) w 0 (λ e. omega arith))))
       (claims z slots id me i word lead bare wide inside drawn is free)
 
   pub checks_turn : (i j : ℕ) → length me.0.held ≡ z.slots → (hold me.0 i).number ≢ 0 → (j ≡ 0) ⊎ ((hold me.0 i).check ≡ Next j) → j < z.bans
@@ -71,7 +72,7 @@ module _ (A : ℕ → Type 0) (z key : Size) (same : key ≡ z) (slots id : ℕ)
             (λ k l. dite (ℕ_discrete k i)
             (λ e. inl (λ some_mark. absurd (some_mark (ap cancel (ap (task (set s.words (i + 1) 0)) e ∙ get_or-set_same s.words (i + 1) 0 0 (omega arith)) ∙ zero_cancel))))
             (λ e. inr (get_or-set_other s.words (i + 1) (k + 1) 0 0 (λ f. e (omega arith)))))
-            (λ j _. inr (get_or-set_other s.words (i + 1) (z.slots + j + 1) 0 0 (λ e. omega arith))),
+            (λ j _. inr (get_or-set_other s.words (i + 1) (z.slots + j + 1) 0 0 (λ e. omega arith))) (λ k l. inr (get_or-set_other s.words (i + 1) (z.slots + z.bans + k + 1) 0 0 (λ e. omega arith))),
         name.marks i inside,
       ))
       (ends z slots id me i lead bare wide full)
@@ -92,16 +93,22 @@ module _ (A : ℕ → Type 0) (z key : Size) (same : key ≡ z) (slots id : ℕ)
       (looks z slots id me i lead bare wide full)
 
   -- a mask word is no task's and no ban's
-  pub tracks_turn : (i k : ℕ) → length me.0.held ≡ z.slots → (hold me.0 i).number ≢ 0 → (hold me.0 i).seek ≡ 0
+  pub tracks_turn : (i k : ℕ) → length me.0.held ≡ z.slots → (hold me.0 i).number ≢ 0 → (hold me.0 i).seek ≡ 0 → k < 65536
       → Allows (Rule A key) slots id me (z.slots + z.bans + i + 1) (λ n. bit_or n k) (λ n m'. after_track (step slots (z.slots + z.bans + i + 1) k 0 none) me n m' × Turned (step slots (z.slots + z.bans + i + 1) k 0 none) me m' n (bit_or n k) [])
-  tracks_turn i k wide full free = let x : ℕ = z.slots + z.bans + i + 1 in turns A z key same slots id me x (λ n. bit_or n k) (after_track (step slots x k 0 none) me) (λ _. []) size
+  tracks_turn i k wide full free small = let x : ℕ = z.slots + z.bans + i + 1 in turns A z key same slots id me x (λ n. bit_or n k) (after_track (step slots x k 0 none) me) (λ _. []) size
       (λ s ok there. let y : ℕ = bit_or (get_or s.words x 0) k in same_follows z s.words (set s.words x y) [] tt (λ q l. get_or-set_other s.words x (q + 1) y 0 (λ e. omega arith)) (λ j l. get_or-set_other s.words x (z.slots + j + 1) y 0 (λ e. omega arith)))
-      (λ s ok there name. let y : ℕ = bit_or (get_or s.words x 0) k in stays_named A z s.words (set s.words x y) name (λ q l. inr (get_or-set_other s.words x (q + 1) y 0 (λ e. omega arith))) (λ j l. inr (get_or-set_other s.words x (z.slots + j + 1) y 0 (λ e. omega arith))))
+      (λ s ok there name. let y : ℕ = bit_or (get_or s.words x 0) k in stays_named A z s.words (set s.words x y) name (λ q l. inr (get_or-set_other s.words x (q + 1) y 0 (λ e. omega arith))) (λ j l. inr (get_or-set_other s.words x (z.slots + j + 1) y 0 (λ e. omega arith)))
+      (λ q l. dite (ℕ_discrete q i)
+      (λ e. let wide = ok.1.wide in inl (subst (λ (n : ℕ). n < 65536) (sym (ap (mask z (set s.words x y)) e ∙ get_or-set_same s.words x y 0 (omega arith))) (or_of_16 (get_or s.words x 0) k (subst (λ (b : ℕ). mask z s.words b < 65536) e (name.masks q l)) small)))
+      (λ e. inr (get_or-set_other s.words x (z.slots + z.bans + q + 1) y 0 (λ f. e (omega arith))))))
       (tracks z slots id me i k lead bare wide full free size)
 
   pub untracks_turn : (i k : ℕ) → length me.0.held ≡ z.slots → (hold me.0 i).number ≢ 0
       → Allows (Rule A key) slots id me (z.slots + z.bans + i + 1) (λ n. bit_and n k) (λ n m'. after_untrack (step slots (z.slots + z.bans + i + 1) k 0 none) me n m' × Turned (step slots (z.slots + z.bans + i + 1) k 0 none) me m' n (bit_and n k) [])
   untracks_turn i k wide full = let x : ℕ = z.slots + z.bans + i + 1 in turns A z key same slots id me x (λ n. bit_and n k) (after_untrack (step slots x k 0 none) me) (λ _. []) size
       (λ s ok there. let y : ℕ = bit_and (get_or s.words x 0) k in same_follows z s.words (set s.words x y) [] tt (λ q l. get_or-set_other s.words x (q + 1) y 0 (λ e. omega arith)) (λ j l. get_or-set_other s.words x (z.slots + j + 1) y 0 (λ e. omega arith)))
-      (λ s ok there name. let y : ℕ = bit_and (get_or s.words x 0) k in stays_named A z s.words (set s.words x y) name (λ q l. inr (get_or-set_other s.words x (q + 1) y 0 (λ e. omega arith))) (λ j l. inr (get_or-set_other s.words x (z.slots + j + 1) y 0 (λ e. omega arith))))
+      (λ s ok there name. let y : ℕ = bit_and (get_or s.words x 0) k in stays_named A z s.words (set s.words x y) name (λ q l. inr (get_or-set_other s.words x (q + 1) y 0 (λ e. omega arith))) (λ j l. inr (get_or-set_other s.words x (z.slots + j + 1) y 0 (λ e. omega arith)))
+      (λ q l. dite (ℕ_discrete q i)
+      (λ e. let wide = ok.1.wide in inl (subst (λ (n : ℕ). n < 65536) (sym (ap (mask z (set s.words x y)) e ∙ get_or-set_same s.words x y 0 (omega arith))) (let low = and_le_l (get_or s.words x 0) k in let old : get_or s.words x 0 < 65536 = subst (λ (b : ℕ). mask z s.words b < 65536) e (name.masks q l) in omega arith)))
+      (λ e. inr (get_or-set_other s.words x (z.slots + z.bans + q + 1) y 0 (λ f. e (omega arith))))))
       (untracks z slots id me i k lead bare wide full size)

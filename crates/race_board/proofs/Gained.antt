@@ -5,7 +5,7 @@ use native.Mathlib.Decide.{ℕ_discrete}
 use lib.ListN.{get_elem?}
 use Rattle.atomic_table.proofs.Lists.{at_longer, at_last}
 use Rattle.race_board.specs.Words.{number, parent}
-use Rattle.race_board.specs.Board.{no_hold}
+use Rattle.race_board.specs.Board.{hold, no_hold}
 use Rattle.race_board.specs.Steps.{did, noted, took}
 use Rattle.race_board.specs.Calls.{Longer, Saw, OnlySteps, SawFull, TakesAt, ticket}
 use Rattle.race_board.specs.declared.views.Did.{Did}
@@ -42,12 +42,13 @@ full_more v u w i n long full taken e k l = dite (ℕ_discrete k i)
     (λ f. (n, subst (λ (q : ℕ). Saw v w (q + 1) n) (sym f) (saw_now v u w (i + 1) n n long (ap (λ (q : View). q.steps) e)), taken))
     (λ f. let t = full k (omega arith) in (t.0, saw_more v u w (did (i + 1) n n) (k + 1) t.0 (ap (λ (q : View). q.steps) e) t.1, t.2))
 
-pub takes_at : (v u w : View) (i y : ℕ) → OnlySteps v u → Longer v u → i < v.size.slots → w ≡ noted (took u i y) (did (i + 1) 0 y) → TakesAt v w i (number y) (parent y)
-takes_at v u w i y only long inside e = let steps : w.steps ≡ u.steps ++ did (i + 1) 0 y ∷ [] = ap (λ (q : View). q.steps) e in (
+pub takes_at : (v u w : View) (i y : ℕ) → OnlySteps v u → Longer v u → i < v.size.slots → w ≡ noted (took u i y) (did (i + 1) 0 y) → (hold u i).number ≡ 0 → TakesAt v w i (number y) (parent y)
+takes_at v u w i y only long inside e free = let steps : w.steps ≡ u.steps ++ did (i + 1) 0 y ∷ [] = ap (λ (q : View). q.steps) e in (
   inside,
   saw_now v u w (i + 1) 0 y long steps,
   e ∙ (ap (λ (q : View). noted (took q i y) (did (i + 1) 0 y)) only
       ∙ (λ k. let r : View = record v { steps = sym steps k; drawn = 0; held = set v.held i (ticket (number y) (parent y)) } in r)),
+  sym (ap (λ (q : View). (hold q i).number) only) ∙ free,
 )
 
 -- the plain words of a seat's tickets, where the slot i gets the word x and the ticket h

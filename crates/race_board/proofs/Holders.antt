@@ -164,6 +164,7 @@ module _ (z : Size) where
   claims slots id me i word idle bare sz inside drawn named unmarked s (c, r) _ there _ = let holder = apart_from_first z c s r id me.0 there idle in let n : ℕ = get_or s.words (i + 1) 0 in let ok = r.seats id me.0 there in let wide = r.wide in
       let others : (k : ℕ) → (hold me.0 k).number ≢ 0 → (hold me.0 k).number ≢ me.0.drawn = λ k full e. let a = ok.holds k full in let b = (ok.unused drawn).0 in
       let t = (r.tasks k a.inside (λ f. full (sym a.is ∙ (ap number f ∙ zero_number)))).stands in let f : r.at (number (task s.words k)) ≡ r.at me.0.drawn = ap r.at (a.is ∙ e) in omega arith in
+      let free : n ≡ 0 → (hold me.0 (i + 1 - 1)).number ≡ 0 = λ e. sym (ap (λ (k : ℕ). (hold me.0 k).number) (back_one i)) ∙ dite (ℕ_discrete (hold me.0 i).number 0) (λ f. f) (λ f. absurd (f (sym (ok.holds i f).is ∙ (ap number e ∙ zero_number)))) in
       dite (ℕ_discrete n 0)
       (λ hit. let ws : List ℕ = set s.words (i + 1) word in let new : Hold = record { number = number word; parent = parent word; check = fresh (parent word); cleared = 0; seek = 0 } in let w : View = noted (took me.0 i word) (did (i + 1) 0 word) in
       let owner' = put r.owner i id in let m : ℕ = me.0.drawn in let at' = put r.at m (2 * i + 3) in let mine = ok.unused drawn in let was : r.at m ≡ 2 * id + 2 = mine.0 in
@@ -218,7 +219,7 @@ module _ (z : Size) where
             (λ e. let t = r.tasks k l (λ f. h (rest k e ∙ f)) in let st = t.stands in
             same_word z c r.owner r.at owner' at' s.words ws s.views id me.0 w k there (put_else r.owner i id k e) (rest k e) (kept_at (number (task s.words k)) (λ f. omega arith)) (ap (λ (q : Hold). q.number) (held_rest k e)) t))
             (λ j _. get_or-set_other s.words (i + 1) (z.slots + j + 1) word 0 (λ e. omega arith))),
-        ((λ _. goes me w bare ∙ (λ q. (noted (took me.0 (back_one i q) word) (did (i + 1) 0 word), []))), (λ f. absurd (f hit)), others),
+        ((λ _. goes me w bare ∙ (λ q. (noted (took me.0 (back_one i q) word) (did (i + 1) 0 word), []))), (λ f. absurd (f hit)), others, free),
       ))
       (λ miss. let w : View = noted me.0 (did (i + 1) n n) in (
         w,
@@ -226,7 +227,7 @@ module _ (z : Size) where
         tt,
         subst (λ b. BoardOk z (stepped s (i + 1) (either b word n) id me.1 w keeps)) (sym (ne_eqb n 0 miss))
             (quiet z c s r id me.0 w (i + 1) there holder refl refl (λ k. refl) (alike z c s r id me.0 w refl refl refl refl refl refl refl ok)),
-        ((λ e. absurd (miss e)), (λ _. goes me w bare), others),
+        ((λ e. absurd (miss e)), (λ _. goes me w bare), others, free),
       ))
 
   pub checks : (slots id : ℕ) (me : M) (i j : ℕ) → me.0.lead ≡ 0 → me.1 ≡ [] → length me.0.held ≡ z.slots → me.0.size ≡ z → (hold me.0 i).number ≢ 0 → (j ≡ 0) ⊎ ((hold me.0 i).check ≡ Next j) → j < z.bans

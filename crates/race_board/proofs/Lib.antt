@@ -19,3 +19,4 @@ pub mod Counts
 pub mod Last
 pub mod Tickets
 pub mod Known
+pub mod Walking

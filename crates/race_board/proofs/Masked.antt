@@ -1,5 +1,5 @@
 -- The two loads of a mask.
-use Rattle.std.proofs.Common.{◌≡◌, ◌≢◌, ℕ, ◌+◌, ◌%◌, List, [], ◌∷◌, ◌++◌, slice_index, sym, ap, ◌∙◌, subst}
+use Rattle.std.proofs.Common.{◌≡◌, ◌≢◌, ℕ, ◌+◌, List, [], ◌∷◌, ◌++◌, slice_index, sym, ap, ◌∙◌, subst}
 use mathlib.Core.Logic.{dite}
 use native.Mathlib.Decide.{ℕ_discrete}
 use Rattle.race_board.specs.Words.{number, cancel}
@@ -24,7 +24,7 @@ after_word u w n d some none = dite (ℕ_discrete (cancel n) 0)
 
 pub masks_then : (v u w : View) (z : Size) (n nodes i loaded seen : ℕ) → slice_index v.last i ≡ n → v.half ≡ 0 → In n v.marked
     → u ≡ noted (halved v i loaded) (did (z.slots + z.bans + i + 1) loaded loaded) → (cancel seen ≢ 0 → w ≡ noted (with_mask u (number seen)) (did (i + 1) seen seen)) → (cancel seen ≡ 0 → w ≡ noted (no_mask u) (did (i + 1) seen seen))
-    → (seen ≢ 0 → In (number seen) u.marked → cancel seen ≢ 0) → (seen ≢ 0 → number seen ≡ n → nodes ≡ loaded % 65536) → ((seen ≢ 0 → number seen ≢ n) → nodes ≡ 0) → Masks v w z n nodes i
+    → (seen ≢ 0 → In (number seen) u.marked → cancel seen ≢ 0) → (seen ≢ 0 → number seen ≡ n → nodes ≡ loaded) → ((seen ≢ 0 → number seen ≢ n) → nodes ≡ 0) → Masks v w z n nodes i
 masks_then v u w z n nodes i loaded seen at whole marked a some none live bits empty = let d : Did = did (i + 1) seen seen in let t = after_word u w seen d some none in let steps : u.steps ≡ v.steps ++ did (z.slots + z.bans + i + 1) loaded loaded ∷ [] = ap (λ (q : View). q.steps) a in
     let long : Longer v u = longer_more v v u (did (z.slots + z.bans + i + 1) loaded loaded) (longer_same v) steps in record {
       slot = at;

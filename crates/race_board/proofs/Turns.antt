@@ -4,7 +4,7 @@ use mathlib.Core.Option.{some}
 use lib.ListN.{get_elem?}
 use Rattle.atomic_table.specs.Table.{stepped, Allows}
 use Rattle.race_board.specs.Words.{cancel, by}
-use Rattle.race_board.specs.Board.{task, BoardOk}
+use Rattle.race_board.specs.Board.{task, mask, BoardOk}
 use Rattle.race_board.specs.Steps.{Sat}
 use Rattle.race_board.specs.Events.{Event, Follows}
 use Rattle.race_board.specs.Theorem.{Moment}
@@ -76,9 +76,11 @@ module _ (A : ℕ → Type 0) (z key : Size) (same : key ≡ z) (slots id : ℕ)
 pub stays_named : (A : ℕ → Type 0) (z : Size) (ws ws' : List ℕ) → Named A z ws
     → ((i : ℕ) → i < z.slots → (cancel (task ws' i) ≢ 0 → A (cancel (task ws' i))) ⊎ (task ws' i ≡ task ws i))
     → ((j : ℕ) → j < z.bans → (get_or ws' (z.slots + j + 1) 0 ≢ 0 → A (by (get_or ws' (z.slots + j + 1) 0)) × (by (get_or ws' (z.slots + j + 1) 0) < 65536)) ⊎ (get_or ws' (z.slots + j + 1) 0 ≡ get_or ws (z.slots + j + 1) 0))
+    → ((i : ℕ) → i < z.slots → (mask z ws' i < 65536) ⊎ (mask z ws' i ≡ mask z ws i))
     → Named A z ws'
-stays_named A z ws ws' name tasks bans = record {
+stays_named A z ws ws' name tasks bans masks = record {
   marks = λ i l n. ⊎_elim (λ (h : cancel (task ws' i) ≢ 0 → A (cancel (task ws' i))). h n) (λ (e : task ws' i ≡ task ws i). subst (λ (q : ℕ). A (cancel q)) (sym e) (name.marks i l (λ f. n (ap cancel e ∙ f)))) (tasks i l);
   bans = λ j l n. ⊎_elim (λ (h : get_or ws' (z.slots + j + 1) 0 ≢ 0 → A (by (get_or ws' (z.slots + j + 1) 0)) × (by (get_or ws' (z.slots + j + 1) 0) < 65536)). h n)
       (λ (e : get_or ws' (z.slots + j + 1) 0 ≡ get_or ws (z.slots + j + 1) 0). subst (λ (q : ℕ). A (by q) × (by q < 65536)) (sym e) (name.bans j l (λ f. n (e ∙ f)))) (bans j l);
+  masks = λ i l. ⊎_elim (λ (h : mask z ws' i < 65536). h) (λ (e : mask z ws' i ≡ mask z ws i). subst (λ (n : ℕ). n < 65536) (sym e) (name.masks i l)) (masks i l);
 }

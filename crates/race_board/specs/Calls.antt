@@ -43,9 +43,9 @@ SawFull v w n = (i : ℕ) → i < n → (seen : ℕ) × Saw v w (i + 1) seen × 
 abbrev pub ticket : ℕ → ℕ → Hold
 ticket n p = record { number = n; parent = p; check = fresh p; cleared = 0; seek = 0 }
 
--- the number is used for a ticket at a slot whose word was seen free
+-- the number is used for a ticket at a slot whose word was seen free, and where the seat had no other
 abbrev pub TakesAt : View → View → ℕ → ℕ → ℕ → Type 0
-TakesAt v w i n p = (i < v.size.slots) × Saw v w (i + 1) 0 × (w ≡ record v { steps = w.steps; drawn = 0; held = slice_set v.held i (ticket n p) })
+TakesAt v w i n p = (i < v.size.slots) × Saw v w (i + 1) 0 × (w ≡ record v { steps = w.steps; drawn = 0; held = slice_set v.held i (ticket n p) }) × ((hold v i).number ≡ 0)
 
 abbrev pub Takes : View → View → ℕ → ℕ → Type 0
 Takes v w n p = (i : ℕ) × TakesAt v w i n p

@@ -5,6 +5,7 @@ pub mod Events
 pub mod StepEvents
 pub mod Theorem
 pub mod Turn
+pub mod Walks
 pub mod Keys
 pub mod Seats
 pub mod Calls

@@ -1,5 +1,5 @@
 -- What the control seat's calls say.
-use Rattle.std.specs.Prelude.{◌≡◌, ◌≢◌, ℕ, ◌+◌, ◌%◌, ◌<◌, ◌⊎◌, List, ◌++◌, ◌∷◌, [], slice_index, slice_set, Option, Some, None}
+use Rattle.std.specs.Prelude.{◌≡◌, ◌≢◌, ℕ, ◌+◌, ◌<◌, ◌⊎◌, List, ◌++◌, ◌∷◌, [], slice_index, slice_set, Option, Some, None}
 use Rattle.task_table.specs.declared.ended.MarkAnswer.{MarkAnswer}
 use Rattle.task_table.specs.declared.ended.MarkAnswer.TheVariants.{Marked, Already, NotFound}
 use Rattle.race_board.specs.Words.{number, cancel, ban_word}
@@ -69,7 +69,7 @@ pub record Masks (v w : View) (z : Size) (n nodes i : ℕ) : Type 0 where
   pub seen : ℕ
   pub saw_mask : Saw v w (z.slots + z.bans + i + 1) loaded
   pub saw_word : Saw v w (i + 1) seen
-  pub whole : seen ≢ 0 → number seen ≡ n → (nodes ≡ loaded % 65536) × (w.masks ≡ record { number = n; nodes = loaded } ∷ v.masks)
+  pub whole : seen ≢ 0 → number seen ≡ n → (nodes ≡ loaded) × (w.masks ≡ record { number = n; nodes = loaded } ∷ v.masks)
   pub none : (seen ≢ 0 → number seen ≢ n) → nodes ≡ 0
   pub frame : w ≡ record v { steps = w.steps; masks = w.masks; half_mask = w.half_mask }
 

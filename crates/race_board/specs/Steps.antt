@@ -78,6 +78,7 @@ after_claim st m n m' =
     (n ≡ 0 → Goes m' (noted (took m.0 (st.word - 1) st.second) (did st.word 0 st.second)))
     × (n ≢ 0 → Goes m' (noted m.0 (did st.word n n)))
     × ((i : ℕ) → (hold m.0 i).number ≢ 0 → (hold m.0 i).number ≢ m.0.drawn)
+    × (n ≡ 0 → (hold m.0 (st.word - 1)).number ≡ 0)
 
 -- a load that is only noted
 abbrev pub after_note : At → Sat → ℕ → Sat → Type 0

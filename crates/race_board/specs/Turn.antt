@@ -2,7 +2,7 @@
 use Rattle.std.specs.Prelude.{◌≡◌, ◌≢◌, ℕ, ◌+◌, ◌<◌, List, slice_index, slice_set}
 use Rattle.atomic_table.specs.Table.{State}
 use Rattle.race_board.specs.Words.{cancel, by}
-use Rattle.race_board.specs.Board.{task, BoardOk}
+use Rattle.race_board.specs.Board.{task, mask, BoardOk}
 use Rattle.race_board.specs.Steps.{At, Sat}
 use Rattle.race_board.specs.Events.{Event, Follows}
 use Rattle.race_board.specs.Theorem.{Moment, Sits, Holds}
@@ -26,10 +26,11 @@ abbrev pub Turned : At → Sat → Sat → ℕ → ℕ → List Event → Type 0
 Turned st m m' found left es = Turn m.0.size m.0 m'.0 st.word found left es
 
 module _ (allowed : ℕ → Type 0) (z : Size) where
-  -- each mark and each ban has a number that the board's name allows
+  -- each mark and each ban has a number that the board's name allows, and a mask has bits for nodes alone, of which the greatest is 15
   pub record Named (ws : List ℕ) : Type 0 where
     pub marks : (i : ℕ) → i < z.slots → cancel (task ws i) ≢ 0 → allowed (cancel (task ws i))
     pub bans : (j : ℕ) → j < z.bans → slice_index ws (z.slots + j + 1) ≢ 0 → allowed (by (slice_index ws (z.slots + j + 1))) × (by (slice_index ws (z.slots + j + 1)) < 65536)
+    pub masks : (i : ℕ) → i < z.slots → mask z ws i < 65536
 
   abbrev pub Rule : State (Unit {0}) View → Type 0
   Rule s = BoardOk z s × Named s.words

@@ -2,6 +2,7 @@
 ghost use Rattle.std.specs.Prelude.{◌≡◌, ◌≢◌, ℕ, ◌+◌, ◌-◌, ◌^◌, ◌<◌, ◌≤◌};
 ghost use Rattle.task_ids.specs.Limits.{IsNode};
 ghost use Rattle.race_board.specs.Seats.{seat_view, board_size, IsSeatOf};
+ghost use Rattle.race_board.specs.Walks.{Walks};
 ghost use Rattle.race_board.specs.Calls.{Longer, HasTicket};
 ghost use Rattle.race_board.specs.Checks.{IsClear, Tracks, CancelledBy, Untracks, all_but};
 
@@ -31,6 +32,7 @@ impl<N: BoardName> RaceBoard<N> {
         ensures steps { Longer (seat_view seat.old) (seat_view seat.new) }
         ensures held { HasTicket (seat_view seat.new) ticket.now }
         ensures clear { IsClear (seat_view seat.new) ticket.now.id.number }
+        ensures moments { Walks (seat_view seat.old) (seat_view seat.new) }
         ensures tracks { Tracks (seat_view seat.old) (seat_view seat.new) ticket.now.id.number (2 ^ to) result }
         ensures allowed { CancelledBy N.allowed result }
     {
@@ -49,6 +51,7 @@ impl<N: BoardName> RaceBoard<N> {
         requires node { IsNode to }
         ensures fits { IsSeatOf self.now seat.new }
         ensures held { HasTicket (seat_view seat.new) ticket.now }
+        ensures moments { Walks (seat_view seat.old) (seat_view seat.new) }
         ensures untracks { Untracks (seat_view seat.old) (seat_view seat.new) (board_size self.now) ticket.now.id.number to }
     {
         let slot = seat.slot_of(ticket.id().number);

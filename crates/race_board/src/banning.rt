@@ -4,6 +4,7 @@ ghost use Rattle.task_ids.specs.Limits.{IsCancel};
 ghost use Rattle.race_board.specs.Board.{ban, In};
 ghost use Rattle.race_board.specs.Keys.{task_key};
 ghost use Rattle.race_board.specs.Seats.{control_view, board_size, IsControlOf};
+ghost use Rattle.race_board.specs.Walks.{Walks};
 ghost use Rattle.race_board.specs.Calls.{Longer};
 ghost use Rattle.race_board.specs.Lists.{Bans, NoneOf, Unbans, Listing, Passes};
 
@@ -37,6 +38,7 @@ impl<N: BoardName> RaceBoard<N> {
         requires new { NoneOf (control_view seat.old) (board_size self.now) (task_key parent) }
         requires cancel { IsCancel cancel × N.allowed cancel }
         ensures fits { IsControlOf self.now seat.new }
+        ensures moments { Walks (control_view seat.old) (control_view seat.new) }
         ensures put { IfOk result (λ j. Bans (control_view seat.old) (control_view seat.new) (board_size self.now) (task_key parent) cancel j) }
         ensures full { IfErr result (λ _. (control_view seat.new ≡ control_view seat.old) × NoneOf (control_view seat.old) (board_size self.now) 0) }
     {
@@ -53,6 +55,7 @@ impl<N: BoardName> RaceBoard<N> {
     pub fn unban(&self, seat: &mut ControlSeat<N>, parent: TaskId) -> bool
         requires fits { IsControlOf self.now seat.old }
         ensures fits { IsControlOf self.now seat.new }
+        ensures moments { Walks (control_view seat.old) (control_view seat.new) }
         ensures gone { MatchBool result
             (Unbans (control_view seat.old) (control_view seat.new) (board_size self.now) (task_key parent))
             ((control_view seat.new ≡ control_view seat.old) × NoneOf (control_view seat.old) (board_size self.now) (task_key parent)) }
@@ -80,6 +83,7 @@ impl<N: BoardName> RaceBoard<N> {
         requires ban { ((ban seat.old.me.0 place).parent ≡ parent) × ((ban seat.old.me.0 place).cancel ≡ cancel) × ((ban seat.old.me.0 place).next ≡ slot) × (parent ≢ 0) × (cancel ≢ 0) × (cancel < 65536) }
         ensures fits { (seat.new.table_id ≡ seat.old.table_id) × (seat.new.me.1 ≡ []) }
         ensures steps { Longer seat.old.me.0 seat.new.me.0 }
+        ensures moments { Walks seat.old.me.0 seat.new.me.0 }
         ensures passes { Passes seat.old.me.0 seat.new.me.0 place slot result }
     {
         let seen = self.words.scan(seat, place, slot);
@@ -101,6 +105,7 @@ impl<N: BoardName> RaceBoard<N> {
         ensures fits { IsControlOf self.now seat.new }
         ensures steps { Longer (control_view seat.old) (control_view seat.new) }
         ensures found { (length found.new ≡ length found.old) × (result ≤ length found.new) }
+        ensures moments { Walks (control_view seat.old) (control_view seat.new) }
         ensures known { (k : ℕ) → k < result → In (slice_index found.new k) (control_view seat.new).marked }
         ensures listed { Listing (control_view seat.old) (control_view seat.new) place (board_size self.now).slots ((control_view seat.old).marked ++ take result found.new) }
     {

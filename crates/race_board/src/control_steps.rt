@@ -155,6 +155,7 @@ impl<N: BoardName> BoardWords<N> {
         requires fits { (seat.old.table_id ≡ self.now.table.shared.table_id) × (seat.old.me.1 ≡ []) × (seat.old.me.0.size ≡ self.now.size) }
         requires control { (seat.old.me.0.lead ≡ 1) × (slot < self.now.size.slots) }
         ensures fits { (seat.new.table_id ≡ seat.old.table_id) × (seat.new.me.1 ≡ []) }
+        ensures small { result < 65536 }
         ensures half { seat.new.me.0 ≡ noted (halved seat.old.me.0 slot result) (did (self.now.size.slots + self.now.size.bans + slot + 1) result result) }
         ensures turn { Turn seat.old.me.0.size seat.old.me.0 seat.new.me.0 (self.now.size.slots + self.now.size.bans + slot + 1) result result [] }
     {

@@ -36,6 +36,7 @@ impl<N: BoardName> BoardWords<N> {
         ensures fits { (seat.new.table_id ≡ seat.old.table_id) × (seat.new.me.1 ≡ []) }
         ensures takes { result ≡ 0 → seat.new.me.0 ≡ noted (took seat.old.me.0 slot word) (did (slot + 1) 0 word) }
         ensures taken { result ≢ 0 → seat.new.me.0 ≡ noted seat.old.me.0 (did (slot + 1) result result) }
+        ensures free { result ≡ 0 → (hold seat.old.me.0 slot).number ≡ 0 }
         ensures alone { (i : ℕ) → (hold seat.old.me.0 i).number ≢ 0 → (hold seat.old.me.0 i).number ≢ seat.old.me.0.drawn }
         ensures turn { Turn seat.old.me.0.size seat.old.me.0 seat.new.me.0 (slot + 1) result (either (result == 0) word result) (of_claim result word) }
     {
@@ -123,6 +124,7 @@ impl<N: BoardName> BoardWords<N> {
         requires fits { (seat.old.table_id ≡ self.now.table.shared.table_id) × (seat.old.me.1 ≡ []) × (seat.old.me.0.size ≡ self.now.size) }
         requires data { (seat.old.me.0.lead ≡ 0) × (length seat.old.me.0.held ≡ self.now.size.slots) × (slot < self.now.size.slots) }
         requires ticket { ((hold seat.old.me.0 slot).number ≢ 0) × ((hold seat.old.me.0 slot).seek ≡ 0) }
+        requires nodes { bits < 65536 }
         ensures fits { (seat.new.table_id ≡ seat.old.table_id) × (seat.new.me.1 ≡ []) }
         ensures sets { seat.new.me.0 ≡ noted (with_hold seat.old.me.0 slot (seeking (hold seat.old.me.0 slot) bits)) (did (self.now.size.slots + self.now.size.bans + slot + 1) result (bit_or result bits)) }
         ensures turn { Turn seat.old.me.0.size seat.old.me.0 seat.new.me.0 (self.now.size.slots + self.now.size.bans + slot + 1) result (bit_or result bits) [] }

@@ -4,6 +4,7 @@ ghost use Rattle.task_ids.specs.Limits.{IsCancel};
 ghost use Rattle.race_board.specs.Words.{number, cancel};
 ghost use Rattle.race_board.specs.Board.{In};
 ghost use Rattle.race_board.specs.Seats.{control_view, board_size, IsControlOf};
+ghost use Rattle.race_board.specs.Walks.{Walks};
 ghost use Rattle.race_board.specs.Calls.{Longer};
 ghost use Rattle.race_board.specs.Turn.{MayMark};
 ghost use Rattle.race_board.specs.Lists.{Marks, MarksSeen, AlreadyBy, KnownBy, IsMask};
@@ -23,6 +24,7 @@ impl<N: BoardName> RaceBoard<N> {
         requires cancel { IsCancel cancel × N.allowed cancel }
         ensures fits { IsControlOf self.now seat.new }
         ensures steps { Longer (control_view seat.old) (control_view seat.new) }
+        ensures moments { Walks (control_view seat.old) (control_view seat.new) }
         ensures known { KnownBy (control_view seat.new) number result }
         ensures marks { Marks (control_view seat.old) (control_view seat.new) (board_size self.now) number result }
         ensures allowed { AlreadyBy N.allowed result }
@@ -50,6 +52,7 @@ impl<N: BoardName> RaceBoard<N> {
         requires cancel { IsCancel cancel × N.allowed cancel }
         ensures fits { IsControlOf self.now seat.new }
         ensures steps { Longer (control_view seat.old) (control_view seat.new) }
+        ensures moments { Walks (control_view seat.old) (control_view seat.new) }
         ensures marks { MarksSeen (control_view seat.old) (control_view seat.new) slot seen result }
         ensures allowed { AlreadyBy N.allowed result }
     {
@@ -69,6 +72,7 @@ impl<N: BoardName> RaceBoard<N> {
         requires fits { IsControlOf self.now seat.old }
         requires marked { In number (control_view seat.old).marked }
         ensures fits { IsControlOf self.now seat.new }
+        ensures moments { Walks (control_view seat.old) (control_view seat.new) }
         ensures known { (control_view seat.new).marked ≡ (control_view seat.old).marked }
         ensures mask { IsMask (control_view seat.old) (control_view seat.new) (board_size self.now) number result.0 }
     {
@@ -78,7 +82,7 @@ impl<N: BoardName> RaceBoard<N> {
         let mask = self.words.load_mask(&mut seat.place, slot);
         let seen = self.words.load_masked(&mut seat.place, slot);
         if is_word_of(seen, number) {
-            NodeSet((mask % 65_536) as u16)
+            NodeSet(mask as u16)
         } else {
             NodeSet(0)
         }

@@ -1,6 +1,6 @@
 //! What each kind of step tells: the seat's view after it, the moments before and after it with the events between
 //! them, and that a mark or a ban that it finds has a number that the board's name allows.
-ghost use Rattle.std.specs.Prelude.{ℕ, ◌≡◌, ◌≢◌, ◌+◌, ◌-◌, ◌%◌, ◌^◌, [], ◌==◌, bit_or, bit_and};
+ghost use Rattle.std.specs.Prelude.{ℕ, ◌≡◌, ◌≢◌, ◌<◌, ◌+◌, ◌-◌, ◌%◌, ◌^◌, [], ◌==◌, bit_or, bit_and};
 ghost use prog.Atomic.{either};
 ghost use Rattle.race_board.specs.Words.{number, cancel};
 ghost use Rattle.race_board.specs.Board.{newcomer, both, spent, hold, ban, In};
@@ -109,7 +109,7 @@ impl<N: BoardName> Play<(), View> for Look<N> {
 pub(crate) struct Half;
 
 impl Play<(), View> for Half {
-    ghost then = { λ st m n m'. after_half st m n m' × Turned st m m' n n [] };
+    ghost then = { λ st m n m'. after_half st m n m' × Turned st m m' n n [] × (n < 65536) };
 }
 
 pub(crate) struct Whole;

@@ -5,6 +5,7 @@ ghost use Rattle.race_board.specs.Words.{number, parent, cancel};
 ghost use Rattle.race_board.specs.Keys.{parent_key};
 ghost use Rattle.race_board.specs.Steps.{did, noted, drew};
 ghost use Rattle.race_board.specs.Seats.{seat_view, board_size, IsSeatOf};
+ghost use Rattle.race_board.specs.Walks.{Walks};
 ghost use Rattle.race_board.specs.Calls.{Longer, HasTicket, OnlySteps, Refuses, SawFull, Takes, TakesAt};
 
 use crate::board::RaceBoard;
@@ -23,6 +24,7 @@ impl<N: BoardName> RaceBoard<N> {
         requires fits { IsSeatOf self.now seat.old }
         requires free { (seat_view seat.old).drawn ≡ 0 }
         ensures fits { IsSeatOf self.now seat.new }
+        ensures moments { Walks (seat_view seat.old) (seat_view seat.new) }
         ensures drawn { IfSome result (λ n. (n ≢ 0) × ((seat_view seat.old).told ≡ 0) × (seat_view seat.new ≡ noted (drew (seat_view seat.old) n) (did 0 (n - 1) n))) }
         ensures none { IfNone result (Refuses (seat_view seat.old) (seat_view seat.new)) }
     {
@@ -45,6 +47,7 @@ impl<N: BoardName> RaceBoard<N> {
         requires word { ((seat_view seat.old).drawn ≢ 0) × (number word ≡ (seat_view seat.old).drawn) × (cancel word ≡ 0) }
         ensures fits { IsSeatOf self.now seat.new }
         ensures steps { Longer (seat_view seat.old) (seat_view seat.new) }
+        ensures moments { Walks (seat_view seat.old) (seat_view seat.new) }
         ensures taken { MatchOption result
             (OnlySteps (seat_view seat.old) (seat_view seat.new) × SawFull (seat_view seat.old) (seat_view seat.new) (board_size self.now).slots)
             (λ i. TakesAt (seat_view seat.old) (seat_view seat.new) i (number word) (parent word)) }
@@ -74,6 +77,7 @@ impl<N: BoardName> RaceBoard<N> {
         requires token { token_parent token ≡ parent }
         ensures fits { IsSeatOf self.now seat.new }
         ensures steps { Longer (seat_view seat.old) (seat_view seat.new) }
+        ensures moments { Walks (seat_view seat.old) (seat_view seat.new) }
         ensures ticket { IfOk result (λ t. (t.id.node ≡ self.now.node) × (t.id.number ≡ number) × (t.token ≡ token)) }
         ensures held { IfOk result (HasTicket (seat_view seat.new)) }
         ensures takes { OnOk result (Takes (seat_view seat.old) (seat_view seat.new) number (parent_key parent)) }

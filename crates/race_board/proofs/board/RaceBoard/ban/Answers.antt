@@ -7,6 +7,7 @@ use Rattle.race_board.specs.declared.views.Ban.{Ban}
 use Rattle.race_board.specs.declared.views.View.{View}
 use Rattle.race_board.proofs.Parts.{banned_ban, by_ban}
 use Rattle.race_board.proofs.Listed.{put_is, bans_set}
+use Rattle.race_board.proofs.Walking.{walk_one, stride_either}
 use Rattle.race_board.proofs.board.RaceBoard.ban.Goals as goal
 
 pub put-requires-clause-word : goal.put-requires-clause-word
@@ -37,3 +38,7 @@ invariant_of-seat g c = let seat = c.args.seat.now in let v : View = seat.place.
       standing = subst (λ (x : ℕ × List Ban). (i : ℕ) → (slice_index (set seat.bans.items j x.0) i ≡ ban_word (get_or x.1 i no_ban).parent (get_or x.1 i no_ban).cancel) × ((get_or x.1 i no_ban).parent < 16777216) × ((get_or x.1 i no_ban).cancel < 65536) × ((get_or x.1 i no_ban).parent ≢ 0 → (get_or x.1 i no_ban).cancel ≢ 0))
           (λ i. (sym is i, sym bans_are i)) (bans_set seat.bans.items v.bans j b near inside c.key_of.ensures.some.1 (let a = c.requires.cancel.0 in let small : k < 65536 = omega arith in small) (λ _ f. let a = c.requires.cancel.0 in absurd (omega arith)) seat.standing);
     }
+
+pub returns-clause-moments : goal.returns-clause-moments
+returns-clause-moments g c = let v : View = c.args.seat.now.place.me.0 in let w : View = c.put.new.seat.me.0 in let x : ℕ = c.args.self.now.words.size.slots + c.in-Some.place + 1 in
+    walk_one v w (stride_either v w x c.put.result 0 c.ban_of-word.result _ _ (λ _. ap (λ (q : View). q.steps) c.put.ensures.puts) (λ f. absurd (f c.put.ensures.free)) c.put.ensures.turn)

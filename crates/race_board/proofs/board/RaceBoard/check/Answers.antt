@@ -15,6 +15,7 @@ use Rattle.race_board.proofs.Parts.{banned_some}
 use Rattle.race_board.proofs.Gained.{longer_same, longer_more, saw_now}
 use Rattle.race_board.proofs.Checking.{reached, reached_next, reached_end, checked_at_first, checked_hold, checked_goes, checked_on, steps_on, none_more, ticket_at, check_fields, some_check}
 use Rattle.race_board.proofs.Tickets.{Roots, roots_set}
+use Rattle.race_board.proofs.Walking.{walk_none, walk_more, stride}
 use Rattle.race_board.proofs.board.RaceBoard.check.Goals as goal
 
 pub loop-place-init : goal.loop-place-init
@@ -31,6 +32,7 @@ loop-place-init g c = let seat = c.args.seat.now in let v : View = seat.place.me
       of_ticket = of_ticket;
       on = checked_at_first v i;
       longer = longer_same v;
+      walks = walk_none v;
       none_yet = λ j l. absurd (omega arith);
     }
 
@@ -85,6 +87,7 @@ loop-place-preserved g c = let v : View = c.args.seat.now.place.me.0 in let u : 
       of_ticket = inv.of_ticket;
       on = checked_on v u w i j z.bans (hold v i).check d inv.inside inv.on (c.check-seen.ensures.clear miss') (c.check-seen.ensures.next miss');
       longer = longer_more v u w d inv.longer steps;
+      walks = walk_more v u w inv.walks (stride u w (z.slots + j + 1) n n n _ steps c.check-seen.ensures.turn);
       none_yet = none_more v u w z.slots j c.key_of-parent.result n inv.longer inv.none_yet miss steps;
     }
 
@@ -120,3 +123,9 @@ pub returns-clause-checked : goal.returns-clause-checked
 returns-clause-checked g c = let v : View = c.args.seat.now.place.me.0 in let u : View = c.loop-place.seat.place.me.0 in let i : ℕ = c.slot_of-slot.result in let j : ℕ = c.loop-place.place in let z : Size = c.args.self.now.words.size in let inv = c.loop-place.invariant in
     let last : j ≡ z.bans = omega arith in let some_bans : 0 < z.bans = search rules in
     inr (i, inv.numbered, subst (λ (x : ℕ × ℕ). SawNoBan v u z.slots x.0 x.1) (λ x. (last x, inv.of_ticket x)) inv.none_yet, subst (Checked v u i) (reached_end j z.bans (hold v i).check some_bans last) inv.on)
+
+pub returns-then-banned_of-parent-clause-moments : goal.returns-then-banned_of-parent-clause-moments
+returns-then-banned_of-parent-clause-moments g c = let v : View = c.args.seat.now.place.me.0 in let u : View = c.loop-place.seat.place.me.0 in let w : View = c.check-seen.new.seat.me.0 in let i : ℕ = c.slot_of-slot.result in let j : ℕ = c.loop-place.place in let z : Size = c.args.self.now.words.size in let inv = c.loop-place.invariant in
+    let n : ℕ = c.check-seen.result in let here : hold u i ≡ _ = checked_hold v u i (reached j z.bans (hold v i).check) inv.inside inv.on in
+    let hit : banned n ≡ c.key_of-parent.result = sym c.banned_of.ensures ∙ c.if-banned_of-parent.true in
+    walk_more v u w inv.walks (stride u w (z.slots + j + 1) n n n _ (ap (λ (q : View). q.steps) (c.check-seen.ensures.banned (hit ∙ sym (ap (λ (h : Hold). h.parent) here ∙ inv.child)))) c.check-seen.ensures.turn)

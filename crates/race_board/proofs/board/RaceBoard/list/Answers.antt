@@ -4,6 +4,7 @@ use Rattle.std.proofs.lemmas.List.{take_more_set}
 use Rattle.race_board.specs.Words.{banned, by}
 use Rattle.race_board.specs.Board.{ban, In}
 use Rattle.race_board.specs.Calls.{Longer}
+use Rattle.race_board.specs.Walks.{Walks}
 use Rattle.race_board.specs.Lists.{Listing, with_one}
 use Rattle.race_board.specs.declared.views.Size.{Size}
 use Rattle.race_board.specs.declared.views.View.{View}
@@ -11,6 +12,7 @@ use Rattle.race_board.proofs.Parts.{banned_ban, by_ban}
 use Rattle.race_board.proofs.Gained.{longer_same, longer_trans}
 use Rattle.race_board.proofs.Listed.{listing_first, listing_passes, listing_marked}
 use Rattle.race_board.proofs.Known.{in_behind, in_taken}
+use Rattle.race_board.proofs.Walking.{walk_none, walk_on}
 use Rattle.race_board.proofs.board.RaceBoard.list.Goals.{in-Some, in_default}
 use Rattle.race_board.proofs.board.RaceBoard.list.Goals as goal
 
@@ -31,6 +33,7 @@ loop-slot-init g c = let seat = c.args.seat.now in let v : View = seat.place.me.
       inside = inside;
       on = listing_first v j c.args.found.now inside c.requires.ban.2 seat.idle.0 seat.idle.1;
       longer = longer_same v;
+      walks = walk_none v;
       few = omega arith;
       room = c.requires.room;
     }
@@ -39,6 +42,7 @@ pub loop-slot-preserved : goal.loop-slot-preserved
 loop-slot-preserved g c = let v : View = c.args.seat.now.place.me.0 in let u : View = c.loop-slot.seat.place.me.0 in let w : View = c.pass_slot.new.seat.me.0 in let j : ℕ = c.args.place in let i : ℕ = c.loop-slot.slot in let inv = c.loop-slot.invariant in
     let got = c.pass_slot.result in let ns : List ℕ = take c.loop-slot.count c.loop-slot.found in
     let on : Listing v w j (i + 1) (with_one (v.marked ++ ns) got) = listing_passes v u w j i (v.marked ++ ns) got inv.inside inv.on c.pass_slot.ensures.passes in
+    let walks : Walks v w = (let more = c.pass_slot.ensures.moments in walk_on more.0 v u w inv.walks more.1) in
     let long : Longer v w = longer_trans v u w inv.longer c.pass_slot.ensures.steps in let table : c.pass_slot.new.seat.table_id ≡ c.args.seat.now.place.table_id = c.pass_slot.ensures.fits.0 ∙ inv.table in let few : c.loop-slot.count ≤ i = inv.few in
     let room : c.loop-slot.count < length c.loop-slot.found = (let a = inv.room in let d = c.loop-slot-test.true in omega arith) in
     elim c.match-pass_slot.branch [
@@ -51,6 +55,7 @@ loop-slot-preserved g c = let v : View = c.args.seat.now.place.me.0 in let u : V
             (ap (with_one (v.marked ++ ns)) b.in-Some.is ∙ (append_assoc v.marked ns (b.in-Some.number ∷ []) ∙ ap (λ (l : List ℕ). v.marked ++ l)
             (sym (take_more_set c.loop-slot.found c.loop-slot.count b.in-Some.number room) ∙ (λ y. take (sym b.count-is y) (sym b.found-is y))))) on);
         longer = subst (Longer v) (ap (λ s. s.place.me.0) (sym b.seat-is)) long;
+        walks = subst (Walks v) (ap (λ s. s.place.me.0) (sym b.seat-is)) walks;
         few = omega arith;
         room = search rules;
       }
@@ -62,6 +67,7 @@ loop-slot-preserved g c = let v : View = c.args.seat.now.place.me.0 in let u : V
         on = subst (λ (q : View). Listing v q j (i + 1) (v.marked ++ take c.match-pass_slot.count c.match-pass_slot.found)) (ap (λ s. s.place.me.0) (sym b.seat-is)) (listing_marked v w j (i + 1) (with_one (v.marked ++ ns) got) (v.marked ++ take c.match-pass_slot.count c.match-pass_slot.found)
             (ap (with_one (v.marked ++ ns)) b.in_default.is ∙ (λ y. v.marked ++ take (sym b.count-is y) (sym b.found-is y))) on);
         longer = subst (Longer v) (ap (λ s. s.place.me.0) (sym b.seat-is)) long;
+        walks = subst (Walks v) (ap (λ s. s.place.me.0) (sym b.seat-is)) walks;
         few = omega arith;
         room = search rules;
       }

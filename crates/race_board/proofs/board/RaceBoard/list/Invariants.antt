@@ -1,5 +1,6 @@
 use Rattle.std.proofs.Common.{◌≡◌, ◌≤◌, ◌<◌, ◌++◌, length, take}
 use Rattle.race_board.specs.Board.{ban}
+use Rattle.race_board.specs.Walks.{Walks}
 use Rattle.race_board.specs.Calls.{Longer}
 use Rattle.race_board.specs.Lists.{Listing}
 use Rattle.race_board.proofs.board.RaceBoard.list.Given as goal
@@ -12,6 +13,7 @@ invariant-loop-slot g l = record {
   inside : l.place < length l.fn.seat.place.me.0.bans;
   on : Listing l.fn.seat.place.me.0 l.seat.place.me.0 l.place l.slot (l.fn.seat.place.me.0.marked ++ take l.count l.found);
   longer : Longer l.fn.seat.place.me.0 l.seat.place.me.0;
+  walks : Walks l.fn.seat.place.me.0 l.seat.place.me.0;
   few : l.count ≤ l.slot;
   room : length l.found ≡ l.self.words.size.slots;
 }

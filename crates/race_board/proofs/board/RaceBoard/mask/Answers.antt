@@ -1,15 +1,28 @@
-use Rattle.std.proofs.Common.{arith, ℕ, ◌%◌, ◌<◌, refl, ap, inl}
+use Rattle.std.proofs.Common.{arith, ℕ, ◌+◌, ◌++◌, [], ◌∷◌, ◌<◌, refl, ap, inl}
+use Rattle.race_board.specs.Words.{cancel}
+use Rattle.race_board.specs.Steps.{did}
 use Rattle.race_board.specs.declared.views.Size.{Size}
 use Rattle.race_board.specs.declared.views.View.{View}
 use Rattle.race_board.proofs.Masked.{masks_then}
+use Rattle.race_board.proofs.Walking.{walk_one, walk_more, stride, marked_or_not}
 use Rattle.race_board.proofs.board.RaceBoard.mask.Goals as goal
 
 pub returns-then-is_word_of-clause-mask : goal.returns-then-is_word_of-clause-mask
 returns-then-is_word_of-clause-mask g c = let seat = c.args.seat.now in let v : View = seat.place.me.0 in let u : View = c.load_mask-mask.new.seat.me.0 in let w : View = c.load_masked-seen.new.seat.me.0 in let i : ℕ = c.in-Some.slot in let m : ℕ = c.load_mask-mask.result in let n : ℕ = c.load_masked-seen.result in
     let low : i < c.args.self.now.words.size.slots = (let a = c.in-Some.ensures.found.0 in let b = seat.latest.0 in let d = ap (λ (z : Size). z.slots) c.requires.fits.1 in omega arith) in
-    inl (i, low, masks_then v u w c.args.self.now.words.size c.args.number (m % 65536) i m n c.in-Some.ensures.found.1 seat.idle.2 c.requires.marked c.load_mask-mask.ensures.half c.load_masked-seen.ensures.whole c.load_masked-seen.ensures.none c.load_masked-seen.ensures.marked (λ _ _. refl) (λ f. let t = c.if-is_word_of.ensures in absurd (f t.0 t.1)))
+    inl (i, low, masks_then v u w c.args.self.now.words.size c.args.number m i m n c.in-Some.ensures.found.1 seat.idle.2 c.requires.marked c.load_mask-mask.ensures.half c.load_masked-seen.ensures.whole c.load_masked-seen.ensures.none c.load_masked-seen.ensures.marked (λ _ _. refl) (λ f. let t = c.if-is_word_of.ensures in absurd (f t.0 t.1)))
 
 pub returns-else-is_word_of-clause-mask : goal.returns-else-is_word_of-clause-mask
 returns-else-is_word_of-clause-mask g c = let seat = c.args.seat.now in let v : View = seat.place.me.0 in let u : View = c.load_mask-mask.new.seat.me.0 in let w : View = c.load_masked-seen.new.seat.me.0 in let i : ℕ = c.in-Some.slot in let m : ℕ = c.load_mask-mask.result in let n : ℕ = c.load_masked-seen.result in
     let low : i < c.args.self.now.words.size.slots = (let a = c.in-Some.ensures.found.0 in let b = seat.latest.0 in let d = ap (λ (z : Size). z.slots) c.requires.fits.1 in omega arith) in
     inl (i, low, masks_then v u w c.args.self.now.words.size c.args.number 0 i m n c.in-Some.ensures.found.1 seat.idle.2 c.requires.marked c.load_mask-mask.ensures.half c.load_masked-seen.ensures.whole c.load_masked-seen.ensures.none c.load_masked-seen.ensures.marked (λ full is. let t = c.if-is_word_of.ensures in absurd (t full is)) (λ _. refl))
+
+pub returns-then-is_word_of-clause-moments : goal.returns-then-is_word_of-clause-moments
+returns-then-is_word_of-clause-moments g c = let v : View = c.args.seat.now.place.me.0 in let u : View = c.load_mask-mask.new.seat.me.0 in let w : View = c.load_masked-seen.new.seat.me.0 in let i : ℕ = c.in-Some.slot in let m : ℕ = c.load_mask-mask.result in let n : ℕ = c.load_masked-seen.result in let z : Size = c.args.self.now.words.size in
+    walk_more v u w (walk_one v u (stride v u (z.slots + z.bans + i + 1) m m m _ (ap (λ (q : View). q.steps) c.load_mask-mask.ensures.half) c.load_mask-mask.ensures.turn))
+    (stride u w (i + 1) n n n _ (marked_or_not w (u.steps ++ did (i + 1) n n ∷ []) (cancel n) (λ e. ap (λ (q : View). q.steps) (c.load_masked-seen.ensures.none e)) (λ e. ap (λ (q : View). q.steps) (c.load_masked-seen.ensures.whole e))) c.load_masked-seen.ensures.turn)
+
+pub returns-else-is_word_of-clause-moments : goal.returns-else-is_word_of-clause-moments
+returns-else-is_word_of-clause-moments g c = let v : View = c.args.seat.now.place.me.0 in let u : View = c.load_mask-mask.new.seat.me.0 in let w : View = c.load_masked-seen.new.seat.me.0 in let i : ℕ = c.in-Some.slot in let m : ℕ = c.load_mask-mask.result in let n : ℕ = c.load_masked-seen.result in let z : Size = c.args.self.now.words.size in
+    walk_more v u w (walk_one v u (stride v u (z.slots + z.bans + i + 1) m m m _ (ap (λ (q : View). q.steps) c.load_mask-mask.ensures.half) c.load_mask-mask.ensures.turn))
+    (stride u w (i + 1) n n n _ (marked_or_not w (u.steps ++ did (i + 1) n n ∷ []) (cancel n) (λ e. ap (λ (q : View). q.steps) (c.load_masked-seen.ensures.none e)) (λ e. ap (λ (q : View). q.steps) (c.load_masked-seen.ensures.whole e))) c.load_masked-seen.ensures.turn)

@@ -7,6 +7,7 @@ use Rattle.race_board.specs.declared.views.Ban.{Ban}
 use Rattle.race_board.specs.declared.views.View.{View}
 use Rattle.race_board.proofs.Parts.{ban_none}
 use Rattle.race_board.proofs.Listed.{bans_set}
+use Rattle.race_board.proofs.Walking.{walk_one, stride}
 use Rattle.race_board.proofs.board.RaceBoard.unban.Goals as goal
 
 pub invariant_of-seat : goal.invariant_of-seat
@@ -24,3 +25,7 @@ invariant_of-seat g c = let seat = c.args.seat.now in let v : View = seat.place.
       standing = subst (λ (x : ℕ × List Ban). (i : ℕ) → (slice_index (set seat.bans.items j x.0) i ≡ ban_word (get_or x.1 i no_ban).parent (get_or x.1 i no_ban).cancel) × ((get_or x.1 i no_ban).parent < 16777216) × ((get_or x.1 i no_ban).cancel < 65536) × ((get_or x.1 i no_ban).parent ≢ 0 → (get_or x.1 i no_ban).cancel ≢ 0))
           (λ i. (ban_none 0 0 refl refl i, sym bans_are i)) (bans_set seat.bans.items v.bans j no_ban near inside (omega arith) (omega arith) (λ f. absurd (f refl)) seat.standing);
     }
+
+pub returns-clause-moments : goal.returns-clause-moments
+returns-clause-moments g c = let v : View = c.args.seat.now.place.me.0 in let w : View = c.lift.new.seat.me.0 in let x : ℕ = c.args.self.now.words.size.slots + c.in-Some.place + 1 in
+    walk_one v w (stride v w x c.lift.result 0 0 _ (ap (λ (q : View). q.steps) c.lift.ensures.lifts) c.lift.ensures.turn)

@@ -1,4 +1,5 @@
-use Rattle.std.proofs.Common.{rules, arith, ◌≡◌, ℕ, ◌+◌, ◌-◌, ap, ◌∙◌}
+use Rattle.std.proofs.Common.{rules, arith, ◌≡◌, ℕ, ◌+◌, ◌-◌, sym, ap, ◌∙◌}
+use Rattle.race_board.specs.Board.{hold}
 use Rattle.race_board.specs.Steps.{Sat, did, noted, took}
 use Rattle.race_board.specs.declared.views.View.{View}
 use Rattle.race_board.proofs.DataSteps.{claims_turn}
@@ -11,3 +12,7 @@ compare_exchange-requires g c = let seat = c.args.seat.now in let self = c.args.
 pub returns-clause-takes : goal.returns-clause-takes
 returns-clause-takes g c hit = let v : View = c.args.seat.now.me.0 in let i : ℕ = c.args.slot in let one : i + 1 - 1 ≡ i = omega arith in
     ap (λ (m : Sat). m.0) (c.compare_exchange.ensures.2.0.0 hit) ∙ ap (λ (k : ℕ). noted (took v k c.args.word) (did (i + 1) 0 c.args.word)) one
+
+pub returns-clause-free : goal.returns-clause-free
+returns-clause-free g c hit = let v : View = c.args.seat.now.me.0 in let i : ℕ = c.args.slot in let one : i + 1 - 1 ≡ i = omega arith in
+    ap (λ (k : ℕ). (hold v k).number) (sym one) ∙ c.compare_exchange.ensures.2.0.3 hit

@@ -1,0 +1,23 @@
+-- The steps of a call, one after the other.
+use Rattle.std.specs.Prelude.{◌≡◌, ℕ, zero, suc, List, [], ◌∷◌, ◌++◌}
+use Rattle.race_board.specs.Events.{Event}
+use Rattle.race_board.specs.Turn.{Turn}
+use Rattle.race_board.specs.declared.views.Did.{Did}
+use Rattle.race_board.specs.declared.views.View.{View}
+
+-- One step of a seat from the view v to w, which the seat noted: it found what it says, and took the board from one moment to the next
+pub record Stride (v w : View) : Type 0 where
+  pub step : Did
+  pub left : ℕ
+  pub events : List Event
+  pub noted : w.steps ≡ v.steps ++ step ∷ []
+  pub turn : Turn v.size v w step.word step.seen left events
+
+-- so many steps
+abbrev pub Walk : ℕ → View → View → Type 0
+Walk zero v w = v ≡ w
+Walk (suc n) v w = (u : View) × Walk n v u × Stride u w
+
+-- a seat comes from the view v to w by steps alone, at each of which the board is at a moment where all that is promised holds
+abbrev pub Walks : View → View → Type 0
+Walks v w = (n : ℕ) × Walk n v w
