@@ -1,5 +1,5 @@
 -- What stands in a whole run for the line of each kind of command.
-use Rattle.std.proofs.Common.{◌≡◌, ◌≢◌, ◌⊎◌, ◌<◌, ◌≤◌, ◌+◌, ℕ, zero, suc, Bool, true, false, cond, ◌&&◌, ◌||◌, List, [], ◌∷◌, ◌++◌, map, filter, reverse, length, Option, Some, None, Result, Ok, Err, inl, inr, refl, sym, ap, subst, ◌∙◌, arith, append_assoc}
+use Rattle.std.proofs.Common.{◌≡◌, ◌⊎◌, ◌<◌, ◌≤◌, ℕ, zero, suc, Bool, true, false, cond, ◌&&◌, List, [], ◌∷◌, ◌++◌, map, filter, reverse, length, Option, Some, None, Result, Ok, Err, inl, inr, refl, sym, ap, subst, ◌∙◌, arith, append_assoc}
 use Rattle.std.specs.Prelude.{is_some, filter_map, if◌then◌else◌}
 use Rattle.std.specs.List.{list_any}
 use Rattle.std.proofs.lemmas.List.{length-append, reverse-append, reverse-reverse}
@@ -17,15 +17,13 @@ use Rattle.task_events.specs.declared.event.Event.{Event}
 use Rattle.task_events.specs.declared.event.Event.TheVariants.{Begin, Root, RootRejected, Refuse, Cancel, NotFound, Mark, Acked, End, AnswerPlaced, AnswerDone}
 use Rattle.task_events.specs.declared.reply.Reply.{Reply}
 use Rattle.task_events.specs.declared.request.Request.TheVariants as asks
-use Rattle.task_events.specs.declared.request.SearchAsk.{SearchAsk}
 use Rattle.task_events.specs.Bans.{mark_of}
 use Rattle.task_events.specs.Cancels.{is_named}
 use Rattle.task_events.specs.Lawful.{Lawful}
 use Rattle.task_events.specs.Laws.{IsDrained}
 use Rattle.task_events.specs.Messages.{in_flight}
-use Rattle.task_events.specs.Same.{same_pair}
 use Rattle.task_events.specs.Tasks.{is_live, reply_of}
-use Rattle.task_events.specs.Turns.{events_of, history_before}
+use Rattle.task_events.specs.Turns.{events_of}
 use Rattle.task_laws.proofs.Same.{same_pair_refl, same_tests}
 use Rattle.script_lang.specs.declared.command.CancelTarget.{CancelTarget}
 use Rattle.script_lang.specs.declared.command.Command.{Command}
@@ -33,13 +31,13 @@ use Rattle.script_lang.specs.declared.command.Command.TheVariants as commands
 use Rattle.script_lang.specs.declared.command.Script.{Script}
 use Rattle.world_moves.specs.Cancels.{AllAnswered, after_cancel_of, answer_to, due_answers, is_due, target_of, waiting_for, waits_for_end, with_answers, with_cancel, with_due}
 use Rattle.node_parts.specs.declared.listing.Listing.{Listing}
-use Rattle.world_moves.specs.Listings.{is_open, ListSteps}
-use Rattle.world_moves.specs.Moves.{Delivers, IsStart, Starts}
+use Rattle.world_moves.specs.Listings.{is_open}
+use Rattle.world_moves.specs.Moves.{IsStart}
 use Rattle.world_moves.specs.Plain.{AnswersPlainly}
-use Rattle.world_moves.specs.Roots.{command_at, root_request, search_of, whole_ask}
+use Rattle.world_moves.specs.Roots.{command_at, root_request, whole_ask}
 use Rattle.world_steps.specs.declared.acting.Stepped.{Stepped}
 use Rattle.world_steps.specs.declared.acting.Stepped.TheVariants.{Done, Waiting, NotRunning}
-use Rattle.world_steps.specs.Runs.{AnswersStep, next_of}
+use Rattle.world_steps.specs.Runs.{AnswersStep}
 use Rattle.world_steps.specs.Scripts.{StartsWhere, DeliversWhere, ListsWhere, IsRun, can_start}
 use Rattle.line_print.specs.Lines.{is_known, named_in, finds_none}
 use Rattle.task_top.specs.EachLine.{as_began, TellsSearch, HasEnded, TellsCancel, HasNamed, Moved, Waits, HasItsLine, EachHasItsLine}

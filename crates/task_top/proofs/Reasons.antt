@@ -1,7 +1,6 @@
 -- Only cancels of the script name tasks, so each mark and each refusal has the number of one.
-use Rattle.std.proofs.Common.{◌≡◌, ◌≢◌, ◌⊎◌, ℕ, zero, suc, Bool, true, false, cond, List, [], ◌∷◌, ◌++◌, filter, length, Option, Some, None, inl, inr, refl, sym, ap, subst, ◌∙◌, arith}
-use Rattle.std.specs.Prelude.{◌==◌, ◌||◌, is_some, option_map, if◌then◌else◌}
-use Rattle.std.specs.List.{list_any}
+use Rattle.std.proofs.Common.{◌≡◌, ◌⊎◌, ℕ, zero, suc, Bool, true, false, List, [], ◌∷◌, filter, length, Option, Some, None, inl, inr, refl, sym, ap, subst, ◌∙◌, arith}
+use Rattle.std.specs.Prelude.{◌==◌, is_some, option_map, if◌then◌else◌}
 use Rattle.std.specs.Option.{option_map_or}
 use Rattle.search_phase.proofs.Sorting.{by_test}
 use Rattle.task_ids.specs.declared.cluster.Cluster.{Cluster}
@@ -18,9 +17,8 @@ use Rattle.task_events.specs.Laws.{CancelsWithCause}
 use Rattle.task_events.specs.Messages.{Message}
 use Rattle.task_events.specs.Messages.Message.{Request, Answer, Ban, Ack, Unban}
 use Rattle.task_events.specs.Steps.{event_of, first_step, cancelled_step, step_of_passed, planned_step, request_of}
-use Rattle.task_events.specs.Tasks.{is_live, is_new, ancestors, refusal_of}
+use Rattle.task_events.specs.Tasks.{is_live, is_new, ancestors}
 use Rattle.task_laws.proofs.Same.{same_tests}
-use Rattle.script_lang.specs.declared.command.CancelTarget.{CancelTarget}
 use Rattle.script_lang.specs.declared.command.Command.{Command}
 use Rattle.script_lang.specs.declared.command.Command.TheVariants as commands
 use Rattle.script_lang.specs.declared.command.Script.{Script}

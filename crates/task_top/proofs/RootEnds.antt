@@ -1,5 +1,5 @@
 -- The task that a search has started ends, with a reply of a search.
-use Rattle.std.proofs.Common.{◌≡◌, ◌≢◌, ◌⊎◌, ◌<◌, ◌≤◌, ◌+◌, ℕ, Bool, true, false, cond, List, [], ◌∷◌, ◌++◌, Option, Some, None, inl, inr, refl, sym, ap, subst, ◌∙◌, arith}
+use Rattle.std.proofs.Common.{◌≡◌, ◌≢◌, ◌⊎◌, ◌≤◌, ℕ, Bool, true, false, cond, List, [], ◌∷◌, ◌++◌, Option, Some, None, inl, inr, refl, sym, subst, ◌∙◌, arith}
 use Rattle.std.specs.Prelude.{◌==◌, is_some, length}
 use Rattle.task_ids.specs.declared.cluster.Cluster.{Cluster}
 use Rattle.task_ids.specs.declared.corpus.Corpus.{Corpus}
@@ -14,7 +14,6 @@ use Rattle.task_events.specs.declared.reply.Reply.TheVariants.{Search, AllFailed
 use Rattle.task_events.specs.declared.request.Request.{Request}
 use Rattle.task_events.specs.declared.request.Request.TheVariants as asks
 use Rattle.task_events.specs.declared.request.SearchAsk.{SearchAsk}
-use Rattle.task_events.specs.Allowed.{TakesSlot}
 use Rattle.task_events.specs.Answers.{ShardVersion, plain_answer}
 use Rattle.task_events.specs.Bans.{mark_of}
 use Rattle.task_events.specs.Lawful.{Lawful}

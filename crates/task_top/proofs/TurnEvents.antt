@@ -1,5 +1,5 @@
 -- The events of a command are those of its turn.
-use Rattle.std.proofs.Common.{◌≡◌, ◌≢◌, ◌≤◌, ◌<◌, ℕ, zero, suc, ◌+◌, Bool, true, false, cond, not, ◌&&◌, ◌||◌, List, [], ◌∷◌, ◌++◌, reverse, length, Option, Some, None, refl, sym, ap, subst, ◌∙◌, append_assoc, append-nil, add-one, arith, ⊎_elim}
+use Rattle.std.proofs.Common.{◌≡◌, ◌≢◌, ◌≤◌, ◌<◌, ℕ, zero, suc, ◌+◌, Bool, true, false, cond, List, [], ◌∷◌, ◌++◌, reverse, length, Some, refl, sym, ap, subst, ◌∙◌, append_assoc, append-nil, add-one, arith, ⊎_elim}
 use mathlib.Core.List.{reverse-cons}
 use Rattle.std.specs.Prelude.{◌==◌}
 use Rattle.std.specs.List.{list_any}
@@ -13,7 +13,7 @@ use Rattle.task_events.specs.Turns.{is_begin, begun, events_while, events_of, hi
 use Rattle.script_lang.specs.declared.command.Command.{Command}
 use Rattle.script_lang.specs.declared.command.Script.{Script}
 use Rattle.world_moves.specs.Roots.{command_at}
-use Rattle.world_steps.specs.Scripts.{IsTurn, Commands, Does, Drains, HasRun, IsRun, closing}
+use Rattle.world_steps.specs.Scripts.{IsTurn, Commands, Does, HasRun, IsRun, closing}
 use Rattle.world_steps.proofs.Turning.{turn_of_command, turn_of_drain}
 use Rattle.task_top.proofs.ProgressLemmas.{begun_after, begun_more, before_stays, before_next, both_false}
 

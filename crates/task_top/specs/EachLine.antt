@@ -1,5 +1,5 @@
 -- Each command of a whole run has its line: what there is to tell of it stands in what happened.
-use Rattle.std.specs.Prelude.{◌≡◌, ◌≢◌, ◌≤◌, ◌⊎◌, ℕ, Bool, true, false, ◌==◌, List, [], ◌∷◌, ◌++◌, count_by, filter_map, length, Option, Some, None, Result, Ok, Err, ⊤}
+use Rattle.std.specs.Prelude.{◌≡◌, ◌≢◌, ◌≤◌, ◌⊎◌, ℕ, Bool, true, false, ◌==◌, List, [], ◌∷◌, ◌++◌, count_by, filter_map, length, Some, None, Err, ⊤}
 use Rattle.std.specs.List.{list_any}
 use Rattle.serde_json.specs.Data.{Data}
 use Rattle.query_parse.specs.Bodies.{body_at}
@@ -22,7 +22,6 @@ use Rattle.task_events.specs.Messages.{in_flight}
 use Rattle.task_events.specs.Tasks.{is_live, refusal_of, reply_of}
 use Rattle.task_events.specs.Turns.{events_of, history_before}
 use Rattle.world_moves.specs.Cancels.{is_answered, target_of}
-use Rattle.node_parts.specs.declared.listing.Listing.{Listing}
 use Rattle.world_moves.specs.Listings.{is_open}
 use Rattle.world_moves.specs.Roots.{command_at}
 use Rattle.world_steps.specs.Runs.{next_of}
