@@ -1,3 +1,4 @@
+pub mod LastStar
 pub mod Patterns
 pub mod SameId
 pub mod Spelling
