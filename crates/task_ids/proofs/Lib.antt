@@ -1,3 +1,4 @@
+pub mod LastStar
 pub mod OneValue
 pub mod Patterns
 pub mod SameId

@@ -1,5 +1,5 @@
-//! The small types that every crate of tasktree stands on: task ids, texts, documents, the cluster, and why
-//! an input is refused.
+//! The small types that every crate of tasktree stands on: task ids, texts and patterns, documents, the cluster, and
+//! why an input is refused.
 #![tactic(auto)]
 
 mod action;

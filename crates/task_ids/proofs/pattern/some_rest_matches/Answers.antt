@@ -1,5 +1,5 @@
 use Rattle.std.proofs.Common.{◌∷◌, ap, ◌∙◌}
-use Rattle.task_ids.proofs.Patterns.{at_start, at_star, at_byte, at_miss, missed_byte, missed_end, at_end}
+use Rattle.task_ids.proofs.LastStar.{at_start, at_star, at_byte, at_miss, missed_byte, missed_end, at_end}
 use Rattle.task_ids.proofs.pattern.some_rest_matches.Goals as goal
 use Rattle.task_ids.proofs.pattern.some_rest_matches.Goals.{in_default-split_first-via-in-Some-2+else-first-byte, in_default-split_first-via-in_default-split_first}
 

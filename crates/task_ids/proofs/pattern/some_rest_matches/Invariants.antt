@@ -1,5 +1,6 @@
 use Rattle.std.proofs.Common.{◌+◌, ◌*◌, length}
-use Rattle.task_ids.proofs.Patterns.{Tries, some_matches}
+use Rattle.task_ids.proofs.LastStar.{Tries}
+use Rattle.task_ids.proofs.Patterns.{some_matches}
 use Rattle.task_ids.proofs.pattern.some_rest_matches.Given as goal
 
 abbrev pub invariant-loop-byte : goal.invariant-loop-byte
