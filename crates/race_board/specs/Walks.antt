@@ -5,11 +5,12 @@ use Rattle.race_board.specs.Turn.{Turn}
 use Rattle.race_board.specs.declared.views.Did.{Did}
 use Rattle.race_board.specs.declared.views.View.{View}
 
--- One step of a seat from the view v to w, which the seat noted: it found what it says, and took the board from one moment to the next
+-- One step of a seat from the view v to w, which the seat noted: it found what it says, and took the board from one moment to the next. The board stays the same size
 pub record Stride (v w : View) : Type 0 where
   pub step : Did
   pub left : ℕ
   pub events : List Event
+  pub size : w.size ≡ v.size
   pub noted : w.steps ≡ v.steps ++ step ∷ []
   pub turn : Turn v.size v w step.word step.seen left events
 
