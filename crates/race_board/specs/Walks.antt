@@ -22,3 +22,12 @@ Walk (suc n) v w = (u : View) × Walk n v u × Stride u w
 -- a seat comes from the view v to w by steps alone, at each of which the board is at a moment where all that is promised holds
 abbrev pub Walks : View → View → Type 0
 Walks v w = (n : ℕ) × Walk n v w
+
+-- a step after the view v found this value in this word, and the board was at the moments of that step
+pub record Found (v : View) (word seen : ℕ) : Type 0 where
+  pub before : View
+  pub after : View
+  pub stride : Stride before after
+  pub at : stride.step.word ≡ word
+  pub value : stride.step.seen ≡ seen
+  pub size : before.size ≡ v.size
