@@ -82,6 +82,18 @@ fn ask_where_clear(board: &Board, seat: &mut Seat, ticket: &Ticket, check: Check
     }
 }
 
+/// Takes the node out of the child's mask again, where it was cleared to ask there.
+pub fn forget_ask(board: &Board, seat: &mut Seat, ticket: &Ticket, ask: Option<Track>)
+    requires fits { IsSeatOf board.now seat.old }
+    requires held { HasTicket (seat_view seat.old) ticket.now }
+    ensures fits { IsSeatOf board.now seat.new }
+    ensures held { HasTicket (seat_view seat.new) ticket.now }
+{
+    if ask == Some(Track::Cleared) {
+        board.untrack(seat, ticket, CHILD_ASKS);
+    }
+}
+
 /// The first turn of a child: its check, its ask, and a look at its mark.
 fn work(board: &Board, seat: &mut Seat, ticket: Ticket, pace: &Pace) -> Child
     requires fits { IsSeatOf board.now seat.old }

@@ -9,7 +9,8 @@ ghost use Rattle.board_races.specs.Held.{IsHeld};
 
 use crate::control::{CANCEL, Cancelled, Control, cancel};
 use crate::data::{
-    Board, CHILD_ASKS, Carried, Child, Entry, HERE, ROOT_ASKS, Seat, ask_more, enter, plant,
+    Board, CHILD_ASKS, Carried, Child, Entry, HERE, ROOT_ASKS, Seat, ask_more, enter, forget_ask,
+    plant,
 };
 use crate::fates::{Fate, Outcome};
 use crate::start::Pace;
@@ -136,6 +137,7 @@ fn end_child(
         Entry::Live(child) => child,
         Entry::Rejected(_) => return Fate::Wrong,
     };
+    forget_ask(board, seat, &ticket, ask);
     let id = ticket.id();
     let ended = board.end(seat, ticket, ChildTrack::new(alloc, id));
     if asks.answer(ended.receipt).is_err() {

@@ -20,3 +20,4 @@ pub mod Last
 pub mod Tickets
 pub mod Known
 pub mod Walking
+pub mod Seen

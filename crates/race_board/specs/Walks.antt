@@ -5,11 +5,12 @@ use Rattle.race_board.specs.Turn.{Turn}
 use Rattle.race_board.specs.declared.views.Did.{Did}
 use Rattle.race_board.specs.declared.views.View.{View}
 
--- One step of a seat from the view v to w, which the seat noted: it found what it says, and took the board from one moment to the next
+-- One step of a seat from the view v to w, which the seat noted: it found what it says, and took the board from one moment to the next. The board stays the same size
 pub record Stride (v w : View) : Type 0 where
   pub step : Did
   pub left : ℕ
   pub events : List Event
+  pub size : w.size ≡ v.size
   pub noted : w.steps ≡ v.steps ++ step ∷ []
   pub turn : Turn v.size v w step.word step.seen left events
 
@@ -21,3 +22,12 @@ Walk (suc n) v w = (u : View) × Walk n v u × Stride u w
 -- a seat comes from the view v to w by steps alone, at each of which the board is at a moment where all that is promised holds
 abbrev pub Walks : View → View → Type 0
 Walks v w = (n : ℕ) × Walk n v w
+
+-- a step after the view v found this value in this word, and the board was at the moments of that step
+pub record Found (v : View) (word seen : ℕ) : Type 0 where
+  pub before : View
+  pub after : View
+  pub stride : Stride before after
+  pub at : stride.step.word ≡ word
+  pub value : stride.step.seen ≡ seen
+  pub size : before.size ≡ v.size

@@ -8,6 +8,7 @@ mod board_words;
 mod closing;
 mod control_steps;
 mod data_steps;
+mod laws;
 mod living;
 mod marking;
 mod name;
@@ -21,6 +22,7 @@ mod words;
 
 pub use board::{BoardParts, RaceBoard};
 pub use closing::Closed;
+pub use laws::seen_at_a_moment;
 pub use seats::{ControlSeat, DataSeat};
 pub use task_ids::{AnyCancel, BoardName};
 pub use task_table::{Check, Full, NoRoom, Track};

@@ -7,7 +7,7 @@ use Rattle.race_board.specs.declared.views.Ban.{Ban}
 use Rattle.race_board.specs.declared.views.View.{View}
 use Rattle.race_board.proofs.Parts.{banned_ban, by_ban}
 use Rattle.race_board.proofs.Listed.{put_is, bans_set}
-use Rattle.race_board.proofs.Walking.{walk_one, stride_either}
+use Rattle.race_board.proofs.Walking.{walk_one, stride_either, tale}
 use Rattle.race_board.proofs.board.RaceBoard.ban.Goals as goal
 
 pub put-requires-clause-word : goal.put-requires-clause-word
@@ -41,4 +41,4 @@ invariant_of-seat g c = let seat = c.args.seat.now in let v : View = seat.place.
 
 pub returns-clause-moments : goal.returns-clause-moments
 returns-clause-moments g c = let v : View = c.args.seat.now.place.me.0 in let w : View = c.put.new.seat.me.0 in let x : ℕ = c.args.self.now.words.size.slots + c.in-Some.place + 1 in
-    walk_one v w (stride_either v w x c.put.result 0 c.ban_of-word.result _ _ (λ _. ap (λ (q : View). q.steps) c.put.ensures.puts) (λ f. absurd (f c.put.ensures.free)) c.put.ensures.turn)
+    walk_one v w (stride_either v w x c.put.result 0 c.ban_of-word.result _ _ (λ _. ap tale c.put.ensures.puts) (λ f. absurd (f c.put.ensures.free)) c.put.ensures.turn)

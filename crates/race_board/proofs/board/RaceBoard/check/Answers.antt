@@ -15,7 +15,7 @@ use Rattle.race_board.proofs.Parts.{banned_some}
 use Rattle.race_board.proofs.Gained.{longer_same, longer_more, saw_now}
 use Rattle.race_board.proofs.Checking.{reached, reached_next, reached_end, checked_at_first, checked_hold, checked_goes, checked_on, steps_on, none_more, ticket_at, check_fields, some_check}
 use Rattle.race_board.proofs.Tickets.{Roots, roots_set}
-use Rattle.race_board.proofs.Walking.{walk_none, walk_more, stride}
+use Rattle.race_board.proofs.Walking.{walk_none, walk_more, stride, same_or_not, tale}
 use Rattle.race_board.proofs.board.RaceBoard.check.Goals as goal
 
 pub loop-place-init : goal.loop-place-init
@@ -87,7 +87,7 @@ loop-place-preserved g c = let v : View = c.args.seat.now.place.me.0 in let u : 
       of_ticket = inv.of_ticket;
       on = checked_on v u w i j z.bans (hold v i).check d inv.inside inv.on (c.check-seen.ensures.clear miss') (c.check-seen.ensures.next miss');
       longer = longer_more v u w d inv.longer steps;
-      walks = walk_more v u w inv.walks (stride u w (z.slots + j + 1) n n n _ steps c.check-seen.ensures.turn);
+      walks = walk_more v u w inv.walks (stride u w (z.slots + j + 1) n n n _ (same_or_not u w d (j + 1) z.bans (λ e. ap tale (c.check-seen.ensures.clear miss' e)) (λ e. ap tale (c.check-seen.ensures.next miss' e))) c.check-seen.ensures.turn);
       none_yet = none_more v u w z.slots j c.key_of-parent.result n inv.longer inv.none_yet miss steps;
     }
 
@@ -128,4 +128,4 @@ pub returns-then-banned_of-parent-clause-moments : goal.returns-then-banned_of-p
 returns-then-banned_of-parent-clause-moments g c = let v : View = c.args.seat.now.place.me.0 in let u : View = c.loop-place.seat.place.me.0 in let w : View = c.check-seen.new.seat.me.0 in let i : ℕ = c.slot_of-slot.result in let j : ℕ = c.loop-place.place in let z : Size = c.args.self.now.words.size in let inv = c.loop-place.invariant in
     let n : ℕ = c.check-seen.result in let here : hold u i ≡ _ = checked_hold v u i (reached j z.bans (hold v i).check) inv.inside inv.on in
     let hit : banned n ≡ c.key_of-parent.result = sym c.banned_of.ensures ∙ c.if-banned_of-parent.true in
-    walk_more v u w inv.walks (stride u w (z.slots + j + 1) n n n _ (ap (λ (q : View). q.steps) (c.check-seen.ensures.banned (hit ∙ sym (ap (λ (h : Hold). h.parent) here ∙ inv.child)))) c.check-seen.ensures.turn)
+    walk_more v u w inv.walks (stride u w (z.slots + j + 1) n n n _ (ap tale (c.check-seen.ensures.banned (hit ∙ sym (ap (λ (h : Hold). h.parent) here ∙ inv.child)))) c.check-seen.ensures.turn)

@@ -7,7 +7,7 @@ use Rattle.race_board.specs.declared.views.View.{View}
 use Rattle.race_board.proofs.Parts.{zero_number, zero_parent}
 use Rattle.race_board.proofs.Gained.{tickets_set, calm_set, Distinct, distinct_set}
 use Rattle.race_board.proofs.Tickets.{Roots, roots_set}
-use Rattle.race_board.proofs.Walking.{walk_one, stride}
+use Rattle.race_board.proofs.Walking.{walk_one, stride, tale}
 use Rattle.race_board.proofs.board.RaceBoard.end.Goals as goal
 
 pub invariant_of-seat : goal.invariant_of-seat
@@ -31,4 +31,4 @@ invariant_of-seat g c = let seat = c.args.seat.now in let v : View = seat.place.
 
 pub returns-clause-moments : goal.returns-clause-moments
 returns-clause-moments g c = let v : View = c.args.seat.now.place.me.0 in let w : View = c.end-seen.new.seat.me.0 in
-    walk_one v w (stride v w (c.slot_of-slot.result + 1) c.end-seen.result 0 0 _ (ap (λ (q : View). q.steps) c.end-seen.ensures.ends) c.end-seen.ensures.turn)
+    walk_one v w (stride v w (c.slot_of-slot.result + 1) c.end-seen.result 0 0 _ (ap tale c.end-seen.ensures.ends) c.end-seen.ensures.turn)

@@ -5,7 +5,7 @@ use Rattle.race_board.proofs.Gained.{longer_more, longer_trans, only_more, saw_n
 use Rattle.race_board.proofs.Listed.{none_seen}
 use Rattle.race_board.proofs.MarkSteps.{marks_then}
 use Rattle.race_board.proofs.Known.{known_by}
-use Rattle.race_board.proofs.Walking.{walk_more, walk_on, stride}
+use Rattle.race_board.proofs.Walking.{walk_more, walk_on, stride, tale}
 use Rattle.race_board.proofs.board.RaceBoard.mark.Goals as goal
 
 pub loop-slot-preserved : goal.loop-slot-preserved
@@ -14,7 +14,7 @@ loop-slot-preserved g c = let v : View = c.args.seat.now.place.me.0 in let u : V
       table = search rules;
       only = only_more v u w (did (i + 1) n n) inv.only e;
       longer = longer_more v u w (did (i + 1) n n) inv.longer (ap (λ (q : View). q.steps) e);
-      walks = walk_more v u w inv.walks (stride u w (i + 1) n n n _ (ap (λ (q : View). q.steps) e) c.note-seen.ensures.turn);
+      walks = walk_more v u w inv.walks (stride u w (i + 1) n n n _ (ap tale e) c.note-seen.ensures.turn);
       none = none_seen v u w i c.args.number n inv.longer inv.none (search rules) e;
     }
 
@@ -33,4 +33,4 @@ returns-then-is_word_of-clause-known g c = known_by c.args.seat.now.place.me.0 c
 
 pub returns-then-is_word_of-clause-moments : goal.returns-then-is_word_of-clause-moments
 returns-then-is_word_of-clause-moments g c = let v : View = c.args.seat.now.place.me.0 in let u : View = c.loop-slot.seat.place.me.0 in let w : View = c.note-seen.new.seat.me.0 in let n : ℕ = c.note-seen.result in let i : ℕ = c.loop-slot.slot in let more = c.mark_seen.ensures.moments in
-    walk_on more.0 v w c.mark_seen.new.seat.place.me.0 (walk_more v u w c.loop-slot.invariant.walks (stride u w (i + 1) n n n _ (ap (λ (q : View). q.steps) c.note-seen.ensures.notes) c.note-seen.ensures.turn)) more.1
+    walk_on more.0 v w c.mark_seen.new.seat.place.me.0 (walk_more v u w c.loop-slot.invariant.walks (stride u w (i + 1) n n n _ (ap tale c.note-seen.ensures.notes) c.note-seen.ensures.turn)) more.1

@@ -1,10 +1,10 @@
-use Rattle.std.proofs.Common.{arith, ℕ, ◌+◌, ◌++◌, [], ◌∷◌, ◌<◌, refl, ap, inl}
+use Rattle.std.proofs.Common.{arith, ℕ, ◌+◌, ◌<◌, refl, ap, inl}
 use Rattle.race_board.specs.Words.{cancel}
 use Rattle.race_board.specs.Steps.{did}
 use Rattle.race_board.specs.declared.views.Size.{Size}
 use Rattle.race_board.specs.declared.views.View.{View}
 use Rattle.race_board.proofs.Masked.{masks_then}
-use Rattle.race_board.proofs.Walking.{walk_one, walk_more, stride, marked_or_not}
+use Rattle.race_board.proofs.Walking.{walk_one, walk_more, stride, same_or_not, tale}
 use Rattle.race_board.proofs.board.RaceBoard.mask.Goals as goal
 
 pub returns-then-is_word_of-clause-mask : goal.returns-then-is_word_of-clause-mask
@@ -19,10 +19,10 @@ returns-else-is_word_of-clause-mask g c = let seat = c.args.seat.now in let v : 
 
 pub returns-then-is_word_of-clause-moments : goal.returns-then-is_word_of-clause-moments
 returns-then-is_word_of-clause-moments g c = let v : View = c.args.seat.now.place.me.0 in let u : View = c.load_mask-mask.new.seat.me.0 in let w : View = c.load_masked-seen.new.seat.me.0 in let i : ℕ = c.in-Some.slot in let m : ℕ = c.load_mask-mask.result in let n : ℕ = c.load_masked-seen.result in let z : Size = c.args.self.now.words.size in
-    walk_more v u w (walk_one v u (stride v u (z.slots + z.bans + i + 1) m m m _ (ap (λ (q : View). q.steps) c.load_mask-mask.ensures.half) c.load_mask-mask.ensures.turn))
-    (stride u w (i + 1) n n n _ (marked_or_not w (u.steps ++ did (i + 1) n n ∷ []) (cancel n) (λ e. ap (λ (q : View). q.steps) (c.load_masked-seen.ensures.none e)) (λ e. ap (λ (q : View). q.steps) (c.load_masked-seen.ensures.whole e))) c.load_masked-seen.ensures.turn)
+    walk_more v u w (walk_one v u (stride v u (z.slots + z.bans + i + 1) m m m _ (ap tale c.load_mask-mask.ensures.half) c.load_mask-mask.ensures.turn))
+    (stride u w (i + 1) n n n _ (same_or_not u w (did (i + 1) n n) (cancel n) 0 (λ e. ap tale (c.load_masked-seen.ensures.none e)) (λ e. ap tale (c.load_masked-seen.ensures.whole e))) c.load_masked-seen.ensures.turn)
 
 pub returns-else-is_word_of-clause-moments : goal.returns-else-is_word_of-clause-moments
 returns-else-is_word_of-clause-moments g c = let v : View = c.args.seat.now.place.me.0 in let u : View = c.load_mask-mask.new.seat.me.0 in let w : View = c.load_masked-seen.new.seat.me.0 in let i : ℕ = c.in-Some.slot in let m : ℕ = c.load_mask-mask.result in let n : ℕ = c.load_masked-seen.result in let z : Size = c.args.self.now.words.size in
-    walk_more v u w (walk_one v u (stride v u (z.slots + z.bans + i + 1) m m m _ (ap (λ (q : View). q.steps) c.load_mask-mask.ensures.half) c.load_mask-mask.ensures.turn))
-    (stride u w (i + 1) n n n _ (marked_or_not w (u.steps ++ did (i + 1) n n ∷ []) (cancel n) (λ e. ap (λ (q : View). q.steps) (c.load_masked-seen.ensures.none e)) (λ e. ap (λ (q : View). q.steps) (c.load_masked-seen.ensures.whole e))) c.load_masked-seen.ensures.turn)
+    walk_more v u w (walk_one v u (stride v u (z.slots + z.bans + i + 1) m m m _ (ap tale c.load_mask-mask.ensures.half) c.load_mask-mask.ensures.turn))
+    (stride u w (i + 1) n n n _ (same_or_not u w (did (i + 1) n n) (cancel n) 0 (λ e. ap tale (c.load_masked-seen.ensures.none e)) (λ e. ap tale (c.load_masked-seen.ensures.whole e))) c.load_masked-seen.ensures.turn)

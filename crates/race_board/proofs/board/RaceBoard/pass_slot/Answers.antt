@@ -1,11 +1,11 @@
-use Rattle.std.proofs.Common.{◌≡◌, ℕ, ◌+◌, ◌++◌, [], ◌∷◌, sym, ap, ◌∙◌}
+use Rattle.std.proofs.Common.{◌≡◌, ℕ, ◌+◌, sym, ap, ◌∙◌}
 use Rattle.race_board.specs.Words.{parent, cancel, with_mark}
 use Rattle.race_board.specs.Board.{ban}
 use Rattle.race_board.specs.Steps.{did, noted, past, missed}
 use Rattle.race_board.specs.declared.views.View.{View}
 use Rattle.race_board.proofs.Parts.{zero_parent}
 use Rattle.race_board.proofs.Gained.{longer_same, longer_more}
-use Rattle.race_board.proofs.Walking.{walk_one, walk_more, stride, stride_either, either_way}
+use Rattle.race_board.proofs.Walking.{walk_one, walk_more, stride, stride_either, either_way, tale}
 use Rattle.race_board.proofs.board.RaceBoard.pass_slot.Goals as goal
 
 pub strike_child-requires-clause-word : goal.strike_child-requires-clause-word
@@ -21,14 +21,14 @@ returns-then-strike_child-seen-clause-steps g c = let v : View = c.args.seat.now
 
 pub returns-then-parent_of-parent-clause-moments : goal.returns-then-parent_of-parent-clause-moments
 returns-then-parent_of-parent-clause-moments g c = let v : View = c.args.seat.now.me.0 in let u : View = c.scan-seen.new.seat.me.0 in let i : ℕ = c.args.slot in let n : ℕ = c.scan-seen.result in
-    walk_one v u (stride v u (i + 1) n n n _ (either_way u (v.steps ++ did (i + 1) n n ∷ []) (parent n) (ban v c.args.place).parent (cancel n) (λ e. ap (λ (q : View). q.steps) (c.scan-seen.ensures.child e)) (λ e. ap (λ (q : View). q.steps) (c.scan-seen.ensures.other e))) c.scan-seen.ensures.turn)
+    walk_one v u (stride v u (i + 1) n n n _ (either_way v u (did (i + 1) n n) (parent n) (ban v c.args.place).parent (cancel n) (λ e. ap tale (c.scan-seen.ensures.child e)) (λ e. ap tale (c.scan-seen.ensures.other e))) c.scan-seen.ensures.turn)
 
 pub returns-then-strike_child-seen-clause-moments : goal.returns-then-strike_child-seen-clause-moments
 returns-then-strike_child-seen-clause-moments g c = let v : View = c.args.seat.now.me.0 in let u : View = c.scan-seen.new.seat.me.0 in let w : View = c.strike_child.new.seat.me.0 in let i : ℕ = c.args.slot in let n : ℕ = c.scan-seen.result in let m : ℕ = c.strike_child.result in
-    walk_more v u w (walk_one v u (stride v u (i + 1) n n n _ (either_way u (v.steps ++ did (i + 1) n n ∷ []) (parent n) (ban v c.args.place).parent (cancel n) (λ e. ap (λ (q : View). q.steps) (c.scan-seen.ensures.child e)) (λ e. ap (λ (q : View). q.steps) (c.scan-seen.ensures.other e))) c.scan-seen.ensures.turn))
-    (stride_either u w (i + 1) m n (with_mark n c.args.cancel) _ _ (λ e. ap (λ (q : View). q.steps) (c.strike_child.ensures.marks e)) (λ e. ap (λ (q : View). q.steps) (c.strike_child.ensures.misses e)) c.strike_child.ensures.turn)
+    walk_more v u w (walk_one v u (stride v u (i + 1) n n n _ (either_way v u (did (i + 1) n n) (parent n) (ban v c.args.place).parent (cancel n) (λ e. ap tale (c.scan-seen.ensures.child e)) (λ e. ap tale (c.scan-seen.ensures.other e))) c.scan-seen.ensures.turn))
+    (stride_either u w (i + 1) m n (with_mark n c.args.cancel) _ _ (λ e. ap tale (c.strike_child.ensures.marks e)) (λ e. ap tale (c.strike_child.ensures.misses e)) c.strike_child.ensures.turn)
 
 pub returns-clause-moments : goal.returns-clause-moments
 returns-clause-moments g c = let v : View = c.args.seat.now.me.0 in let u : View = c.scan-seen.new.seat.me.0 in let w : View = c.strike_child.new.seat.me.0 in let i : ℕ = c.args.slot in let n : ℕ = c.scan-seen.result in let m : ℕ = c.strike_child.result in
-    walk_more v u w (walk_one v u (stride v u (i + 1) n n n _ (either_way u (v.steps ++ did (i + 1) n n ∷ []) (parent n) (ban v c.args.place).parent (cancel n) (λ e. ap (λ (q : View). q.steps) (c.scan-seen.ensures.child e)) (λ e. ap (λ (q : View). q.steps) (c.scan-seen.ensures.other e))) c.scan-seen.ensures.turn))
-    (stride_either u w (i + 1) m n (with_mark n c.args.cancel) _ _ (λ e. ap (λ (q : View). q.steps) (c.strike_child.ensures.marks e)) (λ e. ap (λ (q : View). q.steps) (c.strike_child.ensures.misses e)) c.strike_child.ensures.turn)
+    walk_more v u w (walk_one v u (stride v u (i + 1) n n n _ (either_way v u (did (i + 1) n n) (parent n) (ban v c.args.place).parent (cancel n) (λ e. ap tale (c.scan-seen.ensures.child e)) (λ e. ap tale (c.scan-seen.ensures.other e))) c.scan-seen.ensures.turn))
+    (stride_either u w (i + 1) m n (with_mark n c.args.cancel) _ _ (λ e. ap tale (c.strike_child.ensures.marks e)) (λ e. ap tale (c.strike_child.ensures.misses e)) c.strike_child.ensures.turn)

@@ -1,4 +1,4 @@
-use Rattle.std.proofs.Common.{arith, ◌++◌, [], ◌∷◌, ◌≡◌, ℕ, ◌+◌, ◌<◌, bit_or, length, length-set, sym, ap, ◌∙◌, subst}
+use Rattle.std.proofs.Common.{arith, ◌≡◌, ℕ, ◌+◌, ◌<◌, bit_or, length, length-set, sym, ap, ◌∙◌, subst}
 use Rattle.race_board.specs.Words.{cancel}
 use Rattle.race_board.specs.Board.{hold}
 use Rattle.race_board.specs.Steps.{did, seeking, cleared_hold}
@@ -10,7 +10,7 @@ use Rattle.race_board.proofs.Gained.{longer_same, longer_more, saw_now}
 use Rattle.race_board.proofs.Marks.{cleared_mark, cancelled_mark}
 use Rattle.race_board.proofs.Tracked.{twice, after_both, becomes_fields}
 use Rattle.race_board.proofs.Tickets.{Roots, roots_set, tracked_clear}
-use Rattle.race_board.proofs.Walking.{walk_one, walk_more, stride, marked_or_not}
+use Rattle.race_board.proofs.Walking.{walk_one, walk_more, stride, same_or_not, tale}
 use Rattle.race_board.proofs.board.RaceBoard.track.Goals as goal
 
 pub invariant_of-seat : goal.invariant_of-seat
@@ -78,10 +78,10 @@ returns-in-None-clause-clear g c = let seat = c.args.seat.now in let v : View = 
 
 pub returns-in-Some-clause-moments : goal.returns-in-Some-clause-moments
 returns-in-Some-clause-moments g c = let v : View = c.args.seat.now.place.me.0 in let u : View = c.set_bits.new.seat.me.0 in let w : View = c.track_look.new.seat.me.0 in let i : ℕ = c.slot_of-slot.result in let m : ℕ = c.set_bits.result in let n : ℕ = c.track_look.result in let z : Size = c.args.self.now.words.size in
-    walk_more v u w (walk_one v u (stride v u (z.slots + z.bans + i + 1) m (bit_or m c.node_bit.result) _ _ (ap (λ (q : View). q.steps) c.set_bits.ensures.sets) c.set_bits.ensures.turn))
-    (stride u w (i + 1) n n n _ (marked_or_not w (u.steps ++ did (i + 1) n n ∷ []) (cancel n) (λ e. ap (λ (q : View). q.steps) (c.track_look.ensures.cleared e)) (λ e. ap (λ (q : View). q.steps) (c.track_look.ensures.marked e))) c.track_look.ensures.turn)
+    walk_more v u w (walk_one v u (stride v u (z.slots + z.bans + i + 1) m (bit_or m c.node_bit.result) _ _ (ap tale c.set_bits.ensures.sets) c.set_bits.ensures.turn))
+    (stride u w (i + 1) n n n _ (same_or_not u w (did (i + 1) n n) (cancel n) 0 (λ e. ap tale (c.track_look.ensures.cleared e)) (λ e. ap tale (c.track_look.ensures.marked e))) c.track_look.ensures.turn)
 
 pub returns-in-None-clause-moments : goal.returns-in-None-clause-moments
 returns-in-None-clause-moments g c = let v : View = c.args.seat.now.place.me.0 in let u : View = c.set_bits.new.seat.me.0 in let w : View = c.track_look.new.seat.me.0 in let i : ℕ = c.slot_of-slot.result in let m : ℕ = c.set_bits.result in let n : ℕ = c.track_look.result in let z : Size = c.args.self.now.words.size in
-    walk_more v u w (walk_one v u (stride v u (z.slots + z.bans + i + 1) m (bit_or m c.node_bit.result) _ _ (ap (λ (q : View). q.steps) c.set_bits.ensures.sets) c.set_bits.ensures.turn))
-    (stride u w (i + 1) n n n _ (marked_or_not w (u.steps ++ did (i + 1) n n ∷ []) (cancel n) (λ e. ap (λ (q : View). q.steps) (c.track_look.ensures.cleared e)) (λ e. ap (λ (q : View). q.steps) (c.track_look.ensures.marked e))) c.track_look.ensures.turn)
+    walk_more v u w (walk_one v u (stride v u (z.slots + z.bans + i + 1) m (bit_or m c.node_bit.result) _ _ (ap tale c.set_bits.ensures.sets) c.set_bits.ensures.turn))
+    (stride u w (i + 1) n n n _ (same_or_not u w (did (i + 1) n n) (cancel n) 0 (λ e. ap tale (c.track_look.ensures.cleared e)) (λ e. ap tale (c.track_look.ensures.marked e))) c.track_look.ensures.turn)

@@ -7,7 +7,7 @@ use Rattle.race_board.specs.declared.views.Ban.{Ban}
 use Rattle.race_board.specs.declared.views.View.{View}
 use Rattle.race_board.proofs.Parts.{ban_none}
 use Rattle.race_board.proofs.Listed.{bans_set}
-use Rattle.race_board.proofs.Walking.{walk_one, stride}
+use Rattle.race_board.proofs.Walking.{walk_one, stride, tale}
 use Rattle.race_board.proofs.board.RaceBoard.unban.Goals as goal
 
 pub invariant_of-seat : goal.invariant_of-seat
@@ -28,4 +28,4 @@ invariant_of-seat g c = let seat = c.args.seat.now in let v : View = seat.place.
 
 pub returns-clause-moments : goal.returns-clause-moments
 returns-clause-moments g c = let v : View = c.args.seat.now.place.me.0 in let w : View = c.lift.new.seat.me.0 in let x : ℕ = c.args.self.now.words.size.slots + c.in-Some.place + 1 in
-    walk_one v w (stride v w x c.lift.result 0 0 _ (ap (λ (q : View). q.steps) c.lift.ensures.lifts) c.lift.ensures.turn)
+    walk_one v w (stride v w x c.lift.result 0 0 _ (ap tale c.lift.ensures.lifts) c.lift.ensures.turn)
