@@ -1,7 +1,6 @@
 -- A body that cannot be read has a fault that is told: reading a body never says that memory ran out.
-use Rattle.std.proofs.Common.{◌≡◌, ◌≢◌, ℕ, ◌+◌, Bool, true, false, List, [], ◌∷◌, Option, Some, None, Result, Ok, Err, subst, refl, codes}
-use Rattle.std.specs.Prelude.{◌||◌, ◌==◌, not, nat_le, option_and_then, find, decimal, if◌then◌else◌}
-use Rattle.std.specs.List.{list_all}
+use Rattle.std.proofs.Common.{◌≡◌, ◌≢◌, ℕ, ◌+◌, Bool, true, false, List, [], ◌∷◌, Option, Some, None, Result, Ok, Err, subst, codes}
+use Rattle.std.specs.Prelude.{◌||◌, ◌==◌, not, nat_le, decimal, if◌then◌else◌}
 use Rattle.std.specs.declared.cmp.Ordering.{Ordering}
 use Rattle.std.specs.declared.cmp.Ordering.TheVariants.{Less, Equal, Greater}
 use Rattle.std.specs.Ordering.{nat_cmp, match_ordering}
@@ -10,11 +9,7 @@ use Rattle.serde_json.specs.Data.{Data, null, boolean, number, string, array, ob
 use Rattle.serde_json.specs.Events.{items_len}
 use Rattle.serde_json.specs.Find.{get_member, as_array, as_object, as_str}
 use Rattle.query_match.specs.declared.body.SearchBody.{SearchBody}
-use Rattle.query_match.specs.declared.scalar.Scalar.{Scalar}
-use Rattle.query_match.specs.declared.sort.SortBy.{SortBy}
-use Rattle.query_match.specs.declared.query.Test.{Test}
-use Rattle.query_match.specs.declared.query.Range.{Range}
-use Rattle.query_match.specs.Query.{Query, Queries}
+use Rattle.query_match.specs.Query.{Queries}
 use Rattle.query_match.specs.Values.{same_bytes, value_of}
 use Rattle.query_parse.specs.Answers.{◌>>=◌}
 use Rattle.query_parse.specs.declared.fault.BodyError.{BodyError}

@@ -17,13 +17,12 @@ use Rattle.task_events.specs.declared.request.Request.TheVariants.{Query, Fetch}
 use Rattle.task_events.specs.declared.request.SearchAsk.{SearchAsk}
 use Rattle.task_events.specs.declared.step.Asked.{Asked}
 use Rattle.task_events.specs.Asks.{last_ask, answer_of}
-use Rattle.task_events.specs.Allowed.{Allowed}
 use Rattle.task_events.specs.Lawful.{Lawful}
 use Rattle.task_events.specs.Same.{same_task}
 use Rattle.task_events.specs.Searches.{query_of, fetch_of}
 use Rattle.task_events.specs.Steps.{asked_by, with_answer}
-use Rattle.task_laws.proofs.Asks.{AskFacts, ask_facts}
-use Rattle.task_laws.proofs.Content.{AnswerFacts, answer_facts, still_answer}
+use Rattle.task_laws.proofs.Asks.{ask_facts}
+use Rattle.task_laws.proofs.Content.{answer_facts, still_answer}
 use Rattle.task_laws.proofs.Same.{same_task_tells}
 use Rattle.search_phase.proofs.Sorting.{by_test}
 use Rattle.world_moves.specs.Facts.{requested_by}

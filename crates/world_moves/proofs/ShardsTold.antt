@@ -1,6 +1,6 @@
 -- What a search knows of its shards by the places of its asks is what its children tell.
-use Rattle.std.proofs.Common.{◌≡◌, ◌<◌, ◌≤◌, ◌+◌, ℕ, zero, suc, Bool, true, false, not, cond, List, [], ◌∷◌, ◌++◌, length, map, Option, Some, None, refl, sym, ap, ◌∙◌, arith, zero-add}
-use Rattle.std.specs.Prelude.{◌||◌, ◌-◌, slice_get, is_some, option_map, option_and_then, filter, filter_map, take, drop}
+use Rattle.std.proofs.Common.{◌≡◌, ◌<◌, ◌≤◌, ◌+◌, ℕ, zero, suc, Bool, true, false, not, List, [], ◌∷◌, ◌++◌, length, map, Option, Some, None, refl, sym, ap, ◌∙◌, arith, zero-add}
+use Rattle.std.specs.Prelude.{◌||◌, slice_get, is_some, option_map, option_and_then, filter, filter_map, take, drop}
 use Rattle.std.specs.List.{range_with_len}
 use Rattle.std.specs.Option.{option_or, option_map_or}
 use Rattle.std.proofs.lemmas.List.{length-map, length-drop}
@@ -22,7 +22,7 @@ use Rattle.task_events.specs.Searches.{query_of, top_of, tops_in, fetch_of, winn
 use Rattle.search_phase.specs.Searching.{version_of}
 use Rattle.search_phase.proofs.Lookups.{slice_get-drop}
 use Rattle.search_phase.proofs.Requests.{query_requests, requests_after, length-requests_after, request_of_query, slice_get_below}
-use Rattle.task_events.specs.ShardOutcomes.{is_query_of, is_fetch_of, ask_for, answer_for, found_in, version_found, answered_shards, are_hits, fetch_failed, shard_failed, why_failed, failure_told, failed_shards}
+use Rattle.task_events.specs.ShardOutcomes.{is_query_of, is_fetch_of, ask_for, answer_for, found_in, version_found, answered_shards, are_hits, fetch_failed, shard_failed, why_failed, failed_shards}
 use Rattle.world_moves.proofs.AsksFor.{first_at, first_found, query_at, past_queries, fetched_at}
 
 -- ---- lists over the shards
