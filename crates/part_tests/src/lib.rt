@@ -28,3 +28,5 @@ mod tables;
 mod tracks;
 #[cfg(test)]
 mod waits;
+#[cfg(test)]
+mod writes;

@@ -3,10 +3,12 @@
 ghost use Rattle.std.specs.Prelude.{◌≡◌, IfOk};
 
 use crate::reply::{Hit, Reply, SearchReply, ShardTop};
-use crate::request::{FetchAsk, HitKey, Request, SearchAsk, ShardAsk};
+use crate::request::{
+    BulkAsk, BulkShardAsk, FetchAsk, HitKey, ReindexAsk, Request, SearchAsk, ShardAsk, SliceAsk,
+};
 use query_match::{Copied, copies_of};
 use std::alloc::AllocError;
-use task_ids::Items;
+use task_ids::{Doc, Items};
 
 impl HitKey {
     /// An equal key.
@@ -102,6 +104,74 @@ impl FetchAsk {
             shard: self.shard,
             version: self.version,
             places: copy_values(&self.places)?,
+        })
+    }
+}
+
+/// Equal documents, in the same order.
+fn copy_docs(docs: &Items<Doc>) -> Result<Items<Doc>, AllocError>
+    ensures { IfOk result (λ copies. copies ≡ docs.now) }
+{
+    let mut copies = Vec::with_capacity(docs.allocator(), docs.as_slice().len())?;
+    for doc in docs.as_slice() {
+        copies.push(doc.copy()?)?;
+    }
+    Ok(Items::from_vec(copies))
+}
+
+impl ReindexAsk {
+    /// An equal ask.
+    pub fn copy(&self) -> Result<ReindexAsk, AllocError>
+        ensures { IfOk result (λ ask. ask ≡ self.now) }
+    {
+        let source = self.source.copy()?;
+        let query = self.query.copy()?;
+        let dest = self.dest.copy()?;
+        Ok(ReindexAsk {
+            source,
+            query,
+            batch: self.batch,
+            dest,
+            slices: self.slices,
+            rate: self.rate,
+        })
+    }
+}
+
+impl SliceAsk {
+    /// An equal ask.
+    pub fn copy(&self) -> Result<SliceAsk, AllocError>
+        ensures { IfOk result (λ ask. ask ≡ self.now) }
+    {
+        let reindex = self.reindex.copy()?;
+        Ok(SliceAsk {
+            reindex,
+            slice: self.slice,
+        })
+    }
+}
+
+impl BulkAsk {
+    /// An equal ask.
+    pub fn copy(&self) -> Result<BulkAsk, AllocError>
+        ensures { IfOk result (λ ask. ask ≡ self.now) }
+    {
+        Ok(BulkAsk {
+            dest: self.dest.copy()?,
+            docs: copy_docs(&self.docs)?,
+        })
+    }
+}
+
+impl BulkShardAsk {
+    /// An equal ask.
+    pub fn copy(&self) -> Result<BulkShardAsk, AllocError>
+        ensures { IfOk result (λ ask. ask ≡ self.now) }
+    {
+        Ok(BulkShardAsk {
+            dest: self.dest.copy()?,
+            shard: self.shard,
+            docs: copy_docs(&self.docs)?,
         })
     }
 }

@@ -13,6 +13,9 @@ pub use copying::copy_hits;
 pub use event::{Event, Outcome};
 pub use history::{History, MAX_EVENTS, PushError};
 pub use reply::{Counts, FailedShard, Hit, Reply, SearchReply, ShardCount, ShardFailure, ShardTop};
-pub use request::{FetchAsk, HitKey, Request, SearchAsk, ShardAsk, SlicePick};
+pub use request::{
+    BulkAsk, BulkShardAsk, FetchAsk, HitKey, ReindexAsk, Request, SearchAsk, ShardAsk, SliceAsk,
+    SlicePick, WriteNote,
+};
 pub use step::{Asked, Do};
 pub use stop::Stop;

@@ -1,8 +1,9 @@
-ghost use Rattle.std.specs.Prelude.{◌<◌};
+ghost use Rattle.std.specs.Prelude.{◌<◌, ◌≤◌};
+ghost use Rattle.std.specs.Option.{ForSome};
 
-use query_match::{SearchBody, SortKey};
+use query_match::{Query, SearchBody, SortKey};
 use shared_value::Shared;
-use task_ids::{Items, TaskId, Text};
+use task_ids::{Doc, Items, TaskId, Text};
 
 /// What a task is asked to do. What is large in it is shared, so a copy costs a count.
 #[derive(Drop)]
@@ -77,4 +78,62 @@ pub struct HitKey {
     pub shard: u32,
     /// The place of the row in its shard, from 0.
     pub place: u32,
+}
+
+/// A copy of documents of one index into another, after Elasticsearch's reindex API.
+#[derive(Drop)]
+pub struct ReindexAsk {
+    /// The index whose documents are read.
+    pub source: Text,
+    /// Which of them are read.
+    pub query: Query,
+    /// How many are read and written at a time, from 1 to 10,000.
+    pub batch: u32,
+    /// The index to which they are written.
+    pub dest: Text,
+    /// Into how many slices the documents are cut, from 1 to 32.
+    pub slices: u32,
+    /// How many documents a second are written at most, from 1 to 1,000,000, where that is bounded.
+    pub rate: Option<u32>,
+    pub ghost batch_in_range: { (1 ≤ batch) × (batch ≤ 10000) },
+    pub ghost slices_in_range: { (1 ≤ slices) × (slices ≤ 32) },
+    pub ghost rate_in_range: { ForSome rate (λ r. (1 ≤ r) × (r ≤ 1000000)) },
+}
+
+/// One slice of such a copy.
+#[derive(Drop)]
+pub struct SliceAsk {
+    pub reindex: ReindexAsk,
+    /// The slice, from 0 and below the number of slices.
+    pub slice: u32,
+    pub ghost slice_in_range: { slice < reindex.slices },
+}
+
+/// A batch of documents that are written to an index, after Elasticsearch's bulk API.
+#[derive(Drop)]
+pub struct BulkAsk {
+    /// The index to which they are written.
+    pub dest: Text,
+    pub docs: Items<Doc>,
+}
+
+/// The documents of a batch that lie in one shard.
+#[derive(Drop)]
+pub struct BulkShardAsk {
+    /// The index to which they are written.
+    pub dest: Text,
+    /// The shard, from 0.
+    pub shard: u32,
+    pub docs: Items<Doc>,
+}
+
+/// That a document was written.
+#[derive(Drop)]
+pub struct WriteNote {
+    pub index: Text,
+    /// The shard, from 0.
+    pub shard: u32,
+    /// Whether no document of its id was there before.
+    pub created: bool,
+    pub id: Text,
 }

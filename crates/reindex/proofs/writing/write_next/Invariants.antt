@@ -1,0 +1,5 @@
+use Rattle.reindex.proofs.WriteLemmas.{HasWritten}
+use Rattle.reindex.proofs.writing.write_next.Given as goal
+
+abbrev pub invariant-loop : goal.invariant-loop
+invariant-loop l = HasWritten l.index l.number l.initial.shard l.initial.left.items l.counter l.shard l.left.items l.notes.items

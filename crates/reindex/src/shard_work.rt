@@ -1,0 +1,128 @@
+//! The documents of a batch in one shard.
+
+ghost use Rattle.std.specs.Prelude.{◌≡◌, ◌++◌, ◌+◌, ℕ, false, length, IfOk, OnOk, OnErr};
+ghost use Rattle.task_events.specs.declared.request.BulkShardAsk.{BulkShardAsk};
+ghost use Rattle.task_events.specs.Searches.{is_done};
+ghost use Rattle.reindex.specs.Writing.{IsWritingOf, StopsShort, new_writing, next_docs, is_written, after_turn, counts_of};
+ghost use Rattle.reindex.specs.Writes.{notes_of};
+
+use crate::writing::{number_created, number_updated, write_next};
+use shard_docs::Shard;
+use std::alloc::{AllocError, Global};
+use std::collections::VecDeque;
+use std::marker::Model;
+use task_events::{BulkShardAsk, Counts, WriteNote};
+use task_ids::{Doc, Text};
+
+/// The documents of a batch that lie in one shard, after Elasticsearch's bulk API: they are written there in order, turn
+/// by turn.
+#[derive(Drop)]
+pub struct BulkShardWork {
+    alloc: Global,
+    index: Text,
+    shard: u32,
+    /// The documents that are still to be written, in order.
+    left: VecDeque<Doc>,
+    has_turned: bool,
+    created: u64,
+    updated: u64,
+}
+
+impl Model for BulkShardWork {
+    ghost use Rattle.std.specs.Prelude.{◌+◌, ◌<◌, ◌^◌, length};
+    ghost use Rattle.reindex.specs.Writing.{Writing};
+    ghost use Rattle.std.specs.Coded.{codes};
+    ghost use Rattle.task_ids.specs.contracts.doc.Doc as doc;
+
+    ghost Value = { Writing };
+
+    ghost coded = { Prim.hlevel (codes, doc.the_row.coded) };
+
+    ghost view = { λ w. record {
+      index = w.index;
+      shard = w.shard;
+      left = w.left.items;
+      has_turned = w.has_turned;
+      created = w.created;
+      updated = w.updated;
+    } };
+
+    ghost invariant = { λ w. w.created + w.updated + length w.left.items < 2 ^ 64 };
+}
+
+impl BulkShardWork {
+    /// No turn yet, which takes no memory.
+    pub fn new(alloc: Global, ask: BulkShardAsk) -> BulkShardWork
+        ensures new { result ≡ new_writing ask }
+        ensures begun { IsWritingOf ask 0 result }
+    {
+        let BulkShardAsk { dest, shard, docs } = ask;
+        BulkShardWork {
+            alloc,
+            index: dest,
+            shard,
+            left: VecDeque::from(docs.into_vec()),
+            has_turned: false,
+            created: 0,
+            updated: 0,
+        }
+    }
+
+    /// The index to which it writes. A world finds the shard by it.
+    pub fn index(&self) -> &Text
+        ensures { result.now ≡ self.now.index }
+    {
+        &self.index
+    }
+
+    /// The shard to which it writes, from 0.
+    pub fn shard(&self) -> u32
+        ensures { result ≡ self.now.shard }
+    {
+        self.shard
+    }
+
+    /// Writes the next 1,024 documents, or those that are left, in order, and notes each.
+    ///
+    /// It fails only for want of memory. Then a first part of them may have been written, and of those that are left
+    /// the first may be lost; the counts are as before.
+    pub fn turn(&mut self, shard: &mut Shard) -> Result<Vec<WriteNote>, AllocError>
+        requires { is_written self.old ≡ false }
+        ensures written { OnOk result (shard.new ≡ shard.old ++ next_docs self.old) }
+        ensures notes { IfOk result (λ notes. notes.items
+            ≡ notes_of self.old.index self.old.shard shard.old (next_docs self.old)) }
+        ensures ok { OnOk result (self.new ≡ after_turn self.old shard.old) }
+        ensures goes_on { (ask : BulkShardAsk) (turns : ℕ) → IsWritingOf ask turns self.old
+            → OnOk result (IsWritingOf ask (turns + 1) self.new) }
+        ensures err { OnErr result (StopsShort self.old self.new shard.old shard.new) }
+    {
+        let notes = write_next(self.alloc, &self.index, self.shard, shard, &mut self.left)?;
+        self.created += number_created(notes.as_slice()) as u64;
+        self.updated += number_updated(notes.as_slice()) as u64;
+        self.has_turned = true;
+        Ok(notes)
+    }
+
+    /// Whether it has taken a turn that left no document. Before the first turn it is not done, also where there is no
+    /// document.
+    pub fn is_done(&self) -> bool
+        ensures done { result ≡ is_written self.now }
+        ensures turns { (ask : BulkShardAsk) (turns : ℕ) → IsWritingOf ask turns self.now
+            → result ≡ is_done turns (length ask.docs) }
+    {
+        self.has_turned && self.left.is_empty()
+    }
+
+    /// How many documents its turns so far created and updated; the other counts are 0. It takes no memory.
+    pub fn counts(&self) -> Counts
+        ensures { result ≡ counts_of self.now }
+    {
+        Counts {
+            total: 0,
+            created: self.created,
+            updated: self.updated,
+            batches: 0,
+            failures: 0,
+        }
+    }
+}
