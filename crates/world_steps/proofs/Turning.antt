@@ -1,5 +1,5 @@
 -- No move begins a command, so what a command does is its turn.
-use Rattle.std.proofs.Common.{◌≡◌, ℕ, Bool, reverse, map, filter, true, false, ◌||◌, List, [], ◌∷◌, ◌++◌, Option, Some, None, refl, sym, ap, subst, ◌∙◌, inl, inr}
+use Rattle.std.proofs.Common.{cond, ◌≡◌, ℕ, Bool, reverse, map, filter, true, false, ◌||◌, List, [], ◌∷◌, ◌++◌, Option, Some, None, refl, sym, ap, subst, ◌∙◌, inl, inr}
 use Rattle.std.specs.Prelude.{option_map, is_some, if◌then◌else◌}
 use Rattle.std.specs.List.{list_any}
 use Rattle.std.specs.Option.{option_map_or}
