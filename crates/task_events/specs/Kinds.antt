@@ -1,5 +1,5 @@
 -- The kinds of tasks, and what is so of each request by its kind.
-use Rattle.std.specs.Prelude.{ℕ, Bool, true, List}
+use Rattle.std.specs.Prelude.{ℕ, Bool, true}
 use Rattle.std.specs.Option.{option_map_or}
 use Rattle.task_ids.specs.declared.action.Action.{Action}
 use Rattle.task_ids.specs.declared.cluster.Cluster.{Cluster}

@@ -1,11 +1,10 @@
 -- What a search asks for and replies, by what it has asked for and what was answered.
-use Rattle.std.specs.Prelude.{ℕ, ◌*◌, List, [], ◌++◌, length, Bool, true, false, ◌&&◌, ◌==◌, nat_lt, nat_le, Option, Some, None, is_some, option_and_then, option_map, map, filter, filter_map, find, take, drop, zip, slice_get, if◌then◌else◌}
+use Rattle.std.specs.Prelude.{ℕ, List, [], ◌++◌, length, Bool, ◌&&◌, ◌==◌, nat_le, Option, Some, None, is_some, option_and_then, option_map, map, filter, filter_map, find, take, drop, zip, slice_get, if◌then◌else◌}
 use Rattle.std.specs.List.{list_any, list_all, flat_map, sum_by, last_or, range_with_len}
 use Rattle.std.specs.Option.{option_or}
 use Rattle.std.specs.Map.{lookup}
 use Rattle.query_match.specs.declared.body.SearchBody.{SearchBody}
 use Rattle.task_ids.specs.declared.task_id.TaskId.{TaskId}
-use Rattle.task_ids.specs.declared.doc.Doc.{Doc}
 use Rattle.task_events.specs.declared.request.HitKey.{HitKey}
 use Rattle.task_events.specs.declared.request.SearchAsk.{SearchAsk}
 use Rattle.task_events.specs.declared.request.ShardAsk.{ShardAsk}
@@ -21,10 +20,8 @@ use Rattle.task_events.specs.declared.reply.ShardFailure.TheVariants as failures
 use Rattle.task_events.specs.declared.reply.Reply.{Reply}
 use Rattle.task_events.specs.declared.reply.Reply.TheVariants.{Search, Top, Hits, AllFailed, Cancelled, Rejected}
 use Rattle.task_events.specs.declared.step.Asked.{Asked}
-use Rattle.task_events.specs.declared.step.Do.{Do}
-use Rattle.task_events.specs.declared.step.Do.TheVariants.{AskNext, Turn, Wait, Finish}
 use Rattle.task_events.specs.HitOrder.{in_hit_order}
-use Rattle.task_events.specs.Answers.{winners, context_of, shard_top, fetched}
+use Rattle.task_events.specs.Answers.{winners, context_of}
 
 -- ---- what a search asks for
 

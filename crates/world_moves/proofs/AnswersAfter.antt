@@ -1,12 +1,6 @@
 -- The tables fit the past after an answer has come, where they are changed as it says.
-use Rattle.std.proofs.Common.{◌≡◌, ◌≤◌, ◌<◌, ℕ, zero, suc, ◌+◌, ◌-◌, Bool, true, false, cond, List, [], ◌∷◌, length, map, take, get_or, Option, Some, None, refl, sym, ap, subst, ◌∙◌, arith}
-use Rattle.std.specs.Prelude.{◌==◌, ◌&&◌, is_some, IsSome, not, find, zip, slice_get, slice_set, remove, option_map, option_and_then}
-use Rattle.std.specs.List.{range_with_len}
-use Rattle.std.specs.Option.{option_map_or}
-use Rattle.std.proofs.lemmas.Bool.{eqb-true, eq-eqb}
-use Rattle.std.proofs.lemmas.Bool.Decides.{nat_tests}
-use Rattle.std.proofs.lemmas.List.{length-map}
-use Rattle.std.proofs.lemmas.Option.{slice_get_within}
+use Rattle.std.proofs.Common.{◌≡◌, ◌≤◌, ℕ, zero, suc, ◌+◌, ◌-◌, true, false, List, [], ◌∷◌, map, get_or, Option, Some, None, refl, sym, ap, subst, ◌∙◌, arith}
+use Rattle.std.specs.Prelude.{is_some, IsSome, slice_get, slice_set, remove, option_map, option_and_then}
 use Rattle.task_ids.specs.declared.task_id.TaskId.{TaskId}
 use Rattle.task_ids.specs.declared.cluster.Cluster.{Cluster}
 use Rattle.task_ids.specs.declared.corpus.Corpus.{Corpus}
@@ -14,11 +8,8 @@ use Rattle.child_track.specs.Token.{ReceiptParts}
 use Rattle.child_track.specs.Track.{Answers}
 use Rattle.child_track.specs.Track.{with_answer as track_with_answer}
 use Rattle.task_table.specs.Table.{Table}
-use Rattle.task_events.specs.declared.request.SearchAsk.{SearchAsk}
 use Rattle.task_events.specs.declared.request.Request.{Request}
-use Rattle.task_events.specs.declared.request.Request.TheVariants.{Search, Query, Fetch}
 use Rattle.task_events.specs.declared.reply.Reply.{Reply}
-use Rattle.task_events.specs.declared.step.Asked.{Asked}
 use Rattle.task_events.specs.declared.event.Event.{Event}
 use Rattle.task_events.specs.declared.event.Event.TheVariants.{Answered}
 use Rattle.task_events.specs.Same.{same_task}
@@ -27,8 +18,6 @@ use Rattle.task_events.specs.Tasks.{is_live}
 use Rattle.task_events.specs.Asks.{request_of_ask, answer_of, is_unanswered}
 use Rattle.task_events.specs.Steps.{asked_by, turns_of, request_of}
 use Rattle.task_events.specs.Steps.{with_answer as asked_with_answer}
-use Rattle.task_events.specs.Kinds.{can_have}
-use Rattle.task_events.specs.Searches.{requests_of}
 use Rattle.task_events.specs.Messages.{Message, in_flight, is_answer}
 use Rattle.task_events.specs.Messages.Message.{Answer}
 use Rattle.task_events.specs.Laws.{IsTold, IsDeliveredAt}
@@ -39,10 +28,7 @@ use Rattle.task_laws.proofs.Bans.{ban_facts}
 use Rattle.task_laws.proofs.Once.{once_each}
 use Rattle.task_laws.proofs.Places.{at_place}
 use Rattle.task_laws.proofs.Content.{told}
-use Rattle.search_phase.specs.Searching.{Searching, IsSearching, takes, answered_by, with_answer}
-use Rattle.search_phase.proofs.Answered.{IsAwaited, EachAnswer-answer, request_stays}
-use Rattle.search_phase.proofs.Lookups.{slice_get-take}
-use Rattle.task_work.specs.declared.work.Work.{Work}
+use Rattle.search_phase.specs.Searching.{takes}
 use Rattle.task_work.specs.declared.work.Work.TheVariants as works
 use Rattle.task_work.specs.Works.{work_takes, work_with_answer}
 use Rattle.script_lang.specs.declared.command.Script.{Script}
@@ -55,17 +41,15 @@ use Rattle.world_moves.specs.Flights.{event_at, message_of, reply_in}
 use Rattle.world_moves.specs.Moves.{Delivers}
 use Rattle.world_moves.specs.Roots.{root_request}
 use Rattle.world_moves.specs.Ties.{Ties, Runs, WorksFor, IsGood}
-use Rattle.world_moves.specs.SearchRuns.{SearchesFor}
 use Rattle.world_moves.specs.Good.{IsGoodReply}
 use Rattle.world_moves.proofs.AllKinds.{kind_laws}
-use Rattle.world_moves.proofs.KindLaws.{KindLaws, Takes}
+use Rattle.world_moves.proofs.KindLaws.{Takes}
 use Rattle.world_moves.proofs.SearchAnswers.{has_at, within}
 use Rattle.world_moves.proofs.ByPlace.{pair_at, pairs_left, all_here, all_left}
 use Rattle.world_moves.proofs.FactsAfter.{at_answered}
 use Rattle.world_moves.proofs.FlightAfter.{all_stay}
 use Rattle.world_moves.proofs.KeptTasks.{kept_after}
 use Rattle.world_moves.proofs.NodeTablesSame.{listed_same}
-use Rattle.world_moves.proofs.Numbered.{is_searching}
 use Rattle.world_moves.proofs.AsksCounted.{awaited_at, awaited_counted, requested_at, requested_counted}
 use Rattle.world_moves.proofs.StepsAfter.{kept_running}
 

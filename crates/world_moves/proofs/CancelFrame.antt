@@ -1,5 +1,5 @@
 -- An event changes what the past says of the cancellation of one task at most.
-use Rattle.std.proofs.Common.{◌≡◌, ◌⊎◌, ℕ, Bool, true, false, List, [], ◌∷◌, map, filter, Option, Some, None, refl, sym, ap, subst, ◌∙◌, arith}
+use Rattle.std.proofs.Common.{◌≡◌, ℕ, Bool, false, List, [], ◌∷◌, map, filter, Option, Some, None, refl, ap, subst, arith}
 use Rattle.std.specs.Prelude.{◌==◌, ◌&&◌, not, is_some}
 use Rattle.std.specs.List.{list_all}
 use Rattle.std.specs.Option.{option_map_or}
@@ -14,7 +14,7 @@ use Rattle.task_events.specs.Same.{same_task}
 use Rattle.task_events.specs.Bans.{mark_of, banned_nodes, is_acked, bans_are_placed}
 use Rattle.task_events.specs.Tasks.{has_ended}
 use Rattle.task_laws.proofs.Same.{same_tests}
-use Rattle.world_moves.specs.Cancelling.{CancelFacts, cancel_facts, IsEntryBy, IsEntryOf, HasCoreAt, waiter_of}
+use Rattle.world_moves.specs.Cancelling.{cancel_facts, IsEntryBy, IsEntryOf, HasCoreAt, waiter_of}
 use Rattle.world_moves.proofs.NamedCancels.{is_in}
 
 -- the task whose cancellation an event is about, and the cancel that it is of

@@ -9,7 +9,6 @@ use Rattle.task_ids.specs.declared.task_id.TaskId.{TaskId}
 use Rattle.task_ids.specs.declared.cluster.Cluster.{Cluster}
 use Rattle.task_ids.specs.declared.corpus.Corpus.{Corpus}
 use Rattle.task_table.specs.Table.{Table, without_task}
-use Rattle.task_events.specs.declared.request.Request.{Request}
 use Rattle.task_events.specs.declared.request.Request.TheVariants as asks
 use Rattle.task_events.specs.declared.reply.Reply.{Reply}
 use Rattle.task_events.specs.declared.reply.Reply.TheVariants.{Cancelled}
@@ -34,7 +33,6 @@ use Rattle.world_moves.specs.Moves.{IsPartOf, MayLeave}
 use Rattle.world_moves.specs.Plain.{AnswersPlainly, EndsPlainly}
 use Rattle.world_moves.specs.Roots.{root_request}
 use Rattle.world_moves.specs.Ties.{Ties}
-use Rattle.world_moves.specs.Good.{IsGoodReply}
 use Rattle.world_moves.proofs.AllKinds.{good_cancelled}
 use Rattle.world_moves.proofs.NoneAwaited.{none_from}
 use Rattle.world_moves.proofs.CancelsAfterLeave.{Leaves, mark_stays}

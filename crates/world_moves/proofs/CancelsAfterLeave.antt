@@ -1,24 +1,22 @@
 -- The tables of cancellations fit the past after a task has left.
-use Rattle.std.proofs.Common.{◌≡◌, ◌⊎◌, ◌≢◌, ℕ, ◌-◌, ◌+◌, ◌≤◌, Bool, true, false, not, cond, List, [], ◌∷◌, ◌++◌, filter, map, get_or, Option, Some, None, refl, sym, ap, subst, ◌∙◌, inl, inr, arith}
-use Rattle.std.specs.Prelude.{slice_get, slice_set, is_some, ◌&&◌, reverse}
+use Rattle.std.proofs.Common.{◌≡◌, ◌⊎◌, ◌≢◌, ℕ, ◌-◌, ◌+◌, ◌≤◌, true, false, not, List, [], ◌∷◌, ◌++◌, filter, map, get_or, Option, Some, None, refl, sym, ap, subst, ◌∙◌, inl, inr, arith}
+use Rattle.std.specs.Prelude.{slice_get, slice_set, reverse}
 use Rattle.std.specs.BTreeSet.{BTreeSet}
-use Rattle.std.specs.FinMap.{FinMap, get, get-insert, get-remove}
-use Rattle.std.specs.Ordering.{eq_by_cmp}
+use Rattle.std.specs.FinMap.{FinMap, get}
 use Rattle.std.proofs.lemmas.List.Elements.{All-filter}
 use Rattle.task_ids.specs.declared.task_id.TaskId.{TaskId}
 use Rattle.task_ids.specs.declared.task_info.TaskInfo.{TaskInfo}
 use Rattle.task_ids.specs.declared.cluster.Cluster.{Cluster}
 use Rattle.task_ids.specs.TaskIdOrder.{task_id_cmp}
-use Rattle.task_ids.proofs.TaskIdKeys.{ids_total}
 use Rattle.child_track.specs.Token.{ReceiptParts}
 use Rattle.task_table.specs.Table.{Table, without_task}
 use Rattle.task_table.specs.Rows.{has_number}
 use Rattle.cancel_core.specs.Cancellation.{Cancellation, with_receipt, rest_of}
-use Rattle.cancel_core.specs.Cancellations.{Cancellations, changed, with_entry}
+use Rattle.cancel_core.specs.Cancellations.{Cancellations, with_entry}
 use Rattle.task_events.specs.declared.event.Event.{Event}
 use Rattle.task_events.specs.declared.event.Event.TheVariants.{Refuse, End}
 use Rattle.task_events.specs.Same.{same_task}
-use Rattle.task_events.specs.Bans.{mark_of, bans_are_placed}
+use Rattle.task_events.specs.Bans.{mark_of}
 use Rattle.task_events.specs.Tasks.{has_ended}
 use Rattle.task_laws.proofs.Same.{same_task_tells, same_tests}
 use Rattle.node_parts.specs.declared.listing.Listing.{Listing}
@@ -29,7 +27,6 @@ use Rattle.world_moves.proofs.AtPlace.{at_node, set_at}
 use Rattle.world_moves.proofs.CancelFrame.{entry_frame}
 use Rattle.world_moves.proofs.CoresAfter.{cores_after}
 use Rattle.world_moves.proofs.DueActs.{due_left}
-use Rattle.world_moves.proofs.KeptTasks.{is_at_task}
 use Rattle.world_moves.proofs.TasksAfterLeave.{itself}
 
 -- the task leaves with the event

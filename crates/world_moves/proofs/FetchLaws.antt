@@ -1,5 +1,5 @@
 -- What a fetch shows of its work.
-use Rattle.std.proofs.Common.{◌≡◌, ℕ, ◌+◌, List, [], Option, Some, None, refl, sym, ap, subst, ◌∙◌, arith}
+use Rattle.std.proofs.Common.{◌≡◌, ℕ, List, [], Option, Some, refl, sym, ap, subst, ◌∙◌, arith}
 use Rattle.task_ids.specs.declared.task_id.TaskId.{TaskId}
 use Rattle.task_ids.specs.declared.cluster.Cluster.{Cluster}
 use Rattle.task_ids.specs.declared.corpus.Corpus.{Corpus}
@@ -16,7 +16,7 @@ use Rattle.task_work.specs.declared.work.Work.{Work}
 use Rattle.task_work.specs.declared.work.Work.TheVariants as works
 use Rattle.task_work.specs.Works.{IsWorkOn, with_turn, new_work}
 use Rattle.world_moves.specs.Facts.{none_awaited}
-use Rattle.world_moves.specs.FetchRuns.{RunsFetch, FetchesFor}
+use Rattle.world_moves.specs.FetchRuns.{RunsFetch}
 use Rattle.world_moves.specs.Good.{IsGoodReply, written}
 use Rattle.world_moves.proofs.KindLaws.{KindLaws, IsPlain, asks_something}
 use Rattle.world_moves.proofs.LookingLaws.{asks_nothing, work_ends, works_or_ends}

@@ -1,6 +1,6 @@
 -- What each kind of task shows of its work where that is as far as the past says: it stays so after each step, and ends with a good reply.
 -- SearchLaws, QueryLaws and FetchLaws show it, and AllKinds for any kind.
-use Rattle.std.proofs.Common.{◌≡◌, ◌<◌, ℕ, ◌+◌, Bool, true, false, List, [], ◌∷◌, ◌++◌, length, map, get_or, Option, Some, None, refl, sym, ap, ◌∙◌}
+use Rattle.std.proofs.Common.{◌≡◌, ◌<◌, ℕ, ◌+◌, true, false, List, [], ◌∷◌, ◌++◌, length, map, get_or, Option, Some, None, sym, ap, ◌∙◌}
 use Rattle.std.specs.Prelude.{is_some, option_map, slice_get, slice_set, ⊤}
 use Rattle.corpus_shards.specs.Stored.{Stored, AreFew}
 use Rattle.task_ids.specs.declared.task_id.TaskId.{TaskId}

@@ -1,8 +1,8 @@
 -- The tables after a task was marked: it asks for nothing more, its bans are sent, and its cancellation is known.
 use Rattle.std.proofs.Common.{◌≡◌, ◌≢◌, ◌⊎◌, ◌<◌, ℕ, ◌+◌, ◌-◌, Bool, true, false, cond, not, List, [], ◌∷◌, ◌++◌, map, filter, reverse, get_or, Option, Some, None, refl, sym, ap, subst, ◌∙◌, inl, inr, arith}
-use Rattle.std.specs.Prelude.{◌==◌, ◌&&◌, ◌||◌, All, find, filter_map, slice_get, slice_set, is_some, unwrap_or, IfSome, Result, Ok, Err, OnErr}
+use Rattle.std.specs.Prelude.{◌==◌, ◌&&◌, ◌||◌, All, find, filter_map, slice_get, slice_set, is_some, unwrap_or, IfSome}
 use Rattle.std.specs.List.{list_all, AllByRecursion}
-use Rattle.std.specs.FinMap.{FinMap, get, get-insert}
+use Rattle.std.specs.FinMap.{FinMap}
 use Rattle.std.specs.BTreeSet.{BTreeSet}
 use Rattle.std.proofs.lemmas.Bool.Decides.{nat_tests}
 use Rattle.std.proofs.Math.Bool.{or-false}
@@ -14,7 +14,6 @@ use Rattle.task_ids.specs.declared.task_info.TaskInfo.{TaskInfo}
 use Rattle.task_ids.specs.declared.cluster.Cluster.{Cluster}
 use Rattle.task_ids.specs.declared.corpus.Corpus.{Corpus}
 use Rattle.task_ids.specs.TaskIdOrder.{task_id_cmp}
-use Rattle.task_ids.proofs.TaskIdKeys.{ids_total}
 use Rattle.child_track.specs.Track.{with_close}
 use Rattle.task_table.specs.Answer.{mark_answer, answer_to_mark}
 use Rattle.task_table.specs.declared.ended.MarkAnswer.TheVariants.{Marked}
@@ -46,7 +45,7 @@ use Rattle.node_parts.specs.declared.listing.Listing.{Listing}
 use Rattle.node_parts.specs.declared.running.Running.{Running}
 use Rattle.world_moves.specs.Acts.{message_in, answer_in, messages_in, answers_in}
 use Rattle.world_moves.specs.Cancels.{waiting_for, waits_for_end, is_due, answer_to, due_answers, with_answers}
-use Rattle.world_moves.specs.Cancelling.{Cancelling, IsRowOf, HasRows, HasBansAt, HasCoreAt, IsEntryOf, IsCancellationOf, waiting_but, cancels_of}
+use Rattle.world_moves.specs.Cancelling.{Cancelling, IsRowOf, HasRows, HasBansAt, IsEntryOf, IsCancellationOf, waiting_but, cancels_of}
 use Rattle.world_moves.specs.Facts.{facts_of}
 use Rattle.world_moves.specs.Flights.{message_of}
 use Rattle.world_moves.specs.Moves.{IsPartOf}
@@ -58,7 +57,7 @@ use Rattle.world_moves.proofs.CancelFrame.{entry_frame}
 use Rattle.world_moves.proofs.CoresAfter.{cores_after}
 use Rattle.world_moves.proofs.FactsAfter.{at_mark}
 use Rattle.world_moves.proofs.FlightAfter.{all_stay}
-use Rattle.world_moves.proofs.KeptTasks.{kept_after, is_at_task}
+use Rattle.world_moves.proofs.KeptTasks.{kept_after}
 use Rattle.world_moves.proofs.LiveRows.{rows_live, live_counted}
 use Rattle.world_moves.proofs.StepsAfter.{kept_running}
 

@@ -23,7 +23,7 @@ use Rattle.task_work.specs.declared.work.Work.TheVariants as works
 use Rattle.task_work.specs.Works.{IsWorkOn, with_turn, new_work}
 use Rattle.world_moves.specs.Facts.{none_awaited}
 use Rattle.world_moves.specs.Good.{IsGoodReply, written}
-use Rattle.world_moves.specs.QueryRuns.{RunsQuery, QueriesFor}
+use Rattle.world_moves.specs.QueryRuns.{RunsQuery}
 use Rattle.world_moves.proofs.KindLaws.{KindLaws, IsPlain, asks_something}
 use Rattle.world_moves.proofs.LookingLaws.{asks_nothing, work_ends, works_or_ends, one_turn_more}
 use Rattle.world_moves.proofs.PossibleTops.{tops_possible}

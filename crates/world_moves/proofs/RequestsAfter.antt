@@ -31,7 +31,6 @@ use Rattle.world_moves.specs.Flights.{message_of, reply_in}
 use Rattle.world_moves.specs.Moves.{Delivers}
 use Rattle.world_moves.specs.Roots.{root_request}
 use Rattle.world_moves.specs.Ties.{Ties, IsGood}
-use Rattle.world_moves.specs.Good.{IsGoodReply}
 use Rattle.world_moves.proofs.AllKinds.{good_rejection}
 use Rattle.world_moves.proofs.RequestsInFlight.{Arrives}
 use Rattle.world_moves.proofs.FactsAfter.{at_put}

@@ -1,6 +1,6 @@
 -- A search takes the answer to an ask that has none yet.
-use Rattle.std.proofs.Common.{◌≡◌, ◌≤◌, ◌<◌, ℕ, zero, suc, ◌+◌, ◌-◌, Bool, true, false, cond, List, [], ◌∷◌, length, map, take, get_or, Option, Some, None, refl, sym, ap, subst, ◌∙◌, arith}
-use Rattle.std.specs.Prelude.{◌==◌, ◌&&◌, is_some, IsSome, not, find, zip, slice_get, slice_set, remove, option_map, option_and_then}
+use Rattle.std.proofs.Common.{◌≡◌, ◌<◌, ℕ, zero, suc, ◌+◌, ◌-◌, Bool, true, false, cond, List, [], ◌∷◌, length, map, take, get_or, Option, Some, None, refl, sym, ap, subst, ◌∙◌, arith}
+use Rattle.std.specs.Prelude.{◌==◌, ◌&&◌, is_some, not, find, zip, slice_get, slice_set, option_map}
 use Rattle.std.specs.List.{range_with_len}
 use Rattle.std.specs.Option.{option_map_or}
 use Rattle.std.proofs.lemmas.Bool.{eqb-true, eq-eqb}
@@ -10,61 +10,21 @@ use Rattle.std.proofs.lemmas.Option.{slice_get_within}
 use Rattle.task_ids.specs.declared.task_id.TaskId.{TaskId}
 use Rattle.task_ids.specs.declared.cluster.Cluster.{Cluster}
 use Rattle.task_ids.specs.declared.corpus.Corpus.{Corpus}
-use Rattle.child_track.specs.Token.{ReceiptParts}
-use Rattle.child_track.specs.Track.{Answers}
-use Rattle.child_track.specs.Track.{with_answer as track_with_answer}
-use Rattle.task_table.specs.Table.{Table}
 use Rattle.task_events.specs.declared.request.SearchAsk.{SearchAsk}
 use Rattle.task_events.specs.declared.request.Request.{Request}
-use Rattle.task_events.specs.declared.request.Request.TheVariants.{Search, Query, Fetch}
 use Rattle.task_events.specs.declared.reply.Reply.{Reply}
 use Rattle.task_events.specs.declared.step.Asked.{Asked}
-use Rattle.task_events.specs.declared.event.Event.{Event}
-use Rattle.task_events.specs.declared.event.Event.TheVariants.{Answered}
-use Rattle.task_events.specs.Same.{same_task}
-use Rattle.task_events.specs.Lawful.{AwaitsNoMark}
-use Rattle.task_events.specs.Tasks.{is_live}
-use Rattle.task_events.specs.Asks.{request_of_ask, answer_of, is_unanswered}
-use Rattle.task_events.specs.Steps.{asked_by, turns_of, request_of}
 use Rattle.task_events.specs.Steps.{with_answer as asked_with_answer}
 use Rattle.task_events.specs.Kinds.{can_have}
 use Rattle.task_events.specs.Searches.{requests_of}
-use Rattle.task_events.specs.Messages.{Message, in_flight, is_answer}
-use Rattle.task_events.specs.Messages.Message.{Answer}
-use Rattle.task_events.specs.Laws.{IsTold, IsDeliveredAt}
-use Rattle.task_laws.proofs.Same.{same_pair_refl}
-use Rattle.task_laws.proofs.InFlight.{answers_in_flight}
-use Rattle.task_laws.proofs.Asks.{AskFacts, ask_facts}
-use Rattle.task_laws.proofs.Bans.{ban_facts}
-use Rattle.task_laws.proofs.Once.{once_each}
-use Rattle.task_laws.proofs.Places.{at_place}
-use Rattle.task_laws.proofs.Content.{told}
 use Rattle.search_phase.specs.Searching.{Searching, IsSearching, takes, answered_by, with_answer}
 use Rattle.search_phase.proofs.Answered.{IsAwaited, EachAnswer-answer, request_stays}
 use Rattle.search_phase.proofs.Lookups.{slice_get-take}
-use Rattle.task_work.specs.declared.work.Work.{Work}
 use Rattle.task_work.specs.declared.work.Work.TheVariants as works
-use Rattle.task_work.specs.Works.{work_takes, work_with_answer}
-use Rattle.script_lang.specs.declared.command.Script.{Script}
-use Rattle.world_moves.specs.declared.flight.Sent.{Sent}
 use Rattle.world_moves.specs.declared.flight.Sent.TheVariants as sent
-use Rattle.node_parts.specs.declared.running.Running.{Running}
-use Rattle.node_parts.specs.Running.{running_with_answer}
-use Rattle.world_moves.specs.Facts.{facts_of, awaited_by, requested_by}
-use Rattle.world_moves.specs.Flights.{event_at, message_of, reply_in}
-use Rattle.world_moves.specs.Moves.{Delivers}
-use Rattle.world_moves.specs.Roots.{root_request}
-use Rattle.world_moves.specs.Ties.{Ties, Runs, WorksFor, IsGood}
 use Rattle.world_moves.specs.SearchRuns.{SearchesFor}
 use Rattle.world_moves.specs.Good.{IsGoodReply}
-use Rattle.world_moves.proofs.ByPlace.{pair_at, pairs_left, all_here, all_left}
-use Rattle.world_moves.proofs.FactsAfter.{at_answered}
-use Rattle.world_moves.proofs.FlightAfter.{all_stay}
-use Rattle.world_moves.proofs.KeptTasks.{kept_after}
-use Rattle.world_moves.proofs.NodeTablesSame.{listed_same}
 use Rattle.world_moves.proofs.Numbered.{is_searching}
-use Rattle.world_moves.proofs.AsksCounted.{awaited_at, awaited_counted, requested_at, requested_counted}
-use Rattle.world_moves.proofs.StepsAfter.{kept_running}
 
 -- ---- the asks of a search, which are numbered on from b
 

@@ -1,68 +1,32 @@
 -- What a search asks for, in the order of its plan.
-use Rattle.std.proofs.Common.{◌≡◌, ◌⊎◌, ◌≤◌, ◌<◌, ℕ, zero, suc, ◌+◌, Bool, true, false, cond, List, [], ◌∷◌, ◌++◌, length, map, take, Option, Some, None, refl, sym, ap, subst, ◌∙◌, inl, inr, arith}
+use Rattle.std.proofs.Common.{◌≡◌, ◌≤◌, ◌<◌, ℕ, zero, suc, ◌+◌, Bool, true, false, cond, List, [], ◌∷◌, ◌++◌, length, map, take, Option, Some, None, refl, sym, ap, subst, ◌∙◌, arith}
 use Rattle.std.specs.Prelude.{is_some, not, nat_lt, slice_get, filter, filter_map, option_and_then}
-use Rattle.std.specs.List.{AllByRecursion, cons_option, list_all, range_with_len}
-use Rattle.std.proofs.lemmas.Bool.{cases_lt}
+use Rattle.std.specs.List.{cons_option, list_all, range_with_len}
 use Rattle.std.proofs.lemmas.Bool.Decides.{nat_tests}
 use Rattle.std.proofs.lemmas.List.{length-map, map-append, length-take}
 use Rattle.std.proofs.lemmas.Option.{slice_get_within}
 use Rattle.task_ids.specs.declared.task_id.TaskId.{TaskId}
 use Rattle.task_ids.specs.declared.cluster.Cluster.{Cluster}
 use Rattle.task_ids.specs.declared.corpus.Corpus.{Corpus}
-use Rattle.task_ids.specs.declared.doc.Doc.{Doc}
-use Rattle.child_track.specs.Token.{Token}
 use Rattle.child_track.specs.Track.{with_ask}
-use Rattle.task_table.specs.Table.{Table}
 use Rattle.task_events.specs.declared.request.SearchAsk.{SearchAsk}
 use Rattle.task_events.specs.declared.request.Request.{Request}
-use Rattle.task_events.specs.declared.request.Request.TheVariants.{Search, Query, Fetch}
+use Rattle.task_events.specs.declared.request.Request.TheVariants.{Search}
 use Rattle.task_events.specs.declared.reply.Reply.{Reply}
 use Rattle.task_events.specs.declared.step.Asked.{Asked}
 use Rattle.task_events.specs.declared.step.Do.TheVariants.{AskNext}
-use Rattle.task_events.specs.declared.event.Event.{Event}
-use Rattle.task_events.specs.declared.event.Event.TheVariants.{Ask}
-use Rattle.task_events.specs.Same.{same_task, same_pair}
-use Rattle.task_events.specs.Tasks.{is_live, is_new, child_of}
-use Rattle.task_events.specs.Asks.{last_ask, request_of_ask, rejection_of, answer_of}
-use Rattle.task_events.specs.Steps.{asked_by, turns_of, request_of}
-use Rattle.task_events.specs.Kinds.{node_for}
 use Rattle.task_events.specs.Searches.{top_of, tops_in, winners_among, has_winner, won_tops, fetch_of, fetches_of, has_queried, requests_of}
-use Rattle.task_events.specs.Looking.{work_or_end}
 use Rattle.task_events.specs.SearchTask.{ask_or_end}
-use Rattle.task_events.specs.Messages.{Message, in_flight}
-use Rattle.task_events.specs.Messages.Message.{Request as a_request, Answer as an_answer, Ban as a_ban}
-use Rattle.task_events.specs.Laws.{IsTold}
-use Rattle.task_events.specs.Lawful.{AwaitsNoMark, Lawful}
-use Rattle.task_events.specs.Bans.{mark_of}
-use Rattle.task_laws.proofs.Same.{same_tests}
-use Rattle.task_laws.proofs.Asks.{AskFacts, ask_facts}
-use Rattle.task_laws.proofs.Content.{AnswerFacts, answer_facts, told}
-use Rattle.task_laws.proofs.Reach.{reach_facts}
 use Rattle.search_phase.specs.Searching.{Searching, wants_to_ask, next_step, is_above}
 use Rattle.search_phase.specs.Searching as searching
 use Rattle.search_phase.proofs.Asks.{requests_of-ask, EachAnswer-ask}
 use Rattle.search_phase.proofs.Requests.{length-requests_before, length-requests_after}
-use Rattle.task_work.specs.declared.work.Work.{Work}
 use Rattle.task_work.specs.declared.work.Work.TheVariants as works
-use Rattle.task_work.specs.Works.{IsWorkOn, next_of, can_ask, work_with_ask}
-use Rattle.script_lang.specs.declared.command.Script.{Script}
-use Rattle.world_moves.specs.declared.flight.Sent.{Sent}
+use Rattle.task_work.specs.Works.{can_ask}
 use Rattle.world_moves.specs.declared.flight.Sent.TheVariants as sent
-use Rattle.node_parts.specs.declared.running.Running.{Running}
-use Rattle.node_parts.specs.Running.{PlansToAsk, next_number, running_with_ask}
-use Rattle.world_moves.specs.Facts.{facts_of, awaited_by, requested_by}
-use Rattle.world_moves.specs.Flights.{message_of}
-use Rattle.world_moves.specs.Roots.{root_request}
-use Rattle.world_moves.specs.Ties.{Ties, Runs, WorksFor, IsGood}
 use Rattle.world_moves.specs.SearchRuns.{SearchesFor}
-use Rattle.world_moves.specs.Good.{IsGoodReply, written}
-use Rattle.world_moves.proofs.FactsAfter.{at_ask}
-use Rattle.world_moves.proofs.FlightAfter.{all_stay, event_newest}
-use Rattle.world_moves.proofs.KeptTasks.{kept_after}
-use Rattle.world_moves.proofs.NodeTablesSame.{listed_same}
-use Rattle.world_moves.proofs.ByPlace.{all_push}
-use Rattle.world_moves.proofs.AsksCounted.{length-grown, awaited_counted}
-use Rattle.world_moves.proofs.StepsAfter.{kept_running}
+use Rattle.world_moves.specs.Good.{IsGoodReply}
+use Rattle.world_moves.proofs.AsksCounted.{length-grown}
 
 -- ---- what a search asks for
 

@@ -1,5 +1,5 @@
 -- What a search shows of its work.
-use Rattle.std.proofs.Common.{◌≡◌, ◌≢◌, ℕ, zero, suc, ◌+◌, Bool, true, false, cond, List, [], ◌∷◌, ◌++◌, length, map, take, get_or, Option, Some, None, refl, sym, ap, subst, ◌∙◌}
+use Rattle.std.proofs.Common.{◌≡◌, ◌≢◌, ℕ, zero, suc, ◌+◌, Bool, true, false, cond, List, [], ◌∷◌, ◌++◌, length, map, take, Option, Some, None, refl, sym, ap, subst, ◌∙◌}
 use Rattle.std.specs.Prelude.{is_some, not, slice_get, slice_set, ◌==◌}
 use Rattle.std.specs.List.{range_with_len}
 use Rattle.task_ids.specs.declared.task_id.TaskId.{TaskId}
@@ -17,7 +17,7 @@ use Rattle.task_events.specs.declared.step.Do.TheVariants.{Turn, Finish}
 use Rattle.task_events.specs.SearchTask.{ask_or_end, search_step}
 use Rattle.task_events.specs.Searches.{are_answered, search_reply, failed_in, requests_of, query_of, fetches_of, tops_in, has_queried}
 use Rattle.task_events.specs.Tasks.{no_counts}
-use Rattle.search_phase.specs.Searching.{Searching, takes, answered_by, with_answer}
+use Rattle.search_phase.specs.Searching.{takes, answered_by, with_answer}
 use Rattle.task_work.specs.declared.work.Work.{Work}
 use Rattle.task_work.specs.declared.work.Work.TheVariants as works
 use Rattle.task_work.specs.Works.{does_wait, new_work}

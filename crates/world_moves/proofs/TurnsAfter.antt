@@ -1,6 +1,5 @@
 -- The tables fit the past after a turn of work.
-use Rattle.std.proofs.Common.{if◌then◌else◌, ◌≡◌, ◌≢◌, ℕ, ◌+◌, true, false, Bool, List, ◌∷◌, Option, Some, None, refl, sym, ap, subst, ◌∙◌, arith, length}
-use Rattle.std.specs.Prelude.{unwrap_or}
+use Rattle.std.proofs.Common.{◌≡◌, ℕ, ◌+◌, true, false, List, ◌∷◌, Option, Some, None, refl, sym, subst}
 use Rattle.task_ids.specs.declared.task_id.TaskId.{TaskId}
 use Rattle.task_ids.specs.declared.cluster.Cluster.{Cluster}
 use Rattle.task_ids.specs.declared.corpus.Corpus.{Corpus}
@@ -8,7 +7,6 @@ use Rattle.task_table.specs.Table.{Table}
 use Rattle.task_work.specs.declared.work.Work.{Work}
 use Rattle.task_work.specs.declared.work.Work.TheVariants as works
 use Rattle.task_work.specs.Works.{IsWorkOn, next_of, with_turn}
-use Rattle.task_events.specs.declared.reply.Reply.{Reply}
 use Rattle.task_events.specs.declared.request.Request.{Request}
 use Rattle.task_events.specs.declared.request.Request.TheVariants as asks
 use Rattle.task_events.specs.declared.step.Asked.{Asked}
@@ -18,21 +16,16 @@ use Rattle.task_events.specs.declared.event.Event.TheVariants.{Work as worked}
 use Rattle.task_events.specs.Same.{same_task}
 use Rattle.task_events.specs.Bans.{mark_of}
 use Rattle.task_events.specs.Lawful.{AwaitsNoMark}
-use Rattle.search_phase.specs.Queries.{QueryState, without_keys, looked, version_at}
-use Rattle.task_events.specs.Looking.{is_done}
-use Rattle.task_events.specs.SearchTask.{ask_or_end}
 use Rattle.task_events.specs.Steps.{turns_of}
 use Rattle.task_events.specs.Tasks.{is_live, is_new}
 use Rattle.script_lang.specs.declared.command.Script.{Script}
 use Rattle.world_moves.specs.declared.flight.Sent.{Sent}
 use Rattle.node_parts.specs.declared.running.Running.{Running}
-use Rattle.corpus_shards.specs.Stored.{Stored}
 use Rattle.world_moves.specs.Facts.{facts_of}
 use Rattle.world_moves.specs.Roots.{root_request}
 use Rattle.world_moves.specs.Ties.{Ties, Runs, WorksFor, looked_at}
-use Rattle.world_moves.specs.Good.{written}
 use Rattle.world_moves.proofs.AllKinds.{kind_laws}
-use Rattle.world_moves.proofs.KindLaws.{KindLaws, stored_of}
+use Rattle.world_moves.proofs.KindLaws.{stored_of}
 use Rattle.world_moves.proofs.FactsAfter.{at_work}
 use Rattle.world_moves.proofs.FlightAfter.{all_stay}
 use Rattle.world_moves.proofs.KeptTasks.{kept_after}

@@ -1,6 +1,6 @@
 -- What the world's tables say of the past.
-use Rattle.std.specs.Prelude.{◌≡◌, ℕ, ◌+◌, ◌≤◌, true, false, Bool, List, [], map, filter, reverse, length, ◌==◌, slice_get, Option, Some, None, unwrap_or, is_some, not, ◌||◌, if◌then◌else◌, take, ⊤}
-use Rattle.std.specs.List.{AllByRecursion, range_with_len}
+use Rattle.std.specs.Prelude.{◌≡◌, ℕ, ◌+◌, ◌≤◌, true, false, List, [], map, filter, reverse, ◌==◌, slice_get, Option, Some, None, ⊤}
+use Rattle.std.specs.List.{AllByRecursion}
 use Rattle.std.specs.BTreeMap.{BTreeMap, get}
 use Rattle.std.specs.Ordering.{nat_cmp}
 use Rattle.task_ids.specs.declared.task_id.TaskId.{TaskId}

@@ -1,28 +1,20 @@
 -- What a live task does next: what its work says, where it is not marked.
-use Rattle.std.proofs.Common.{◌≡◌, ℕ, Bool, true, false, ◌&&◌, not, List, [], length, Option, Some, None, refl, sym, ap, ◌∙◌}
-use Rattle.std.specs.Prelude.{is_some, option_map, option_and_then, unwrap_or}
+use Rattle.std.proofs.Common.{◌≡◌, ℕ, Bool, true, false, ◌&&◌, not, List, [], Option, Some, None, refl, sym, ap, ◌∙◌}
+use Rattle.std.specs.Prelude.{is_some, option_and_then}
 use Rattle.task_ids.specs.declared.task_id.TaskId.{TaskId}
 use Rattle.task_ids.specs.declared.cluster.Cluster.{Cluster}
 use Rattle.task_ids.specs.declared.corpus.Corpus.{Corpus}
 use Rattle.task_ids.specs.declared.doc.Doc.{Doc}
 use Rattle.task_table.specs.Table.{Table}
-use Rattle.task_events.specs.declared.request.Request.{Request}
-use Rattle.task_events.specs.declared.request.Request.TheVariants.{Search, Query, Fetch}
-use Rattle.task_events.specs.declared.step.Asked.{Asked}
 use Rattle.task_events.specs.declared.step.Do.{Do}
 use Rattle.task_events.specs.declared.step.Do.TheVariants.{AskNext, Turn, Wait, Finish}
 use Rattle.task_events.specs.declared.event.Event.{Event}
 use Rattle.task_events.specs.declared.event.Event.TheVariants.{End}
 use Rattle.task_events.specs.declared.reply.Reply.TheVariants.{Cancelled}
-use Rattle.task_events.specs.FetchTask.{fetch_step}
-use Rattle.task_events.specs.QueryTask.{query_step}
-use Rattle.task_events.specs.SearchTask.{search_step}
 use Rattle.task_events.specs.Tasks.{is_live, is_new, no_counts}
-use Rattle.task_events.specs.Steps.{event_of, planned_step, first_step, cancelled_step, asked_by, turns_of, request_of}
+use Rattle.task_events.specs.Steps.{event_of, first_step, cancelled_step, asked_by, turns_of, request_of}
 use Rattle.task_events.specs.Asks.{unanswered}
 use Rattle.task_events.specs.Bans.{ban_over, mark_of}
-use Rattle.search_phase.specs.Queries.{version_at}
-use Rattle.task_work.specs.declared.work.Work.{Work}
 use Rattle.task_work.specs.declared.work.Work.TheVariants as works
 use Rattle.task_work.specs.Works.{IsWorkOn, next_of, does_wait}
 use Rattle.script_lang.specs.declared.command.Script.{Script}
@@ -31,8 +23,8 @@ use Rattle.node_parts.specs.declared.running.Running.{Running}
 use Rattle.world_moves.specs.Facts.{facts_of, awaited_by, requested_by, none_awaited}
 use Rattle.world_moves.specs.Roots.{root_request}
 use Rattle.world_steps.specs.Runs as runs
-use Rattle.world_moves.specs.Ties.{Ties, Runs, WorksFor}
-use Rattle.world_moves.specs.Good.{own_writes, written}
+use Rattle.world_moves.specs.Ties.{Ties, Runs}
+use Rattle.world_moves.specs.Good.{own_writes}
 use Rattle.node_parts.specs.Running.{DoesNext, can_act}
 use Rattle.world_moves.proofs.AllKinds.{kind_laws}
 use Rattle.world_moves.proofs.KindLaws.{KindLaws}

@@ -1,39 +1,28 @@
 -- Where it has settled, nothing is live.
-use Rattle.std.proofs.Common.{◌≡◌, ◌≢◌, ℕ, Bool, true, false, not, List, [], ◌∷◌, map, Option, Some, None, refl, sym, ap, ◌∙◌}
-use Rattle.std.specs.Prelude.{is_some}
+use Rattle.std.proofs.Common.{◌≡◌, ◌≢◌, ℕ, Bool, true, false, List, [], Option, Some, None, refl, sym, ◌∙◌}
 use Rattle.task_ids.specs.declared.task_id.TaskId.{TaskId}
 use Rattle.task_ids.specs.declared.cluster.Cluster.{Cluster}
 use Rattle.task_ids.specs.declared.corpus.Corpus.{Corpus}
-use Rattle.task_ids.specs.declared.doc.Doc.{Doc}
 use Rattle.task_table.specs.Table.{Table}
 use Rattle.task_events.specs.declared.event.Event.{Event}
-use Rattle.task_events.specs.declared.request.Request.{Request}
 use Rattle.task_events.specs.declared.request.Request.TheVariants as asks
-use Rattle.task_events.specs.declared.reply.Reply.{Reply}
-use Rattle.task_events.specs.declared.step.Asked.{Asked}
 use Rattle.task_events.specs.declared.step.Do.{Do}
 use Rattle.task_events.specs.declared.step.Do.TheVariants.{AskNext, Turn, Wait, Finish}
 use Rattle.task_events.specs.Asks.{unanswered}
 use Rattle.task_events.specs.Bans.{mark_of, listing_is_open}
 use Rattle.task_events.specs.Laws.{IsAtRest, IsLeaf, IsDrained}
-use Rattle.task_events.specs.Searches.{are_answered}
-use Rattle.task_events.specs.Looking.{work_or_end}
-use Rattle.task_events.specs.SearchTask.{ask_or_end}
 use Rattle.task_events.specs.Steps.{request_of, event_of}
 use Rattle.task_events.specs.Tasks.{is_live, is_new}
 use Rattle.task_laws.proofs.Rest.{leaf}
-use Rattle.task_work.specs.declared.work.Work.{Work as Doing}
 use Rattle.task_work.specs.declared.work.Work.TheVariants as works
 use Rattle.task_work.specs.Works.{next_of, does_wait}
 use Rattle.script_lang.specs.declared.command.Script.{Script}
 use Rattle.world_moves.specs.declared.flight.Sent.{Sent}
 use Rattle.node_parts.specs.declared.running.Running.{Running}
-use Rattle.world_moves.specs.Facts.{none_awaited}
 use Rattle.world_moves.specs.Roots.{root_request}
 use Rattle.world_steps.specs.Runs as runs
-use Rattle.world_moves.specs.Ties.{Ties, WorksFor}
+use Rattle.world_moves.specs.Ties.{Ties}
 use Rattle.world_moves.proofs.AllKinds.{kind_laws}
-use Rattle.world_moves.proofs.KindLaws.{KindLaws}
 use Rattle.world_moves.proofs.NoneAwaited.{none_to_await}
 use Rattle.world_steps.proofs.Plans.{next_new, next_old, ends_marked, writes_at}
 use Rattle.world_moves.proofs.StepsAfter.{kept_running, is_kept}
