@@ -10,7 +10,7 @@ use Rattle.task_events.specs.declared.request.Request.TheVariants.{Fetch}
 use Rattle.task_events.specs.declared.reply.ShardTop.{ShardTop}
 use Rattle.task_events.specs.declared.reply.Reply.{Reply}
 use Rattle.task_events.specs.declared.step.Asked.{Asked}
-use Rattle.task_events.specs.Possible.{can_have}
+use Rattle.task_events.specs.Kinds.{can_have}
 use Rattle.task_events.specs.Searches.{tops_in, fetches_of, are_answered, has_queried, requests_of}
 use Rattle.search_phase.specs.Searching.{Searching, IsSearching, EachAnswer, AreRising, awaited, takes, answered_by, with_answer}
 use Rattle.search_phase.proofs.Sorting.{by_test}

@@ -10,8 +10,9 @@ use Rattle.task_events.specs.declared.request.Request.TheVariants.{Fetch}
 use Rattle.task_events.specs.declared.reply.ShardTop.{ShardTop}
 use Rattle.task_events.specs.declared.reply.Reply.{Reply}
 use Rattle.task_events.specs.declared.step.Asked.{Asked}
-use Rattle.task_events.specs.Possible.{can_have}
-use Rattle.task_events.specs.Searches.{tops_in, fetches_of, are_answered, has_queried, requests_of, ask_or_end}
+use Rattle.task_events.specs.Kinds.{can_have}
+use Rattle.task_events.specs.Searches.{tops_in, fetches_of, are_answered, has_queried, requests_of}
+use Rattle.task_events.specs.SearchTask.{ask_or_end}
 use Rattle.search_phase.specs.Searching.{Searching, IsSearching, EachAnswer, AreRising, next_step, wants_to_ask, is_above, with_ask}
 use Rattle.search_phase.proofs.Sorting.{by_test}
 use Rattle.search_phase.proofs.Lookups.{list_all-append}

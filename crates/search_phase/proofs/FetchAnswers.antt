@@ -17,7 +17,8 @@ use Rattle.task_events.specs.declared.reply.ShardTop.{ShardTop}
 use Rattle.task_events.specs.declared.reply.Reply.{Reply}
 use Rattle.task_events.specs.declared.step.Asked.{Asked}
 use Rattle.task_events.specs.HitOrder.{hit_cmp}
-use Rattle.task_events.specs.Possible.{ascend, are_among}
+use Rattle.task_events.specs.FetchTask.{are_among}
+use Rattle.task_events.specs.QueryTask.{ascend}
 use Rattle.task_events.specs.Searches.{tops_in, winners_among, won_tops, fetch_of, fetches_of, fetch_at, failed_at, failed_in, failure_of, hits_of, hit_in}
 use Rattle.search_phase.specs.FetchPhase.{answer_to, failed_by, hit_by, hits_in}
 use Rattle.search_phase.proofs.Sorting.{by_test}

@@ -8,7 +8,7 @@ use Rattle.std.proofs.lemmas.List.Elements.{filter_map-append}
 use Rattle.task_ids.specs.declared.doc.Doc.{Doc}
 use Rattle.task_events.specs.declared.reply.Hit.{Hit}
 use Rattle.task_events.specs.Answers.{hit_at, fetched}
-use Rattle.task_events.specs.Searches.{rows_per_turn, is_done}
+use Rattle.task_events.specs.Looking.{rows_per_turn, is_done}
 use Rattle.search_phase.specs.declared.fetch.FetchAnswer.TheVariants.{More, Ready}
 use Rattle.search_phase.specs.Fetches.{FetchState, IsFetched, has_fetched, fetched_in, hits_of_first}
 use Rattle.search_phase.specs.TurnAnswers.{fetch_answer}

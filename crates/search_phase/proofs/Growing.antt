@@ -9,7 +9,7 @@ use Rattle.task_events.specs.declared.request.HitKey.{HitKey}
 use Rattle.task_events.specs.declared.request.ShardAsk.{ShardAsk}
 use Rattle.task_events.specs.declared.request.FetchAsk.{FetchAsk}
 use Rattle.task_events.specs.Answers.{hit_at, window}
-use Rattle.task_events.specs.Searches.{rows_per_turn, is_done}
+use Rattle.task_events.specs.Looking.{rows_per_turn, is_done}
 use Rattle.search_phase.specs.Queries.{QueryState, IsQueried, new_query, version_at, keys_below, first_keys, queried, without_keys}
 use Rattle.search_phase.specs.Fetches.{FetchState, IsFetched, new_fetch, hits_of_first, fetched_in}
 use Rattle.search_phase.proofs.Rows.{keys_below-none, keys_below-grow}

@@ -12,7 +12,7 @@ use Rattle.task_events.specs.declared.reply.Reply.{Reply}
 use Rattle.task_events.specs.declared.reply.Reply.TheVariants.{Search, Top, Hits, AllFailed, Cancelled, Rejected}
 use Rattle.task_events.specs.declared.step.Asked.{Asked}
 use Rattle.task_events.specs.Answers.{has_failed, hit_of, shard_top, found_keys, winners, count_at, context_of}
-use Rattle.task_events.specs.Possible.{can_have}
+use Rattle.task_events.specs.Kinds.{can_have}
 use Rattle.task_events.specs.Searches.{query_of, top_of, tops_in, winners_among, won_tops, fetch_of, fetches_of, requests_of, counted, failed_in, hit_in}
 use Rattle.search_phase.specs.Searching.{Searching, IsSearching, AllHonest, IsHonest, version_of, plain_reply, reply_of, next_step, has_ended}
 use Rattle.search_phase.proofs.Lookups.{EachFrom, each_by_place, Paired, paired_by_place, slice_get-take, slice_get-drop}

@@ -14,7 +14,8 @@ use Rattle.task_events.specs.declared.reply.Reply.TheVariants.{Top}
 use Rattle.task_events.specs.declared.step.Asked.{Asked}
 use Rattle.task_events.specs.HitOrder.{in_hit_order}
 use Rattle.task_events.specs.Answers.{window, opens_context, context_of}
-use Rattle.task_events.specs.Possible.{ascend, can_have, is_top_for}
+use Rattle.task_events.specs.QueryTask.{ascend, is_top_for}
+use Rattle.task_events.specs.Kinds.{can_have}
 use Rattle.task_events.specs.HitOrder.{is_after}
 use Rattle.task_events.specs.Searches.{query_of, top_of, tops_in, winners_among, failed_at, failed_in, hit_in}
 use Rattle.search_phase.specs.Searching.{Searching, IsSearching, reply_of}

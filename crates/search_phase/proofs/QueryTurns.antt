@@ -5,7 +5,7 @@ use Rattle.std.proofs.lemmas.Bool.{le-leb, lt-leb}
 use Rattle.task_ids.specs.declared.doc.Doc.{Doc}
 use Rattle.task_events.specs.declared.request.ShardAsk.{ShardAsk}
 use Rattle.task_events.specs.Answers.{shard_top}
-use Rattle.task_events.specs.Searches.{rows_per_turn, is_done}
+use Rattle.task_events.specs.Looking.{rows_per_turn, is_done}
 use Rattle.search_phase.specs.declared.query.TurnAnswer.TheVariants.{More, Ready}
 use Rattle.search_phase.specs.Queries.{QueryState, version_at, first_keys, looked, queried, without_keys, IsQueried}
 use Rattle.search_phase.specs.TurnAnswers.{query_answer}

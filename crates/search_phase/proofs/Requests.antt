@@ -11,7 +11,8 @@ use Rattle.task_events.specs.declared.request.Request.{Request}
 use Rattle.task_events.specs.declared.request.Request.TheVariants.{Query, Fetch}
 use Rattle.task_events.specs.declared.reply.Reply.{Reply}
 use Rattle.task_events.specs.declared.step.Asked.{Asked}
-use Rattle.task_events.specs.Searches.{query_of, tops_in, fetches_of, are_answered, has_queried, requests_of, ask_or_end}
+use Rattle.task_events.specs.Searches.{query_of, tops_in, fetches_of, are_answered, has_queried, requests_of}
+use Rattle.task_events.specs.SearchTask.{ask_or_end}
 use Rattle.search_phase.specs.Searching.{Searching, has_ended, next_step}
 use Rattle.search_phase.proofs.Sorting.{by_test}
 use Rattle.search_phase.proofs.Lookups.{list_all-take}

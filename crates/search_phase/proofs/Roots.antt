@@ -13,7 +13,7 @@ use Rattle.task_events.specs.declared.request.Request.TheVariants.{Fetch}
 use Rattle.task_events.specs.declared.reply.ShardTop.{ShardTop}
 use Rattle.task_events.specs.declared.reply.Reply.{Reply}
 use Rattle.task_events.specs.declared.step.Asked.{Asked}
-use Rattle.task_events.specs.Possible.{can_have}
+use Rattle.task_events.specs.Kinds.{can_have}
 use Rattle.task_events.specs.Searches.{top_of, tops_in, won_tops, winners_among, has_winner, fetch_of, fetches_of, has_queried, requests_of}
 use Rattle.search_phase.specs.declared.fetching.Fetching.{Fetching}
 use Rattle.search_phase.specs.Searching.{Searching, AreRising, next_request, next_step, wants_to_ask, is_above, with_ask, is_open, awaited, takes, answered_by, with_answer}

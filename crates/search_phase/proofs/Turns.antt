@@ -8,7 +8,7 @@ use Rattle.task_ids.specs.declared.doc.Doc.{Doc}
 use Rattle.task_events.specs.declared.request.HitKey.{HitKey}
 use Rattle.task_events.specs.HitOrder.{in_hit_order, is_after}
 use Rattle.task_events.specs.Answers.{window}
-use Rattle.task_events.specs.Searches.{rows_per_turn, is_done}
+use Rattle.task_events.specs.Looking.{rows_per_turn, is_done}
 use Rattle.search_phase.specs.Queries.{QueryState, version_at, has_ended, keys_below, looked, without_keys, IsQuery, HasTurned, IsQueried}
 use Rattle.search_phase.proofs.Cut.{length-in_hit_order}
 use Rattle.search_phase.proofs.Kept.{first_append}

@@ -4,7 +4,7 @@ use Rattle.task_ids.specs.declared.doc.Doc.{Doc}
 use Rattle.task_events.specs.declared.request.FetchAsk.{FetchAsk}
 use Rattle.task_events.specs.declared.reply.Hit.{Hit}
 use Rattle.task_events.specs.Answers.{hit_at}
-use Rattle.task_events.specs.Searches.{rows_per_turn, is_done}
+use Rattle.task_events.specs.Looking.{rows_per_turn, is_done}
 
 pub record FetchState : Type 0 where
   -- what is asked for

@@ -6,7 +6,7 @@ use Rattle.task_events.specs.declared.request.HitKey.{HitKey}
 use Rattle.task_events.specs.declared.request.ShardAsk.{ShardAsk}
 use Rattle.task_events.specs.HitOrder.{in_hit_order, is_after}
 use Rattle.task_events.specs.Answers.{window, keys_among}
-use Rattle.task_events.specs.Searches.{rows_per_turn, is_done}
+use Rattle.task_events.specs.Looking.{rows_per_turn, is_done}
 
 pub record QueryState : Type 0 where
   -- what is asked for

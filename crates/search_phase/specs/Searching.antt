@@ -15,8 +15,9 @@ use Rattle.task_events.specs.declared.step.Do.{Do}
 use Rattle.task_events.specs.declared.step.Do.TheVariants.{AskNext, Turn, Wait, Finish}
 use Rattle.task_events.specs.declared.reply.ShardTop.{ShardTop}
 use Rattle.task_events.specs.Answers.{ShardVersion, shard_top, fetched, plain_answer, context_of}
-use Rattle.task_events.specs.Possible.{can_have}
-use Rattle.task_events.specs.Searches.{requests_of, tops_in, winners_among, failed_in, hit_in, counted, search_reply, search_step}
+use Rattle.task_events.specs.Kinds.{can_have}
+use Rattle.task_events.specs.Searches.{requests_of, tops_in, winners_among, failed_in, hit_in, counted, search_reply}
+use Rattle.task_events.specs.SearchTask.{search_step}
 
 pub record Searching : Type 0 where
   pub task : TaskId

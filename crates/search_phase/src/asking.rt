@@ -3,7 +3,7 @@
 ghost use Rattle.std.specs.Prelude.{◌≡◌, IfOk, Some, false, is_some, option_map, option_copied};
 ghost use Rattle.std.specs.Option.{option_map_or};
 ghost use Rattle.task_events.specs.declared.request.SearchAsk.{SearchAsk};
-ghost use Rattle.task_events.specs.Possible.{can_have};
+ghost use Rattle.task_events.specs.Kinds.{can_have};
 ghost use Rattle.task_events.specs.Searches.{query_of};
 ghost use Rattle.search_phase.specs.FetchPhase.{fetch_by, request_by};
 

@@ -3,7 +3,9 @@
 ghost use Rattle.std.specs.Prelude.{◌≡◌, ℕ, ◌==◌, true, map};
 ghost use Rattle.std.specs.List.{list_all};
 ghost use Rattle.std.specs.Str.{bytes_eq};
-ghost use Rattle.task_events.specs.Possible.{ascend, are_among, is_top_for, can_have};
+ghost use Rattle.task_events.specs.FetchTask.{are_among};
+ghost use Rattle.task_events.specs.QueryTask.{ascend, is_top_for};
+ghost use Rattle.task_events.specs.Kinds.{can_have};
 ghost use Rattle.task_events.specs.Searches.{query_of};
 
 use task_events::{FetchAsk, Hit, HitKey, Reply, Request, SearchAsk, ShardTop};

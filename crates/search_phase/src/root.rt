@@ -4,7 +4,7 @@ ghost use Rattle.std.specs.Prelude.{◌≡◌, ◌<◌, ℕ, List, IfOk, OnOk, O
 ghost use Rattle.task_ids.specs.declared.doc.Doc.{Doc};
 ghost use Rattle.task_ids.specs.Limits.{IsShardCount};
 ghost use Rattle.task_events.specs.declared.step.Asked.{Asked};
-ghost use Rattle.task_events.specs.Possible.{can_have};
+ghost use Rattle.task_events.specs.Kinds.{can_have};
 ghost use Rattle.task_events.specs.Searches.{are_answered};
 ghost use Rattle.search_phase.specs.Searching.{new_search, next_request, next_step, is_open, wants_to_ask, has_ended, does_wait, is_above, with_ask, takes, with_answer, AllHonest, plain_reply, answer_of, reply_with};
 ghost use Rattle.search_phase.specs.Plans.{plan_of};

@@ -1,4 +1,4 @@
--- What a search, a query and a fetch do next, by what they have asked for, what was answered, and the turns that they have taken.
+-- What a search asks for and replies, by what it has asked for and what was answered.
 use Rattle.std.specs.Prelude.{ℕ, ◌*◌, List, [], ◌++◌, length, Bool, true, false, ◌&&◌, ◌==◌, nat_lt, nat_le, Option, Some, None, is_some, option_and_then, option_map, map, filter, filter_map, find, take, drop, zip, slice_get, if◌then◌else◌}
 use Rattle.std.specs.List.{list_any, list_all, flat_map, sum_by, last_or, range_with_len}
 use Rattle.std.specs.Option.{option_or}
@@ -124,33 +124,3 @@ search_reply task ask shards asked =
       hits = filter_map (hit_in ask shards asked) won;
       last = last_or None won;
     })
-
--- ---- next steps
-
-abbrev pub ask_or_end : Option Request → Bool → Reply → Do
-ask_or_end (Some request) answered reply = AskNext request
-ask_or_end None true reply = Finish reply
-ask_or_end None false reply = Wait None
-
-abbrev pub search_step : TaskId → SearchAsk → ℕ → List Asked → Do
-search_step task ask shards asked = ask_or_end (slice_get (requests_of ask shards asked) (length asked)) (are_answered asked) (search_reply task ask shards asked)
-
--- how many rows or documents a turn of work looks at
-unfoldable pub rows_per_turn : ℕ
-rows_per_turn = 1024
-
--- work on so much is done after at least one turn, when all was looked at
-abbrev pub is_done : ℕ → ℕ → Bool
-is_done turns much = nat_lt 0 turns && nat_le much (turns * rows_per_turn)
-
-abbrev pub work_or_end : Bool → Reply → Do
-work_or_end false reply = Turn
-work_or_end true reply = Finish reply
-
--- a query looks at the rows of a version, and ends with its top
-abbrev pub query_step : ShardAsk → ℕ → ℕ → List Doc → Do
-query_step ask version turns writes = work_or_end (is_done turns version) (Top (shard_top ask version writes))
-
--- a fetch looks up its places, and ends with their documents
-abbrev pub fetch_step : FetchAsk → ℕ → List Doc → Do
-fetch_step ask turns writes = work_or_end (is_done turns (length ask.places)) (Hits (fetched ask writes))

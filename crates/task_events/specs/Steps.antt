@@ -3,9 +3,7 @@ use Rattle.std.specs.Prelude.{ℕ, ◌+◌, List, [], ◌∷◌, ◌++◌, lengt
 use Rattle.task_ids.specs.declared.task_id.TaskId.{TaskId}
 use Rattle.task_ids.specs.declared.cluster.Cluster.{Cluster}
 use Rattle.task_ids.specs.declared.corpus.Corpus.{Corpus}
-use Rattle.task_ids.specs.Placing.{node_of}
 use Rattle.task_events.specs.declared.request.Request.{Request}
-use Rattle.task_events.specs.declared.request.Request.TheVariants.{Search, Query, Fetch}
 use Rattle.task_events.specs.declared.reply.Reply.{Reply}
 use Rattle.task_events.specs.declared.reply.Reply.TheVariants.{Cancelled}
 use Rattle.task_events.specs.declared.step.Asked.{Asked}
@@ -17,8 +15,7 @@ use Rattle.task_events.specs.Same.{same_task}
 use Rattle.task_events.specs.Tasks.{no_counts, is_new}
 use Rattle.task_events.specs.Asks.{Pending, last_ask, request_of_ask, unanswered, answer_of}
 use Rattle.task_events.specs.Bans.{mark_of, ban_over}
-use Rattle.task_events.specs.Documents.{writes_of}
-use Rattle.task_events.specs.Searches.{search_step, query_step, fetch_step}
+use Rattle.task_events.specs.Kinds.{kind_of, node_for}
 
 -- What a task was asked to do: a root by its command, a child by its parent.
 abbrev pub request_of : (ℕ → Option Request) → TaskId → List Event → Option Request
@@ -44,19 +41,9 @@ turns_of t [] = 0
 turns_of t (Work u ∷ h) = if same_task t u then 1 + turns_of t h else turns_of t h
 turns_of t (_ ∷ h) = turns_of t h
 
--- What a task's plan says, by its request, its asks with their answers, and its turns. The version that a query reads is that of its shard where it names none.
+-- What a task's plan says, by its request, its asks with their answers, and its turns.
 abbrev pub planned_step : Cluster → Corpus → TaskId → Request → List Event → Do
-planned_step cluster corpus t (Search ask) h = search_step t ask cluster.shards (asked_by t h)
-planned_step cluster corpus t (Query ask) h =
-    let writes = writes_of corpus cluster.shards ask.index ask.shard in
-    query_step ask (unwrap_or ask.version (length writes)) (turns_of t h) writes
-planned_step cluster corpus t (Fetch ask) h = fetch_step ask (turns_of t h) (writes_of corpus cluster.shards ask.index ask.shard)
-
--- the node on which a request of a task is worked: that of its shard, or else the task's own
-abbrev pub node_for : Cluster → TaskId → Request → ℕ
-node_for cluster t (Search ask) = t.node
-node_for cluster t (Query ask) = node_of ask.shard cluster.nodes
-node_for cluster t (Fetch ask) = node_of ask.shard cluster.nodes
+planned_step cluster corpus t request h = (kind_of request).step cluster corpus t (asked_by t h) (turns_of t h)
 
 -- the event that a task's plan leads to, and none where it waits
 abbrev pub event_of : Cluster → TaskId → List Event → Do → Option Event

@@ -10,7 +10,8 @@ use Rattle.task_events.specs.declared.reply.Reply.{Reply}
 use Rattle.task_events.specs.declared.step.Do.{Do}
 use Rattle.task_events.specs.declared.step.Do.TheVariants as steps
 use Rattle.task_events.specs.Answers.{shard_top, fetched}
-use Rattle.task_events.specs.Searches.{query_step, fetch_step}
+use Rattle.task_events.specs.FetchTask.{fetch_step}
+use Rattle.task_events.specs.QueryTask.{query_step}
 use Rattle.search_phase.specs.Queries as queries
 use Rattle.search_phase.specs.Queries.{QueryState, IsQueried, new_query, version_at, has_ended, queried}
 use Rattle.search_phase.specs.Fetches as fetches
@@ -42,6 +43,12 @@ IsWorkOn (Search s) writes = Unit {0}
 IsWorkOn (Query q top) writes = IsQueried q writes × (top ≡ found_top q writes)
 IsWorkOn (Fetch f hits) writes = IsFetched f writes × (hits ≡ found_hits f writes)
 
+-- the index and the shard of which it looks at the documents; a search looks at none
+abbrev pub place_of : Work → Option (List ℕ × ℕ)
+place_of (Search s) = None
+place_of (Query q top) = Some (q.ask.index, q.ask.shard)
+place_of (Fetch f hits) = Some (f.ask.index, f.ask.shard)
+
 -- what it does next, where it works on a shard with these writes
 abbrev pub next_of : Work → List Doc → Do
 next_of (Search s) writes = next_step s
@@ -67,34 +74,29 @@ HasTurned (Query q top) writes (Query r found) = queries.HasTurned q writes r ×
 HasTurned (Fetch f hits) writes (Fetch g found) = fetches.HasTurned f g × (is_some found ≡ (is_some hits || has_fetched g))
 HasTurned before writes after = ⊥
 
--- ---- asks and answers
+-- ---- asks and answers: a query and a fetch ask for nothing
 
 -- it asks for a child next, and this number is above those of all its asks
 abbrev pub can_ask : Work → ℕ → Bool
 can_ask (Search s) ask = wants_to_ask (next_step s) && is_above ask s.asked
-can_ask (Query q top) ask = false
-can_ask (Fetch f hits) ask = false
+can_ask _ ask = false
 
 abbrev pub work_with_ask : Work → ℕ → Work
 work_with_ask (Search s) ask = Search (with_ask s ask)
-work_with_ask (Query q top) ask = Query q top
-work_with_ask (Fetch f hits) ask = Fetch f hits
+work_with_ask work ask = work
 
 -- the ask has no answer yet, and the reply is one that its request can have
 abbrev pub work_takes : Work → ℕ → Reply → Bool
 work_takes (Search s) ask reply = takes s ask reply
-work_takes (Query q top) ask reply = false
-work_takes (Fetch f hits) ask reply = false
+work_takes _ ask reply = false
 
 abbrev pub work_with_answer : Work → ℕ → Reply → Work
 work_with_answer (Search s) ask reply = Search (with_answer s ask reply)
-work_with_answer (Query q top) ask reply = Query q top
-work_with_answer (Fetch f hits) ask reply = Fetch f hits
+work_with_answer work ask reply = work
 
 -- ---- the plain answer
 
 -- where every answer to a search is honest, it ends with the plain answer
 abbrev pub EndsPlainly : Work → Do → Type 0
 EndsPlainly (Search s) step = (writes : ℕ → List Doc) (reply : Reply) → AllHonest writes s → step ≡ steps.Finish reply → reply ≡ plain_reply writes s
-EndsPlainly (Query q top) step = Unit {0}
-EndsPlainly (Fetch f hits) step = Unit {0}
+EndsPlainly _ step = Unit {0}

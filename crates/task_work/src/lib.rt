@@ -1,6 +1,9 @@
-//! The work of a task: one type of all kinds of work, and what each does next.
+//! The work of a task: one type of all kinds of work, and what each does next. Each kind has a module of its own.
 #![tactic(auto)]
 
+mod fetch;
+mod query;
+mod search;
 mod work;
 
 pub use task_events::Do;

@@ -1,96 +1,16 @@
-ghost use Rattle.std.specs.Prelude.{◌≡◌, ◌+◌, ◌||◌, List, None, is_some, IfOk, OnOk, OnErr, true, false};
-ghost use Rattle.search_phase.specs.Queries as queries;
-ghost use Rattle.search_phase.specs.Queries.{IsQueried, has_ended, version_at, queried};
-ghost use Rattle.search_phase.specs.Fetches as fetches;
-ghost use Rattle.search_phase.specs.Fetches.{IsFetched, has_fetched, fetched_in};
-ghost use Rattle.search_phase.specs.Searching.{next_step, reply_with};
+ghost use Rattle.std.specs.Prelude.{◌≡◌, List, IfOk, OnOk, OnErr, true, option_map};
 ghost use Rattle.task_ids.specs.declared.doc.Doc.{Doc};
 ghost use Rattle.task_events.specs.Tasks.{no_counts};
-ghost use Rattle.task_work.specs.Works.{new_work, IsWorkOn, HasTurned, next_of, with_turn, can_ask, work_with_ask, work_takes, work_with_answer, found_top, found_hits, EndsPlainly, does_wait};
+ghost use Rattle.task_work.specs.Works.{new_work, IsWorkOn, HasTurned, next_of, with_turn, can_ask, work_with_ask, work_takes, work_with_answer, EndsPlainly, does_wait, place_of};
 
-use search_phase::{FetchAnswer, RootPlan, SearchRoot, ShardFetch, ShardQuery, TurnAnswer};
+use crate::fetch::turn_of_fetch;
+use crate::query::{top_reply, turn_of_query};
+use crate::search::next_of_search;
+use search_phase::{SearchRoot, ShardFetch, ShardQuery};
 use shard_docs::Shard;
 use std::alloc::{AllocError, Global};
-use task_events::{Do, Hit, Reply, Request, SearchReply, ShardTop, copy_hits};
-use task_ids::{Boxed, Cluster, Items, TaskId};
-
-fn top_reply(top: &ShardTop) -> Result<Reply, AllocError>
-    ensures { IfOk result (λ reply. reply ≡ Reply.Top top.now) }
-{
-    let copy = top.copy()?;
-    Ok(Reply::Top(Boxed::new(top.keys.allocator(), copy)?))
-}
-
-/// The reply with the answer of a search, which tells of the failed shards alone where all have failed.
-fn reply_with(shards: u32, answer: SearchReply) -> Result<Reply, AllocError>
-    ensures { IfOk result (λ reply. reply ≡ reply_with shards answer) }
-{
-    if answer.failed.as_slice().len() == shards as usize {
-        let SearchReply { failed, .. } = answer;
-        return Ok(Reply::AllFailed(failed));
-    }
-    Ok(Reply::Search(Boxed::new(answer.failed.allocator(), answer)?))
-}
-
-fn next_of_search(root: &SearchRoot) -> Result<Do, AllocError>
-    ensures step { IfOk result (λ step. step ≡ next_step root.now) }
-    ensures plain { IfOk result (λ step. EndsPlainly (Work.Search root.now) step) }
-{
-    match root.plan()? {
-        RootPlan::Ask(request) => Ok(Do::AskNext(request)),
-        RootPlan::Wait => Ok(Do::Wait(None)),
-        RootPlan::Finish => Ok(Do::Finish(reply_with(root.shards(), root.finish()?)?)),
-    }
-}
-
-fn turn_of_query(
-    query: &mut ShardQuery,
-    top: &mut Option<ShardTop>,
-    shard: &Shard,
-) -> Result<(), AllocError>
-    requires { has_ended query.old shard.now ≡ false }
-    ensures turned { OnOk result (queries.HasTurned query.old shard.now query.new) }
-    ensures ready { OnOk result (is_some top.new ≡ (is_some top.old || has_ended query.new shard.now)) }
-    ensures query { IsQueried query.old shard.now → let q = query.old in
-        OnOk result (query.new ≡ queried q.ask (version_at q shard.now) (q.turns + 1) shard.now) }
-    ensures on { IsQueried query.old shard.now → OnOk result (IsQueried query.new shard.now) }
-    ensures top { IsQueried query.old shard.now → top.old ≡ None
-        → OnOk result (top.new ≡ found_top query.new shard.now) }
-    ensures same_query { OnErr result (query.new ≡ query.old) }
-    ensures same_top { OnErr result (top.new ≡ top.old) }
-{
-    match query.turn(shard)? {
-        TurnAnswer::More => Ok(()),
-        TurnAnswer::Ready(found) => {
-            *top = Some(found);
-            Ok(())
-        }
-    }
-}
-
-fn turn_of_fetch(
-    fetch: &mut ShardFetch,
-    hits: &mut Option<Items<Hit>>,
-    shard: &Shard,
-) -> Result<(), AllocError>
-    requires { has_fetched fetch.old ≡ false }
-    ensures turned { OnOk result (fetches.HasTurned fetch.old fetch.new) }
-    ensures ready { OnOk result (is_some hits.new ≡ (is_some hits.old || has_fetched fetch.new)) }
-    ensures fetch { IsFetched fetch.old shard.now → let f = fetch.old in
-        OnOk result (fetch.new ≡ fetched_in f.ask (f.turns + 1) shard.now) }
-    ensures hits { IsFetched fetch.old shard.now → hits.old ≡ None
-        → OnOk result (hits.new ≡ found_hits fetch.new shard.now) }
-    ensures same_fetch { OnErr result (fetch.new ≡ fetch.old) }
-    ensures same_hits { OnErr result (hits.new ≡ hits.old) }
-{
-    match fetch.turn(shard)? {
-        FetchAnswer::More => Ok(()),
-        FetchAnswer::Ready(found) => {
-            *hits = Some(found);
-            Ok(())
-        }
-    }
-}
+use task_events::{Do, Hit, Reply, Request, ShardTop, copy_hits};
+use task_ids::{Cluster, Items, TaskId};
 
 /// The work of a task.
 #[derive(Drop)]
@@ -126,6 +46,23 @@ impl Work {
             Request::Fetch(ask) => {
                 let ask = ask.get().copy()?;
                 Ok(Work::Fetch(ShardFetch::new(alloc, ask), None))
+            }
+        }
+    }
+
+    /// The index and the shard, from 0, of which it looks at the documents. A search looks at none.
+    pub fn place(&self) -> Option<(&str, u32)>
+        ensures { option_map (λ place. (place.0.now, place.1)) result ≡ place_of self.now }
+    {
+        match self {
+            Work::Search(_) => None,
+            Work::Query(query, _) => {
+                let ask = query.ask();
+                Some((ask.index.as_str(), ask.shard))
+            }
+            Work::Fetch(fetch, _) => {
+                let ask = fetch.ask();
+                Some((ask.index.as_str(), ask.shard))
             }
         }
     }

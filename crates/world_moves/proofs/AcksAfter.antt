@@ -27,11 +27,11 @@ use Rattle.task_laws.proofs.Bans.{BanFacts, ban_facts, placed_acked}
 use Rattle.task_laws.proofs.Numbers.{in_list}
 use Rattle.task_laws.proofs.Same.{same_tests}
 use Rattle.script_lang.specs.declared.command.Script.{Script}
-use Rattle.world_moves.specs.declared.flight.Notice.TheVariants as notices
+use Rattle.node_parts.specs.declared.notice.Notice.TheVariants as notices
 use Rattle.world_moves.specs.declared.flight.Sent.{Sent}
 use Rattle.world_moves.specs.declared.flight.Sent.TheVariants as sent
 use Rattle.world_moves.specs.declared.listing.Listing.{Listing}
-use Rattle.world_moves.specs.declared.running.Running.{Running}
+use Rattle.node_parts.specs.declared.running.Running.{Running}
 use Rattle.world_moves.specs.Acts.{messages_in, answers_in}
 use Rattle.world_moves.specs.Cancels.{waiting_for, with_answers, due_answers}
 use Rattle.world_moves.specs.Cancelling.{Cancelling, HasCoreAt, IsCancellationOf, IsEntryOf, is_under_way, waiter_of}
@@ -43,6 +43,7 @@ use Rattle.world_moves.specs.Ties.{Ties, IsGood}
 use Rattle.world_moves.proofs.AnswersCome.{NameOneTask, waiting_after, answers_tied, answers_noted}
 use Rattle.world_moves.proofs.BansCome.{ack_here, ack_taken, ack_new, ack_banned}
 use Rattle.world_moves.proofs.ByPlace.{pairs_left, all_left}
+use Rattle.world_moves.proofs.CancelFrame.{entry_frame}
 use Rattle.world_moves.proofs.CoresAfter.{marked_in, core_on, its_entry, cores_after}
 use Rattle.world_moves.proofs.DueActs.{due_answered, due_sent, due_left}
 use Rattle.world_moves.proofs.FlightAfter.{all_stay}
@@ -135,35 +136,10 @@ module _ (h : List Event) (p : TaskId) (n : ℕ) where
   pub acked_known : (c : Cancellation) → IsCancellationOf (waiting_for p h) p h c → IsCancellationOf (waiting_for p (Acked p n ∷ h)) p (Acked p n ∷ h) (with_ack c n)
   acked_known c known = (known.0, known.1, ap (filter (λ m. not (m == n))) known.2 ∙ awaited_now (banned_nodes p h), known.3, known.4)
 
-  -- what a core knows of another task's cancellation, by who has acknowledged
-  abbrev EntryBy : List ℕ → TaskId → (ℕ → Bool) → Option Cancellation → Type 0
-  EntryBy waiting u acked None = ((is_some (mark_of u h) && not (has_ended u h && (is_some (mark_of u h) && list_all acked (banned_nodes u h)))) ≡ false) × (waiting ≡ [])
-  EntryBy waiting u acked (Some c) =
-      ((is_some (mark_of u h) && not (has_ended u h && (is_some (mark_of u h) && list_all acked (banned_nodes u h)))) ≡ true)
-      × ((mark_of u h ≡ Some c.cancel) × (c.banned ≡ banned_nodes u h) × (c.awaited ≡ filter (λ m. not (acked m)) (banned_nodes u h)) × (c.waiters ≡ map (waiter_of h) waiting) × (is_some c.receipt ≡ has_ended u h))
-
   others_stay : (u : TaskId) → same_task p u ≡ false → (o : Option Cancellation) → IsEntryOf (waiting_for u h) u h o → IsEntryOf (waiting_for u (Acked p n ∷ h)) u (Acked p n ∷ h) o
-  others_stay u differs o has = by_entry o (subst (λ (acked : ℕ → Bool). EntryBy (waiting_for u h) u acked o) tests (as_before o has))
-    where
-      same : (m : ℕ) → is_acked m u (Acked p n ∷ h) ≡ is_acked m u h
-      same m = grind (arith, same_tests)
-
-      before : ℕ → Bool
-      before m = is_acked m u h
-
-      now : ℕ → Bool
-      now m = is_acked m u (Acked p n ∷ h)
-
-      tests : before ≡ now
-      tests = λ i m. sym (same m) i
-
-      as_before : (o : Option Cancellation) → IsEntryOf (waiting_for u h) u h o → EntryBy (waiting_for u h) u (λ m. is_acked m u h) o
-      as_before None e = e
-      as_before (Some c) e = e
-
-      by_entry : (o : Option Cancellation) → EntryBy (waiting_for u h) u (λ m. is_acked m u (Acked p n ∷ h)) o → IsEntryOf (waiting_for u (Acked p n ∷ h)) u (Acked p n ∷ h) o
-      by_entry None e = e
-      by_entry (Some c) e = e
+  others_stay u differs o has =
+      let turned : same_task u p ≡ false = grind (arith, same_tests) in
+      entry_frame (waiting_for u h) u h (Acked p n) o turned refl has
 
   pub noted_ack : (cluster : Cluster) (tables : List Table) (roots : ℕ → Option TaskId) (bans : List (FinMap task_id_cmp ℕ)) (cores : List Cancellations) (listings : BTreeSet Listing)
       → Cancelling cluster (λ t. waiting_for t h) h tables roots bans cores listings → p.node ≤ cluster.nodes

@@ -19,7 +19,7 @@ use Rattle.task_events.specs.Messages.{in_flight}
 use Rattle.task_events.specs.Cancels.{is_named, is_answered_placed, is_answered_done}
 use Rattle.task_events.specs.Lawful.{AwaitsNoMark, Lawful}
 use Rattle.script_lang.specs.declared.command.Script.{Script}
-use Rattle.world_moves.specs.declared.running.Running.{Running}
+use Rattle.node_parts.specs.declared.running.Running.{Running}
 use Rattle.world_moves.specs.declared.flight.Sent.{Sent}
 use Rattle.world_moves.specs.declared.listing.Listing.{Listing}
 use Rattle.world_moves.specs.Cancels.{named_by, is_answered, waiting_for, waits_for_end, is_due, with_answers}

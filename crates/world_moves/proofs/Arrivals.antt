@@ -22,7 +22,7 @@ use Rattle.task_laws.proofs.Reach.{reach_facts}
 use Rattle.script_lang.specs.declared.command.Script.{Script}
 use Rattle.world_moves.specs.declared.flight.Sent.{Sent}
 use Rattle.world_moves.specs.declared.flight.Sent.TheVariants as sent
-use Rattle.world_moves.specs.declared.running.Running.{Running}
+use Rattle.node_parts.specs.declared.running.Running.{Running}
 use Rattle.world_moves.specs.Flights.{event_at, message_of, request_in}
 use Rattle.world_moves.specs.Ties.{Ties}
 use Rattle.world_moves.proofs.ByPlace.{pair_at, all_here}

@@ -24,8 +24,15 @@ use Rattle.task_events.specs.declared.event.Event.TheVariants.{Ask}
 use Rattle.task_events.specs.Same.{same_task, same_pair}
 use Rattle.task_events.specs.Tasks.{is_live, is_new, child_of}
 use Rattle.task_events.specs.Asks.{last_ask, request_of_ask, rejection_of, answer_of}
-use Rattle.task_events.specs.Steps.{node_for, asked_by, turns_of, request_of}
-use Rattle.task_events.specs.Searches.{top_of, tops_in, winners_among, has_winner, won_tops, fetch_of, fetches_of, has_queried, requests_of, ask_or_end, work_or_end}
+use Rattle.task_events.specs.Steps.{asked_by, turns_of, request_of}
+use Rattle.task_events.specs.Kinds.{kind_of, node_for}
+use Rattle.task_ids.specs.Placing.{node_of}
+use Rattle.std.specs.Option.{option_map_or}
+use Rattle.world_moves.proofs.AllKinds.{kind_laws}
+use Rattle.world_moves.proofs.KindLaws.{KindLaws, Asks}
+use Rattle.task_events.specs.Searches.{top_of, tops_in, winners_among, has_winner, won_tops, fetch_of, fetches_of, has_queried, requests_of}
+use Rattle.task_events.specs.Looking.{work_or_end}
+use Rattle.task_events.specs.SearchTask.{ask_or_end}
 use Rattle.task_events.specs.Messages.{Message, in_flight}
 use Rattle.task_events.specs.Messages.Message.{Request as a_request, Answer as an_answer, Ban as a_ban}
 use Rattle.task_events.specs.Laws.{IsTold}
@@ -45,12 +52,14 @@ use Rattle.task_work.specs.Works.{IsWorkOn, next_of, can_ask, work_with_ask}
 use Rattle.script_lang.specs.declared.command.Script.{Script}
 use Rattle.world_moves.specs.declared.flight.Sent.{Sent}
 use Rattle.world_moves.specs.declared.flight.Sent.TheVariants as sent
-use Rattle.world_moves.specs.declared.running.Running.{Running}
-use Rattle.world_moves.specs.Asking.{PlansToAsk, next_number, running_with_ask}
+use Rattle.node_parts.specs.declared.running.Running.{Running}
+use Rattle.node_parts.specs.Running.{PlansToAsk, next_number, running_with_ask}
 use Rattle.world_moves.specs.Facts.{facts_of, awaited_by, requested_by}
 use Rattle.world_moves.specs.Flights.{message_of}
 use Rattle.world_moves.specs.Roots.{root_request}
-use Rattle.world_moves.specs.Ties.{Ties, Runs, SearchesFor, WorksFor, IsGood, IsGoodReply, written}
+use Rattle.world_moves.specs.Ties.{Ties, Runs, WorksFor, IsGood}
+use Rattle.world_moves.specs.SearchRuns.{SearchesFor}
+use Rattle.world_moves.specs.Good.{IsGoodReply, written}
 use Rattle.world_moves.proofs.FactsAfter.{at_ask}
 use Rattle.world_moves.proofs.FlightAfter.{all_stay, event_newest}
 use Rattle.world_moves.proofs.Kept.{kept_after}
@@ -59,133 +68,14 @@ use Rattle.world_moves.proofs.ByPlace.{all_push}
 use Rattle.world_moves.proofs.Requested.{length-grown, awaited_counted}
 use Rattle.world_moves.proofs.StepsAfter.{kept_running}
 
--- ---- what a search asks for
-
-take-grown : {X : Type 0} (n : ℕ) (xs : List X) (x : X) → slice_get xs n ≡ Some x → take (suc n) xs ≡ take n xs ++ x ∷ []
-take-grown n [] x e = absurd (cc)
-take-grown zero (y ∷ ys) x e = let same : y ≡ x = cc in rw same refl
-take-grown (suc n) (y ∷ ys) x e = ap (λ l. y ∷ l) (take-grown n ys x e)
-
--- numbers from b on
-numbered-grown : (b : ℕ) (asked : List Asked) (a : Asked) → map (λ a. a.ask) asked ≡ range_with_len b (length asked) → a.ask ≡ b + length asked
-    → map (λ a. a.ask) (asked ++ a ∷ []) ≡ range_with_len b (length (asked ++ a ∷ []))
-numbered-grown b [] a e n = let m : a.ask ≡ b = omega arith in ap (λ k. k ∷ []) m
-numbered-grown b (c ∷ asked) a e n =
-    let here : c.ask ≡ b = cc in
-    let later = numbered-grown (b + 1) asked a (cc) (omega arith) in
-    cc
-
-above : (b n : ℕ) (asked : List Asked) → map (λ a. a.ask) asked ≡ range_with_len b (length asked) → b + length asked ≤ n → list_all (λ a. nat_lt a.ask n) asked ≡ true
-above b n [] e l = refl
-above b n (c ∷ asked) e l =
-    let here : c.ask ≡ b = cc in
-    let low : nat_lt c.ask n ≡ true = grind (arith, nat_tests) in
-    rw low (above (b + 1) n asked (cc) (omega arith))
-
-asks_what : (o : Option Request) (answered : Bool) (reply : Reply) (request : Request) → ask_or_end o answered reply ≡ AskNext request → o ≡ Some request
-asks_what (Some r) answered reply request e = cc
-asks_what None true reply request e = absurd (cc)
-asks_what None false reply request e = absurd (cc)
-
-no_ask : (b : Bool) (reply : Reply) (request : Request) → work_or_end b reply ≡ AskNext request → ⊥
-no_ask true reply request e = cc
-no_ask false reply request e = cc
-
--- the work is a search that asks for this
-record AsksFor (cluster : Cluster) (corpus : Corpus) (t : TaskId) (asked : List Asked) (requests : List Request) (awaited : List (Option ℕ)) (o : Option Request) (w : Work) (request : Request) (ask : SearchAsk) (s : Searching) : Type 0 where
-  is_asked : o ≡ Some (Search ask)
-  is_search : w ≡ works.Search s
-  searches : SearchesFor cluster corpus t ask asked requests awaited s
-  plans : next_step s ≡ AskNext request
-
-module _ (cluster : Cluster) (corpus : Corpus) (t : TaskId) (asked : List Asked) (requests : List Request) (awaited : List (Option ℕ)) (turns : ℕ) (request : Request) where
-  asks_for : (o : Option Request) (w : Work) → WorksFor cluster corpus t asked requests awaited turns o w → ((writes : List Doc) → IsWorkOn w writes → next_of w writes ≡ AskNext request)
-      → (ask : SearchAsk) × (s : Searching) × AsksFor cluster corpus t asked requests awaited o w request ask s
-  asks_for (Some (Search ask)) (works.Search s) x plan = (ask, s, record { is_asked = refl; is_search = refl; searches = x; plans = plan [] tt })
-  asks_for (Some (Query ask)) (works.Query q top) x plan = absurd (no_ask _ _ request (plan (written cluster corpus ask.index ask.shard) x.on))
-  asks_for (Some (Fetch ask)) (works.Fetch f hits) x plan = absurd (no_ask _ _ request (plan (written cluster corpus ask.index ask.shard) x.on))
-  asks_for _ _ x plan = absurd x
-
-  as_many_asked : (ask : SearchAsk) (s : Searching) → SearchesFor cluster corpus t ask asked requests awaited s → length awaited ≡ length asked
-  as_many_asked ask s x =
-      let e : length (map (λ a. is_some a.answer) asked) ≡ length (map (λ o. not (is_some o)) awaited) = ap length x.answered in
-      omega (arith, length-map asked (λ a. is_some a.answer), length-map awaited (λ o. not (is_some o)))
-
-  request_next : (ask : SearchAsk) (s : Searching) → SearchesFor cluster corpus t ask asked requests awaited s → next_step s ≡ AskNext request → slice_get (requests_of ask cluster.shards asked) (length asked) ≡ Some request
-  request_next ask s x plans = subst (λ z. slice_get (requests_of z.ask z.shards z.asked) (length z.asked) ≡ Some request) x.state_is (asks_what _ _ _ request plans)
-
-  searches_on : (ask : SearchAsk) (s : Searching) (k n : ℕ) → SearchesFor cluster corpus t ask asked requests awaited s → next_step s ≡ AskNext request → k ≡ length awaited + 1
-      → SearchesFor cluster corpus t ask (asked ++ record { ask = k; answer = None } ∷ []) (requests ++ request ∷ []) (awaited ++ Some n ∷ []) (searching.with_ask s k)
-  searches_on ask s k n x plans number =
-      let a : Asked = record { ask = k; answer = None } in
-      let as_many : length awaited ≡ length asked = as_many_asked ask s x in
-      let longer : length (asked ++ a ∷ []) ≡ suc (length asked) = omega (arith, length-grown asked a) in
-      record {
-        state_is = ap (λ z. searching.with_ask z k) x.state_is;
-        numbered = numbered-grown 1 asked a x.numbered (omega arith);
-        planned =
-            ap (λ l. l ++ request ∷ []) x.planned
-            ∙ sym (take-grown (length asked) (requests_of ask cluster.shards asked) request (request_next ask s x plans))
-            ∙ ap (λ l. take (suc (length asked)) l) (sym (requests_of-ask ask cluster.shards asked k))
-            ∙ ap (λ m. take m (requests_of ask cluster.shards (asked ++ a ∷ []))) (sym longer);
-        as_many = let e = x.as_many in omega (arith, length-grown requests request);
-        answered =
-            map-append (λ a. is_some a.answer) asked (a ∷ [])
-            ∙ ap (λ l. l ++ false ∷ []) x.answered
-            ∙ sym (map-append (λ o. not (is_some o)) awaited (Some n ∷ []));
-        good = EachAnswer-ask (IsGoodReply cluster corpus) s k x.good;
-      }
-
-  works_after : (o : Option Request) (w : Work) (ask : SearchAsk) (s : Searching) (k m n : ℕ) → AsksFor cluster corpus t asked requests awaited o w request ask s → k ≡ length awaited + 1 → m ≡ k
-      → WorksFor cluster corpus t (asked ++ record { ask = k; answer = None } ∷ []) (requests ++ request ∷ []) (awaited ++ Some n ∷ []) turns o (work_with_ask w m)
-  works_after o w ask s k m n x number same = rw (x.is_asked, x.is_search, same) (searches_on ask s k n x.searches x.plans number)
-
-  may_ask : (w : Work) (o : Option Request) (ask : SearchAsk) (s : Searching) → AsksFor cluster corpus t asked requests awaited o w request ask s → can_ask w (length awaited + 1) ≡ true
-  may_ask w o ask s x =
-      let as_many : length awaited ≡ length asked = as_many_asked ask s x.searches in
-      let wants : wants_to_ask (next_step s) ≡ true = ap wants_to_ask x.plans in
-      let high : is_above (length awaited + 1) s.asked ≡ true = subst (λ z. is_above (length awaited + 1) z.asked ≡ true) (sym x.searches.state_is) (above 1 (length awaited + 1) asked x.searches.numbered (omega arith)) in
-      rw x.is_search (rw (wants, high) refl)
-
--- ---- how many
-
-filtered : {X : Type 0} (p : X → Bool) (xs : List X) → length (filter p xs) ≤ length xs
-filtered p [] = omega arith
-filtered p (x ∷ xs) = one_more (p x) x (filter p xs) (length xs) (filtered p xs)
-  where
-    one_more : {X : Type 0} (b : Bool) (x : X) (ys : List X) (n : ℕ) → length ys ≤ n → length (cond b (x ∷ ys) ys) ≤ suc n
-    one_more true x ys n l = omega arith
-    one_more false x ys n l = omega arith
-
-mapped : {X Y : Type 0} (f : X → Option Y) (xs : List X) → length (filter_map f xs) ≤ length xs
-mapped f [] = omega arith
-mapped f (x ∷ xs) = one_more (f x) (filter_map f xs) (length xs) (mapped f xs)
-  where
-    one_more : {Y : Type 0} (o : Option Y) (ys : List Y) (n : ℕ) → length ys ≤ n → length (cons_option o ys) ≤ suc n
-    one_more None ys n l = omega arith
-    one_more (Some y) ys n l = omega arith
-
--- a search asks each shard at most twice
-requests_few : (ask : SearchAsk) (shards : ℕ) (asked : List Asked) → length (requests_of ask shards asked) ≤ shards + shards
-requests_few ask shards asked = by_case (has_queried shards asked) refl
-  where
-    by_case : (b : Bool) → has_queried shards asked ≡ b → length (requests_of ask shards asked) ≤ shards + shards
-    by_case false e = let n = length-requests_before ask shards asked e in omega arith
-    by_case true e =
-        let n = length-requests_after ask shards asked e in
-        let tops = tops_in shards asked in
-        let fetches : length (fetches_of ask tops) ≡ length (won_tops ask.body tops) = length-map (won_tops ask.body tops) (fetch_of ask (winners_among ask.body tops)) in
-        let won : length (won_tops ask.body tops) ≤ length tops = filtered (has_winner (winners_among ask.body tops)) tops in
-        let answered : length tops ≤ length (take shards asked) = mapped (λ a. option_and_then top_of a.answer) (take shards asked) in
-        let first : length (take shards asked) ≤ shards = omega (arith, length-take shards asked) in
-        omega arith
-
 -- ---- the node of an ask
 
 node_within : (cluster : Cluster) (t : TaskId) (request : Request) → t.node ≤ cluster.nodes → (1 ≤ node_for cluster t request) × (node_for cluster t request ≤ cluster.nodes)
-node_within cluster t (Search ask) l = (t.node_in_range.0, l)
-node_within cluster t (Query ask) l = let some : 0 < cluster.nodes = cluster.nodes_in_range.0 in (omega arith, omega arith)
-node_within cluster t (Fetch ask) l = let some : 0 < cluster.nodes = cluster.nodes_in_range.0 in (omega arith, omega arith)
+node_within cluster t request l = on_shard (kind_of request).shard
+  where
+    on_shard : (o : Option ℕ) → (1 ≤ option_map_or (λ shard. node_of shard cluster.nodes) o t.node) × (option_map_or (λ shard. node_of shard cluster.nodes) o t.node ≤ cluster.nodes)
+    on_shard None = (t.node_in_range.0, l)
+    on_shard (Some shard) = let some : 0 < cluster.nodes = cluster.nodes_in_range.0 in (omega arith, omega arith)
 
 -- ---- answers in flight
 
@@ -225,8 +115,11 @@ module _ (cluster : Cluster) (corpus : Corpus) (script : Script) (h : List Event
     runs : Runs cluster corpus t (facts_of (root_request script) t h) r
     runs = kept_running cluster corpus script h tasks tables flight ties t live r here
 
-    search : (ask : SearchAsk) × (s : Searching) × AsksFor cluster corpus t (asked_by t h) (requested_by t h) (awaited_by t h) (request_of (root_request script) t h) r.work request ask s
-    search = asks_for cluster corpus t (asked_by t h) (requested_by t h) (awaited_by t h) (turns_of t h) request (request_of (root_request script) t h) r.work runs.works planned
+    laws : KindLaws cluster corpus t (asked_by t h) (requested_by t h) (awaited_by t h) (turns_of t h) (request_of (root_request script) t h) r.work
+    laws = kind_laws cluster corpus t (asked_by t h) (requested_by t h) (awaited_by t h) (turns_of t h) (request_of (root_request script) t h) r.work runs.works
+
+    asks_it : Asks cluster corpus t (asked_by t h) (requested_by t h) (awaited_by t h) (turns_of t h) (request_of (root_request script) t h) r.work request
+    asks_it = laws.asks request planned
 
     track_asks : length r.track.asks ≡ length (awaited_by t h)
     track_asks = ap (λ z. length z.asks) runs.track
@@ -235,15 +128,7 @@ module _ (cluster : Cluster) (corpus : Corpus) (script : Script) (h : List Event
     number_is = ap (λ m. m + 1) (track_asks ∙ awaited_counted cluster t h ties.lawful)
 
     pub few_asks : next_number r < 4294967296
-    few_asks =
-        let x = search.2 in
-        let as_many = as_many_asked cluster corpus t (asked_by t h) (requested_by t h) (awaited_by t h) (turns_of t h) request search.0 search.1 x.searches in
-        let next = request_next cluster corpus t (asked_by t h) (requested_by t h) (awaited_by t h) (turns_of t h) request search.0 search.1 x.searches x.plans in
-        let below : length (asked_by t h) < length (requests_of search.0 cluster.shards (asked_by t h)) = slice_get_within (requests_of search.0 cluster.shards (asked_by t h)) (length (asked_by t h)) request next in
-        let few = requests_few search.0 cluster.shards (asked_by t h) in
-        let shards : cluster.shards ≤ 15 = cluster.shards_in_range.1 in
-        let same = track_asks in
-        omega arith
+    few_asks = let few = asks_it.few in let same = track_asks in omega arith
 
     pub track_open : mark_of t h ≡ None → r.track.closed ≡ None
     track_open unmarked = ap (λ z. z.closed) runs.track ∙ unmarked
@@ -252,14 +137,14 @@ module _ (cluster : Cluster) (corpus : Corpus) (script : Script) (h : List Event
     track_of = ap (λ z. z.task) runs.track
 
     pub can_now : can_ask r.work (next_number r) ≡ true
-    can_now =
-        ap (λ m. can_ask r.work (m + 1)) track_asks
-        ∙ may_ask cluster corpus t (asked_by t h) (requested_by t h) (awaited_by t h) (turns_of t h) request r.work (request_of (root_request script) t h) search.0 search.1 search.2
+    can_now = ap (λ m. can_ask r.work (m + 1)) track_asks ∙ asks_it.may
 
     works_on : (n : ℕ) → WorksFor cluster corpus t (asked_by t h ++ record { ask = last_ask t h + 1; answer = None } ∷ []) (requested_by t h ++ request ∷ []) (awaited_by t h ++ Some n ∷ []) (turns_of t h) (request_of (root_request script) t h) (work_with_ask r.work (next_number r))
     works_on n =
-        let counted : last_ask t h + 1 ≡ length (awaited_by t h) + 1 = ap (λ m. m + 1) (sym (awaited_counted cluster t h ties.lawful)) in
-        works_after cluster corpus t (asked_by t h) (requested_by t h) (awaited_by t h) (turns_of t h) request (request_of (root_request script) t h) r.work search.0 search.1 (last_ask t h + 1) (next_number r) n search.2 counted number_is
+        let counted : length (awaited_by t h) + 1 ≡ last_ask t h + 1 = ap (λ m. m + 1) (awaited_counted cluster t h ties.lawful) in
+        let number : length (awaited_by t h) + 1 ≡ next_number r = ap (λ m. m + 1) (sym track_asks) in
+        subst (λ k. WorksFor cluster corpus t (asked_by t h ++ record { ask = k; answer = None } ∷ []) (requested_by t h ++ request ∷ []) (awaited_by t h ++ Some n ∷ []) (turns_of t h) (request_of (root_request script) t h) (work_with_ask r.work (next_number r))) counted
+        (subst (λ k. WorksFor cluster corpus t (asked_by t h ++ record { ask = length (awaited_by t h) + 1; answer = None } ∷ []) (requested_by t h ++ request ∷ []) (awaited_by t h ++ Some n ∷ []) (turns_of t h) (request_of (root_request script) t h) (work_with_ask r.work k)) number (asks_it.after n))
 
     pub after_ask : (after : TaskId → Option Running) (n : ℕ) (token : Token) → AwaitsNoMark h → mark_of t h ≡ None → is_new t h ≡ false → n ≡ node_for cluster t request → token ≡ record { parent = t; ask = last_ask t h + 1 }
         → after t ≡ Some (running_with_ask r n) → ((q : TaskId) → same_task t q ≡ false → after q ≡ tasks q)

@@ -22,11 +22,11 @@ use Rattle.task_events.specs.Lawful.{AwaitsNoMark}
 use Rattle.task_events.specs.Messages.{in_flight}
 use Rattle.task_laws.proofs.Same.{same_tests}
 use Rattle.script_lang.specs.declared.command.Script.{Script}
-use Rattle.world_moves.specs.declared.flight.Notice.TheVariants as notices
+use Rattle.node_parts.specs.declared.notice.Notice.TheVariants as notices
 use Rattle.world_moves.specs.declared.flight.Sent.{Sent}
 use Rattle.world_moves.specs.declared.flight.Sent.TheVariants as sent
 use Rattle.world_moves.specs.declared.listing.Listing.{Listing}
-use Rattle.world_moves.specs.declared.running.Running.{Running}
+use Rattle.node_parts.specs.declared.running.Running.{Running}
 use Rattle.world_moves.specs.Cancels.{waiting_for}
 use Rattle.world_moves.specs.Cancelling.{Cancelling, HasBansAt}
 use Rattle.world_moves.specs.Flights.{message_of}

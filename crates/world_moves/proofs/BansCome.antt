@@ -25,11 +25,11 @@ use Rattle.task_laws.proofs.Once.{once_each}
 use Rattle.task_laws.proofs.Places.{at_place}
 use Rattle.task_laws.proofs.Same.{same_pair_refl, same_tests}
 use Rattle.script_lang.specs.declared.command.Script.{Script}
-use Rattle.world_moves.specs.declared.flight.Notice.{Notice}
-use Rattle.world_moves.specs.declared.flight.Notice.TheVariants as notices
+use Rattle.node_parts.specs.declared.notice.Notice.{Notice}
+use Rattle.node_parts.specs.declared.notice.Notice.TheVariants as notices
 use Rattle.world_moves.specs.declared.flight.Sent.{Sent}
 use Rattle.world_moves.specs.declared.flight.Sent.TheVariants as sent
-use Rattle.world_moves.specs.declared.running.Running.{Running}
+use Rattle.node_parts.specs.declared.running.Running.{Running}
 use Rattle.world_moves.specs.Flights.{message_of, message_of_notice}
 use Rattle.world_moves.specs.Ties.{Ties, IsGood}
 use Rattle.world_moves.proofs.ByPlace.{pair_at, all_here}

@@ -27,23 +27,19 @@ use Rattle.task_laws.proofs.Asks.{ask_facts}
 use Rattle.task_laws.proofs.Pending.{is_pending}
 use Rattle.script_lang.specs.declared.command.Script.{Script}
 use Rattle.world_moves.specs.declared.flight.Sent.{Sent}
-use Rattle.world_moves.specs.declared.running.Running.{Running}
+use Rattle.node_parts.specs.declared.running.Running.{Running}
 use Rattle.world_moves.specs.Facts.{awaited_by, none_awaited}
 use Rattle.world_moves.specs.Flights.{message_of, told_parent}
 use Rattle.world_moves.specs.Moves.{IsPartOf, MayLeave}
 use Rattle.world_moves.specs.Plain.{AnswersPlainly, EndsPlainly}
 use Rattle.world_moves.specs.Roots.{root_request}
-use Rattle.world_moves.specs.Ties.{Ties, IsGoodReply}
+use Rattle.world_moves.specs.Ties.{Ties}
+use Rattle.world_moves.specs.Good.{IsGoodReply}
+use Rattle.world_moves.proofs.AllKinds.{good_cancelled}
 use Rattle.world_moves.proofs.Answered.{none_from}
 use Rattle.world_moves.proofs.LeftNotes.{Leaves, mark_stays}
 use Rattle.world_moves.proofs.Leaving.{IsLeave, ends, refuses, nothing_open, after_leave, no_unbans}
 use Rattle.world_moves.proofs.Requested.{awaited_at}
-
--- a cancelled reply is an answer that each request can have
-good_cancelled : (cluster : Cluster) (corpus : Corpus) (t : TaskId) (c : ℕ) (r : Request) → IsGoodReply cluster corpus r (Cancelled t c no_counts)
-good_cancelled cluster corpus t c (asks.Search ask) = (refl, tt, tt)
-good_cancelled cluster corpus t c (asks.Query ask) = (refl, tt, tt)
-good_cancelled cluster corpus t c (asks.Fetch ask) = (refl, tt, tt)
 
 -- no ask is awaited where none is unanswered
 none_to_await : (cluster : Cluster) (t : TaskId) (h : List Event) → Lawful cluster h → ((k : ℕ) → is_unanswered t (k + 1) h ≡ false) → none_awaited (awaited_by t h) ≡ true

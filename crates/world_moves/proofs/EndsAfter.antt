@@ -25,16 +25,18 @@ use Rattle.task_events.specs.Tasks.{is_live, is_new, parent_of, ask_of}
 use Rattle.task_laws.proofs.Asks.{ask_facts, child_unanswered, parent_live}
 use Rattle.script_lang.specs.declared.command.Script.{Script}
 use Rattle.world_moves.specs.declared.flight.Sent.{Sent}
-use Rattle.world_moves.specs.declared.running.Running.{Running}
+use Rattle.node_parts.specs.declared.running.Running.{Running}
 use Rattle.corpus_shards.specs.Stored.{AreFew}
 use Rattle.world_moves.specs.Facts.{awaited_by, requested_by, none_awaited}
 use Rattle.world_moves.specs.Flights.{told_parent}
 use Rattle.world_moves.specs.Plain.{EndsPlainly}
 use Rattle.world_moves.specs.Roots.{root_request}
-use Rattle.world_moves.specs.Ties.{Ties, WorksFor, IsGood, DoesNext, looked_at}
+use Rattle.world_moves.specs.Ties.{Ties, WorksFor, IsGood, looked_at}
+use Rattle.node_parts.specs.Running.{DoesNext}
 use Rattle.world_moves.proofs.Answered.{none_unanswered}
 use Rattle.world_moves.proofs.Children.{child_request}
-use Rattle.world_moves.proofs.EndsGood.{IsPart, ends_plainly, none_left, ends_well, asks_parts}
+use Rattle.world_moves.proofs.AllKinds.{kind_laws}
+use Rattle.world_moves.proofs.KindLaws.{KindLaws, IsPart, IsGoodEnd}
 use Rattle.world_moves.proofs.Leaving.{ends, runs, after_leave, no_unbans}
 use Rattle.world_moves.proofs.PlainEnds.{replies_plainly}
 use Rattle.world_moves.proofs.Requested.{awaited_at, requested_at}
@@ -46,8 +48,11 @@ module _ (cluster : Cluster) (corpus : Corpus) (script : Script) (h : List Event
   step : next_of r.work (looked_at (record { corpus = corpus; shards = cluster.shards }) r.work) ≡ Finish reply
   step = next _ (is_on cluster corpus t _ _ _ _ _ r.work (runs cluster corpus script h tasks tables flight ties t live r here).works)
 
+  laws : KindLaws cluster corpus t (asked_by t h) (requested_by t h) (awaited_by t h) (turns_of t h) (request_of (root_request script) t h) r.work
+  laws = kind_laws cluster corpus t _ _ _ _ _ r.work (runs cluster corpus script h tasks tables flight ties t live r here).works
+
   pub all_come : none_awaited (awaited_by t h) ≡ true
-  all_come = none_left cluster corpus few t _ _ _ _ _ r.work _ reply (runs cluster corpus script h tasks tables flight ties t live r here).works step
+  all_come = laws.none_left _ reply step
 
   -- the request of a task that another has asked for is that of the ask, and is no search
   child_part : (p : TaskId) (q : Request) → parent_of t h ≡ Some p → request_of_ask p (ask_of t h) h ≡ Some q → IsPart q
@@ -61,7 +66,7 @@ module _ (cluster : Cluster) (corpus : Corpus) (script : Script) (h : List Event
       of_parent (Some running) f k u a =
           let its = kept_running cluster corpus script h tasks tables flight ties p (parent_live t p h (ask_facts cluster h ties.lawful) e live) running f in
           let awaits = sym (awaited_at cluster p k h ties.lawful) ∙ u in
-          asks_parts cluster corpus few p _ _ _ _ _ running.work k q its.works (sym (requested_at cluster p k h ties.lawful) ∙ a)
+          (kind_laws cluster corpus p _ _ _ _ _ running.work its.works).asks_parts k q (sym (requested_at cluster p k h ties.lawful) ∙ a)
           (λ none. let empty = rw none at awaits in cc)
 
       at_number : (k : ℕ) → ask_of t h ≡ k → IsPart q
@@ -71,12 +76,11 @@ module _ (cluster : Cluster) (corpus : Corpus) (script : Script) (h : List Event
   answer_good : (p : TaskId) → parent_of t h ≡ Some p → IsGood cluster corpus h (Answer p (ask_of t h) reply)
   answer_good p e = λ q asked.
       let request : request_of (root_request script) t h ≡ Some q = child_request cluster (root_request script) t p h ties.lawful e ∙ asked in
-      ends_well cluster corpus few t _ _ _ _ q r.work reply (child_part p q e asked)
-      (subst (λ o. WorksFor cluster corpus t (asked_by t h) (requested_by t h) (awaited_by t h) (turns_of t h) o r.work) request (runs cluster corpus script h tasks tables flight ties t live r here).works) step
+      subst (λ o. IsGoodEnd cluster corpus o reply) request (laws.ends_well few reply step) (child_part p q e asked)
 
   allowed : EndAllowed t reply h
   allowed =
-      let untouched = ends_plainly r.work (looked_at (record { corpus = corpus; shards = cluster.shards }) r.work) reply step in
+      let untouched = laws.plain (looked_at (record { corpus = corpus; shards = cluster.shards }) r.work) reply step in
       record {
         goes_on = record { live = live; passed = passed };
         answered = none_unanswered cluster t h ties.lawful all_come;

@@ -14,7 +14,7 @@ use Rattle.task_events.specs.declared.request.Request.{Request}
 use Rattle.task_events.specs.declared.event.Event.{Event}
 use Rattle.task_events.specs.Same.{same_task}
 use Rattle.task_laws.proofs.Same.{same_task_tells, same_tests}
-use Rattle.world_moves.specs.declared.running.Running.{Running}
+use Rattle.node_parts.specs.declared.running.Running.{Running}
 use Rattle.world_moves.specs.Facts.{facts_of, about, is_about}
 use Rattle.world_moves.specs.Ties.{IsKept}
 use Rattle.world_moves.proofs.FactsAfter.{frame}

@@ -24,7 +24,7 @@ use Rattle.task_laws.proofs.Reach.{reach_facts}
 use Rattle.task_laws.proofs.Same.{same_tests}
 use Rattle.script_lang.specs.declared.command.Script.{Script}
 use Rattle.world_moves.specs.declared.flight.Sent.{Sent}
-use Rattle.world_moves.specs.declared.running.Running.{Running}
+use Rattle.node_parts.specs.declared.running.Running.{Running}
 use Rattle.world_moves.specs.Facts.{facts_of, awaited_by, none_awaited, about}
 use Rattle.world_moves.specs.Flights.{message_of, told_parent, reply_in}
 use Rattle.world_moves.specs.Plain.{AnswersPlainly}

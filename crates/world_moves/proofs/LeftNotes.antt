@@ -26,6 +26,8 @@ use Rattle.world_moves.specs.Cancels.{waiting_for, is_due, answer_to, with_answe
 use Rattle.world_moves.specs.Cancelling.{Cancelling, IsRowOf, HasRows, HasCoreAt, IsEntryOf, IsCancellationOf}
 use Rattle.world_moves.proofs.AnswersCome.{waiting_after, NameOneTask}
 use Rattle.world_moves.proofs.AtPlace.{at_node, set_at}
+use Rattle.world_moves.proofs.CancelFrame.{entry_frame}
+use Rattle.world_moves.proofs.CoresAfter.{cores_after}
 use Rattle.world_moves.proofs.DueActs.{due_left}
 use Rattle.world_moves.proofs.Kept.{is_at_task}
 use Rattle.world_moves.proofs.Leaving.{itself}
@@ -44,11 +46,6 @@ module _ (t : TaskId) (h : List Event) where
   ended_now (Refuse u c) l = rw l (rw (itself t) refl)
   ended_now (End u r) l = rw l (rw (itself t) refl)
   ended_now _ l = absurd l
-
-  ended_else : (e : Event) → Leaves t e → (w : TaskId) → same_task t w ≡ false → has_ended w (e ∷ h) ≡ has_ended w h
-  ended_else (Refuse u c) l w differs = rw (turned_off u w l differs) refl
-  ended_else (End u r) l w differs = rw (turned_off u w l differs) refl
-  ended_else _ l w differs = absurd l
 
   row_stays : (e : Event) → Leaves t e → (row : TaskInfo) → IsRowOf h row → IsRowOf (e ∷ h) row
   row_stays (Refuse u c) l row i = i
@@ -71,17 +68,11 @@ module _ (t : TaskId) (h : List Event) where
   one_task_left (End u r) l one = one
   one_task_left _ l one = absurd l
 
-  -- whether a cancellation is under way, by whether its task has ended
-  abbrev under_way : TaskId → Bool → Bool
-  under_way w ended = is_some (mark_of w h) && not (ended && bans_are_placed w h)
-
   -- the entry of another task
-  entry_stays : (e : Event) → Leaves t e → (waiting : List ℕ) (w : TaskId) (o : Option Cancellation) → has_ended w (e ∷ h) ≡ has_ended w h → IsEntryOf waiting w h o → IsEntryOf waiting w (e ∷ h) o
-  entry_stays (Refuse u c) l waiting w None same i = (ap (under_way w) same ∙ i.0, i.1)
-  entry_stays (Refuse u c) l waiting w (Some x) same i = (ap (under_way w) same ∙ i.0, (i.1.0, i.1.1, i.1.2, i.1.3, i.1.4 ∙ sym same))
-  entry_stays (End u r) l waiting w None same i = (ap (under_way w) same ∙ i.0, i.1)
-  entry_stays (End u r) l waiting w (Some x) same i = (ap (under_way w) same ∙ i.0, (i.1.0, i.1.1, i.1.2, i.1.3, i.1.4 ∙ sym same))
-  entry_stays _ l waiting w o same i = absurd l
+  entry_stays : (e : Event) → Leaves t e → (waiting : List ℕ) (w : TaskId) (o : Option Cancellation) → same_task t w ≡ false → IsEntryOf waiting w h o → IsEntryOf waiting w (e ∷ h) o
+  entry_stays (Refuse u c) l waiting w o differs i = entry_frame waiting w h (Refuse u c) o (turned_off u w l differs) refl i
+  entry_stays (End u r) l waiting w o differs i = entry_frame waiting w h (End u r) o (turned_off u w l differs) refl i
+  entry_stays _ l waiting w o differs i = absurd l
 
   -- that of an unmarked task, which has none
   entry_unmarked : (e : Event) → Leaves t e → mark_of t h ≡ None → (waiting : List ℕ) (o : Option Cancellation) → IsEntryOf waiting t h o → IsEntryOf waiting t (e ∷ h) o
@@ -129,7 +120,7 @@ module _ (t : TaskId) (h : List Event) where
       by_task : (w : TaskId) → IsEntryOf (waiting_for w h) w h (get core.entries w) → ((same_task t w ≡ true) × (t ≡ w)) ⊎ ((same_task t w ≡ false) × (t ≢ w)) → IsEntryOf (waiting_for w h) w (e ∷ h) (get core.entries w)
       by_task w entry (inl (is_one, same)) =
           subst (λ u. IsEntryOf (waiting_for u h) u h (get core.entries u) → IsEntryOf (waiting_for u h) u (e ∷ h) (get core.entries u)) same (entry_unmarked e l none (waiting_for t h) (get core.entries t)) entry
-      by_task w entry (inr (differs, apart)) = entry_stays e l (waiting_for w h) w (get core.entries w) (ended_else e l w differs) entry
+      by_task w entry (inr (differs, apart)) = entry_stays e l (waiting_for w h) w (get core.entries w) differs entry
 
   pub noted_unmarked : (e : Event) → Leaves t e → mark_of t h ≡ None → (cluster : Cluster) (tables : List Table) (roots : ℕ → Option TaskId) (bans : List (FinMap task_id_cmp ℕ)) (cores : List Cancellations) (listings : BTreeSet Listing) (table : Table)
       → slice_get tables (t.node - 1) ≡ Some table → Cancelling cluster (λ u. waiting_for u h) h tables roots bans cores listings
@@ -158,45 +149,17 @@ module _ (t : TaskId) (h : List Event) where
 
   -- ---- where a cancellation of it is under way
 
-  is_equal_id : (w : TaskId) → eq_by_cmp task_id_cmp w t ≡ same_task t w
-  is_equal_id w = is_at_task w t ∙ grind (arith, same_tests)
-
-  get_changed : (entries : FinMap task_id_cmp Cancellation) (o : Option Cancellation) (w : TaskId) → get (changed entries t o) w ≡ cond (same_task t w) o (get entries w)
-  get_changed entries None w = get-remove ids_total entries t w ∙ ap (λ b. cond b None (get entries w)) (is_equal_id w)
-  get_changed entries (Some x) w = get-insert ids_total entries t x w ∙ ap (λ b. cond b (Some x) (get entries w)) (is_equal_id w)
-
   -- the entry of another task, once those that are due have been answered
   entry_else : (e : Event) → Leaves t e → (w : TaskId) (o : Option Cancellation) → same_task t w ≡ false → IsEntryOf (waiting_for w h) w h o → IsEntryOf (waiting_after t (e ∷ h) w) w (e ∷ h) o
-  entry_else e l w o differs entry = rw differs (rw (waiting_stays e l w) (entry_stays e l (waiting_for w h) w o (ended_else e l w differs) entry))
+  entry_else e l w o differs entry = rw differs (rw (waiting_stays e l w) (entry_stays e l (waiting_for w h) w o differs entry))
 
-  other_cores : (e : Event) → Leaves t e → (cluster : Cluster) (place : ℕ) → place ≢ t.node - 1 → (o : Option Cancellations) → HasCoreAt cluster (λ u. waiting_for u h) place h o → HasCoreAt cluster (waiting_after t (e ∷ h)) place (e ∷ h) o
-  other_cores e l cluster place apart None i = i
-  other_cores e l cluster place apart (Some core) i = λ w there. entry_else e l w (get core.entries w) (elsewhere w there) (i w there)
-    where
-      elsewhere : (w : TaskId) → w.node ≡ place + 1 → same_task t w ≡ false
-      elsewhere w there =
-          let other : t.node ≢ w.node = λ same. apart (omega arith) in
-          grind (arith, same_tests, other)
-
-  own_core : (e : Event) → Leaves t e → (cluster : Cluster) (place : ℕ) (core : Cancellations) (x : Cancellation) (receipt : ReceiptParts) → IsCancellationOf (waiting_for t h) t h x
-      → HasCoreAt cluster (λ u. waiting_for u h) place h (Some core) → HasCoreAt cluster (waiting_after t (e ∷ h)) place (e ∷ h) (Some (with_entry core t (rest_of (with_receipt x receipt))))
-  own_core e l cluster place core x receipt known i = λ w there. rw (get_changed core.entries rest w) (by_task w (i w there) (same_task_tells t w))
-    where
-      rest : Option Cancellation
-      rest = rest_of (with_receipt x receipt)
-
-      this : IsEntryOf (waiting_after t (e ∷ h) t) t (e ∷ h) rest
-      this = rw (itself t) (due_left t (e ∷ h) (with_receipt x receipt) (known_ended e l x receipt known))
-
-      by_task : (w : TaskId) → IsEntryOf (waiting_for w h) w h (get core.entries w) → ((same_task t w ≡ true) × (t ≡ w)) ⊎ ((same_task t w ≡ false) × (t ≢ w)) → IsEntryOf (waiting_after t (e ∷ h) w) w (e ∷ h) (cond (same_task t w) rest (get core.entries w))
-      by_task w entry (inl (is_one, same)) = subst (λ b. IsEntryOf (waiting_after t (e ∷ h) w) w (e ∷ h) (cond b rest (get core.entries w))) (sym is_one) (subst (λ u. IsEntryOf (waiting_after t (e ∷ h) u) u (e ∷ h) rest) same this)
-      by_task w entry (inr (differs, apart)) = subst (λ b. IsEntryOf (waiting_after t (e ∷ h) w) w (e ∷ h) (cond b rest (get core.entries w))) (sym differs) (entry_else e l w (get core.entries w) differs entry)
+  -- that of the task itself then
+  own_entry : (e : Event) → Leaves t e → (x : Cancellation) (receipt : ReceiptParts) → IsCancellationOf (waiting_for t h) t h x → IsEntryOf (waiting_after t (e ∷ h) t) t (e ∷ h) (rest_of (with_receipt x receipt))
+  own_entry e l x receipt known = rw (itself t) (due_left t (e ∷ h) (with_receipt x receipt) (known_ended e l x receipt known))
 
   pub noted_ended : (e : Event) → Leaves t e → (cluster : Cluster) (tables : List Table) (roots : ℕ → Option TaskId) (bans : List (FinMap task_id_cmp ℕ)) (cores : List Cancellations) (listings : BTreeSet Listing) (table : Table) (core : Cancellations) (x : Cancellation) (receipt : ReceiptParts)
-      → slice_get tables (t.node - 1) ≡ Some table → slice_get cores (t.node - 1) ≡ Some core → IsCancellationOf (waiting_for t h) t h x → Cancelling cluster (λ u. waiting_for u h) h tables roots bans cores listings
+      → slice_get tables (t.node - 1) ≡ Some table → slice_get cores (t.node - 1) ≡ Some core → IsCancellationOf (waiting_for t h) t h x → t.node ≤ cluster.nodes → Cancelling cluster (λ u. waiting_for u h) h tables roots bans cores listings
       → Cancelling cluster (waiting_after t (e ∷ h)) (e ∷ h) (slice_set tables (t.node - 1) (without_task table t.number)) roots bans (slice_set cores (t.node - 1) (with_entry core t (rest_of (with_receipt x receipt)))) listings
-  noted_ended e l cluster tables roots bans cores listings table core x receipt its_table its_core known c =
+  noted_ended e l cluster tables roots bans cores listings table core x receipt its_table its_core known high c =
       left_noted e l cluster _ _ tables _ roots bans cores _ listings c (rows_left e l tables table its_table c.rows_are)
-      (set_at (λ place o. HasCoreAt cluster (λ u. waiting_for u h) place h o) (λ place o. HasCoreAt cluster (waiting_after t (e ∷ h)) place (e ∷ h) o) cores (t.node - 1) core _ its_core c.cores_are
-      (own_core e l cluster (t.node - 1) core x receipt known (subst (λ o. HasCoreAt cluster (λ u. waiting_for u h) (t.node - 1) h o) its_core (c.cores_are (t.node - 1))))
-      (λ place apart i. other_cores e l cluster place apart (slice_get cores place) i))
+      (cores_after cluster (λ u. waiting_for u h) h cores c.cores_are t high core its_core (waiting_after t (e ∷ h)) (e ∷ h) (rest_of (with_receipt x receipt)) (own_entry e l x receipt known) (λ w differs o entry. entry_else e l w o differs entry))

@@ -20,11 +20,11 @@ use Rattle.task_events.specs.Allowed.{HasAllMarked}
 use Rattle.task_events.specs.Messages.{in_flight}
 use Rattle.task_events.specs.Messages.Message.{Ack}
 use Rattle.task_events.specs.Lawful.{AwaitsNoMark}
-use Rattle.world_moves.specs.declared.flight.Notice.TheVariants as notices
+use Rattle.node_parts.specs.declared.notice.Notice.TheVariants as notices
 use Rattle.world_moves.specs.declared.flight.Sent.{Sent}
 use Rattle.world_moves.specs.declared.flight.Sent.TheVariants as sent
 use Rattle.world_moves.specs.declared.listing.Listing.{Listing}
-use Rattle.world_moves.specs.declared.running.Running.{Running}
+use Rattle.node_parts.specs.declared.running.Running.{Running}
 use Rattle.world_moves.specs.Cancels.{waiting_for}
 use Rattle.world_moves.specs.Cancelling.{Cancelling, HasRows, HasBansAt, HasCoreAt}
 use Rattle.world_moves.specs.Listings.{listing_cmp}

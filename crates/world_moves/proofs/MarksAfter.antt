@@ -39,10 +39,11 @@ use Rattle.task_events.specs.Lawful.{Lawful}
 use Rattle.task_laws.proofs.Asks.{ask_facts}
 use Rattle.task_laws.proofs.Bans.{ban_facts}
 use Rattle.task_laws.proofs.Numbers.{number}
+use Rattle.task_laws.proofs.Reach.{reach_facts}
 use Rattle.task_laws.proofs.Same.{same_fields, same_task_tells, same_tests}
 use Rattle.world_moves.specs.declared.flight.Sent.{Sent}
 use Rattle.world_moves.specs.declared.listing.Listing.{Listing}
-use Rattle.world_moves.specs.declared.running.Running.{Running}
+use Rattle.node_parts.specs.declared.running.Running.{Running}
 use Rattle.world_moves.specs.Acts.{message_in, answer_in, messages_in, answers_in}
 use Rattle.world_moves.specs.Cancels.{waiting_for, waits_for_end, is_due, answer_to, due_answers, with_answers}
 use Rattle.world_moves.specs.Cancelling.{Cancelling, IsRowOf, HasRows, HasBansAt, HasCoreAt, IsEntryOf, IsCancellationOf, waiting_but, cancels_of}
@@ -53,6 +54,8 @@ use Rattle.world_moves.specs.Roots.{root_request}
 use Rattle.world_moves.specs.Ties.{Ties, Runs, IsTableAt, IsGood}
 use Rattle.world_moves.proofs.AnswersCome.{waiting_after}
 use Rattle.world_moves.proofs.AtPlace.{set_at}
+use Rattle.world_moves.proofs.CancelFrame.{entry_frame}
+use Rattle.world_moves.proofs.CoresAfter.{cores_after}
 use Rattle.world_moves.proofs.FactsAfter.{at_mark}
 use Rattle.world_moves.proofs.FlightAfter.{all_stay}
 use Rattle.world_moves.proofs.Kept.{kept_after, is_at_task}
@@ -182,44 +185,16 @@ module _ (cluster : Cluster) (t : TaskId) (c : ℕ) (h : List Event) (lawful : L
       under_way : (is_some (mark_of t (Mark t c ∷ h)) && not (has_ended t h && bans_are_placed t (Mark t c ∷ h))) ≡ true
       under_way = rw (itself, not_ended) refl
 
-  other_entry : (u : TaskId) → same_task u t ≡ false → (o : Option Cancellation) → IsEntryOf (waiting_but t h u) u h o → IsEntryOf (waiting_after t (Mark t c ∷ h) u) u (Mark t c ∷ h) o
-  other_entry u differs o i = of_entry o (subst (λ ws. IsEntryOf ws u h o) before i)
+  other_entry : (u : TaskId) → same_task t u ≡ false → (o : Option Cancellation) → IsEntryOf (waiting_but t h u) u h o → IsEntryOf (waiting_after t (Mark t c ∷ h) u) u (Mark t c ∷ h) o
+  other_entry u differs o i =
+      let turned : same_task u t ≡ false = grind (arith, same_tests) in
+      subst (λ ws. IsEntryOf ws u (Mark t c ∷ h) o) after (entry_frame (waiting_for u h) u h (Mark t c) o turned refl (subst (λ ws. IsEntryOf ws u h o) before i))
     where
-      turned : same_task t u ≡ false
-      turned = grind (arith, same_tests)
-
       before : waiting_but t h u ≡ waiting_for u h
-      before = ap (λ b. cond b [] (waiting_for u h)) turned
+      before = ap (λ b. cond b [] (waiting_for u h)) differs
 
       after : waiting_for u h ≡ waiting_after t (Mark t c ∷ h) u
-      after = sym (ap (λ b. cond b (filter (λ k. not (is_due t (Mark t c ∷ h) k)) (waiting_for t h)) (waiting_for u h)) turned)
-
-      of_entry : (o : Option Cancellation) → IsEntryOf (waiting_for u h) u h o → IsEntryOf (waiting_after t (Mark t c ∷ h) u) u (Mark t c ∷ h) o
-      of_entry None j = subst (λ ws. IsEntryOf ws u (Mark t c ∷ h) None) after (rw differs j)
-      of_entry (Some entry) j = subst (λ ws. IsEntryOf ws u (Mark t c ∷ h) (Some entry)) after (rw differs j)
-
-  -- the core of its node has an entry more, and the others are as they were
-  grown_core : (place : ℕ) (core : Cancellations) (waiter : Option Waiter) → waiting_for t h ≡ cancels_of waiter → IfSome waiter (λ w. (w.wait ≡ waits_for_end w.cancel h) × IsCancel w.cancel)
-      → HasCoreAt cluster (waiting_but t h) place h (Some core)
-      → HasCoreAt cluster (waiting_after t (Mark t c ∷ h)) place (Mark t c ∷ h) (Some (with_entry core t (Some (begun c (unanswered_nodes t h) waiter))))
-  grown_core place core waiter e k known u node =
-      subst (IsEntryOf (waiting_after t (Mark t c ∷ h) u) u (Mark t c ∷ h)) (sym (get-insert ids_total core.entries t entry u ∙ ap (λ b. cond b (Some entry) (get core.entries u)) (is_at_task u t)))
-      (by_case (same_task_tells u t))
-    where
-      entry : Cancellation
-      entry = begun c (unanswered_nodes t h) waiter
-
-      by_case : ((same_task u t ≡ true) × (u ≡ t)) ⊎ ((same_task u t ≡ false) × (u ≢ t)) → IsEntryOf (waiting_after t (Mark t c ∷ h) u) u (Mark t c ∷ h) (cond (same_task u t) (Some entry) (get core.entries u))
-      by_case (inl (is_one, same)) = rw is_one (subst (λ x. IsEntryOf (waiting_after t (Mark t c ∷ h) x) x (Mark t c ∷ h) (Some entry)) (sym same) (own_entry waiter e k))
-      by_case (inr (differs, apart)) = subst (λ b. IsEntryOf (waiting_after t (Mark t c ∷ h) u) u (Mark t c ∷ h) (cond b (Some entry) (get core.entries u))) (sym differs) (other_entry u differs (get core.entries u) (known u node))
-
-  other_core : (place : ℕ) → place ≢ t.node - 1 → (o : Option Cancellations) → HasCoreAt cluster (waiting_but t h) place h o → HasCoreAt cluster (waiting_after t (Mark t c ∷ h)) place (Mark t c ∷ h) o
-  other_core place apart None known = known
-  other_core place apart (Some core) known = λ u node. other_entry u (elsewhere u node (same_task_tells u t)) (get core.entries u) (known u node)
-    where
-      elsewhere : (u : TaskId) → u.node ≡ place + 1 → ((same_task u t ≡ true) × (u ≡ t)) ⊎ ((same_task u t ≡ false) × (u ≢ t)) → same_task u t ≡ false
-      elsewhere u node (inl (is_one, same)) = absurd (let its = ap (λ (x : TaskId). x.node) same in apart (omega arith))
-      elsewhere u node (inr (differs, other)) = differs
+      after = sym (ap (λ b. cond b (filter (λ k. not (is_due t (Mark t c ∷ h) k)) (waiting_for t h)) (waiting_for u h)) differs)
 
   -- ---- the rows tell the mark
 
@@ -323,8 +298,7 @@ module _ (cluster : Cluster) (t : TaskId) (c : ℕ) (h : List Event) (lawful : L
         (rows_marked (t.node - 1) table node_place (subst (Fits (t.node - 1)) its_table (listed (t.node - 1), known.rows_are (t.node - 1)))) (λ place apart fits. rows_elsewhere place (slice_get tables place) apart fits);
     roots_are = known.roots_are;
     bans_are = λ place. same_bans place (slice_get bans place) (known.bans_are place);
-    cores_are = set_at (λ place. HasCoreAt cluster (waiting_but t h) place h) (λ place. HasCoreAt cluster (waiting_after t (Mark t c ∷ h)) place (Mark t c ∷ h)) cores (t.node - 1) core _ its_core known.cores_are
-        (grown_core (t.node - 1) core waiter e k (subst (HasCoreAt cluster (waiting_but t h) (t.node - 1) h) its_core (known.cores_are (t.node - 1)))) (λ place apart had. other_core place apart (slice_get cores place) had);
+    cores_are = cores_after cluster (waiting_but t h) h cores known.cores_are t ((reach_facts cluster h lawful.1).live_in t lawful.0.live) core its_core (waiting_after t (Mark t c ∷ h)) (Mark t c ∷ h) (Some (begun c (unanswered_nodes t h) waiter)) (own_entry waiter e k) other_entry;
     listings_are = known.listings_are;
     one_task = known.one_task;
   }

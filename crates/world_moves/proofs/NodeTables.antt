@@ -18,6 +18,7 @@ use Rattle.world_moves.specs.declared.listing.Listing.{Listing}
 use Rattle.world_moves.specs.Cancels.{waiting_for, is_due, answer_to, with_answers}
 use Rattle.world_moves.specs.Cancelling.{Cancelling, HasCoreAt, IsEntryOf, waiting_but}
 use Rattle.world_moves.proofs.AtPlace.{at_node}
+use Rattle.world_moves.proofs.CancelFrame.{cores_kept}
 
 -- nobody waits for a task without a mark, and its core has no entry of it
 pub no_entry : (t : TaskId) (h : List Event) (waiting : List ℕ) (o : Option Cancellation) → mark_of t h ≡ None → IsEntryOf waiting t h o → (o ≡ None) × (waiting ≡ [])
@@ -55,7 +56,7 @@ left_out cluster t h tables roots bans cores listings unmarked high known = reco
   rows_are = known.rows_are;
   roots_are = known.roots_are;
   bans_are = known.bans_are;
-  cores_are = λ place. of_core place (slice_get cores place) (known.cores_are place);
+  cores_are = λ place. cores_kept cluster (λ u. waiting_for u h) (waiting_but t h) h h (λ u o i. subst (λ ws. IsEntryOf ws u h o) (same u) i) place (slice_get cores place) (known.cores_are place);
   listings_are = known.listings_are;
   one_task = known.one_task;
 }
@@ -69,10 +70,6 @@ left_out cluster t h tables roots bans cores listings unmarked high known = reco
         by_task : ((same_task t u ≡ true) × (t ≡ u)) ⊎ ((same_task t u ≡ false) × (t ≢ u)) → waiting_for u h ≡ waiting_but t h u
         by_task (inl (is_one, one)) = rw is_one (ap (λ x. waiting_for x h) (sym one) ∙ none)
         by_task (inr (differs, apart)) = rw differs refl
-
-    of_core : (place : ℕ) (o : Option Cancellations) → HasCoreAt cluster (λ u. waiting_for u h) place h o → HasCoreAt cluster (waiting_but t h) place h o
-    of_core place None i = i
-    of_core place (Some core) i = λ u node. subst (λ ws. IsEntryOf ws u h (get core.entries u)) (same u) (i u node)
 
 -- where nobody waits, nothing is answered after a mark
 pub no_answers_due : (t : TaskId) (c : ℕ) (h : List Event) → waiting_for t h ≡ [] → with_answers t (Mark t c ∷ h) ≡ Mark t c ∷ h

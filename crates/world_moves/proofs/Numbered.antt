@@ -12,7 +12,7 @@ use Rattle.task_events.specs.declared.request.Request.{Request}
 use Rattle.task_events.specs.declared.step.Asked.{Asked}
 use Rattle.task_events.specs.Searches.{requests_of}
 use Rattle.search_phase.specs.Searching.{IsSearching, AreRising}
-use Rattle.world_moves.specs.Ties.{SearchesFor}
+use Rattle.world_moves.specs.SearchRuns.{SearchesFor}
 
 later_numbers : (b n : ℕ) (asked : List Asked) → map (λ a. a.ask) asked ≡ range_with_len b (length asked) → n < b → list_all (λ a. nat_lt n a.ask) asked ≡ true
 later_numbers b n [] e l = refl

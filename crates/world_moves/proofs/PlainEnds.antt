@@ -25,10 +25,12 @@ use Rattle.task_work.specs.declared.work.Work.{Work}
 use Rattle.task_work.specs.declared.work.Work.TheVariants as works
 use Rattle.task_work.specs.Works.{next_of}
 use Rattle.world_moves.specs.Plain.{EndsPlainly, plain_end}
-use Rattle.world_moves.specs.Ties.{SearchesFor, WorksFor, writes_for}
+use Rattle.world_moves.specs.Ties.{WorksFor}
+use Rattle.world_moves.specs.SearchRuns.{SearchesFor}
+use Rattle.world_moves.specs.Good.{writes_for}
 use Rattle.world_moves.proofs.Answering.{newest_versions}
 use Rattle.world_moves.proofs.ByPlace.{all_here}
-use Rattle.world_moves.proofs.EndsGood.{search_ends}
+use Rattle.world_moves.proofs.SearchLaws.{search_ends}
 use Rattle.world_moves.proofs.Numbered.{is_searching}
 
 -- ---- a search asks the shards of its index

@@ -9,7 +9,7 @@ use Rattle.task_ids.specs.declared.doc.Doc.{Doc}
 use Rattle.task_ids.specs.Rows.{row_at}
 use Rattle.task_events.specs.declared.request.FetchAsk.{FetchAsk}
 use Rattle.task_events.specs.Answers.{hit_at, fetched}
-use Rattle.task_events.specs.Possible.{are_among, are_hits_for}
+use Rattle.task_events.specs.FetchTask.{are_among, are_hits_for}
 
 tail_among : (p : ℕ) (ps all : List ℕ) → are_among (p ∷ ps) all ≡ true → are_among ps all ≡ true
 tail_among p ps [] e = absurd (cc)

@@ -17,7 +17,7 @@ use Rattle.task_events.specs.declared.request.HitKey.{HitKey}
 use Rattle.task_events.specs.declared.request.ShardAsk.{ShardAsk}
 use Rattle.task_events.specs.HitOrder.{hit_cmp, placed, in_hit_order, is_after}
 use Rattle.task_events.specs.Answers.{hit_key, is_found, matching_keys, window, shard_top}
-use Rattle.task_events.specs.Possible.{ascend, is_top_for}
+use Rattle.task_events.specs.QueryTask.{ascend, is_top_for}
 use Rattle.search_phase.proofs.HitKeys.{hit_cmp_total, hit_cmp_equal}
 use Rattle.search_phase.proofs.Cut.{list_all-in_hit_order}
 

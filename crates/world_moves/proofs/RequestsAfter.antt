@@ -25,12 +25,14 @@ use Rattle.task_events.specs.Messages.{Message, in_flight}
 use Rattle.task_events.specs.Messages.Message.{Request, Answer}
 use Rattle.world_moves.specs.declared.flight.Sent.{Sent}
 use Rattle.world_moves.specs.declared.flight.Sent.TheVariants as sent
-use Rattle.world_moves.specs.declared.running.Running.{Running}
+use Rattle.node_parts.specs.declared.running.Running.{Running}
 use Rattle.world_moves.specs.Facts.{Facts, facts_of}
 use Rattle.world_moves.specs.Flights.{message_of, reply_in}
 use Rattle.world_moves.specs.Moves.{Delivers}
 use Rattle.world_moves.specs.Roots.{root_request}
-use Rattle.world_moves.specs.Ties.{Ties, IsGood, IsGoodReply}
+use Rattle.world_moves.specs.Ties.{Ties, IsGood}
+use Rattle.world_moves.specs.Good.{IsGoodReply}
+use Rattle.world_moves.proofs.AllKinds.{good_rejection}
 use Rattle.world_moves.proofs.Arrivals.{Arrives}
 use Rattle.world_moves.proofs.FactsAfter.{at_put}
 use Rattle.world_moves.proofs.FlightAfter.{all_stay, event_newest}
@@ -40,12 +42,6 @@ use Rattle.world_moves.proofs.ByPlace.{pairs_left, all_left, all_push}
 use Rattle.world_moves.proofs.Started.{started, first, runs_first}
 use Rattle.world_moves.proofs.Tables.{IsPutOn, put_node, put_takes, put_listed}
 use Rattle.world_moves.proofs.Unborn.{blank, unborn}
-
--- a rejection is an answer that each request can have
-good_rejection : (cluster : Cluster) (corpus : Corpus) (n : ℕ) (r : Asked) → IsGoodReply cluster corpus r (Rejected n)
-good_rejection cluster corpus n (asks.Search ask) = (refl, tt, tt)
-good_rejection cluster corpus n (asks.Query ask) = (refl, tt, tt)
-good_rejection cluster corpus n (asks.Fetch ask) = (refl, tt, tt)
 
 -- the answer to a request that is rejected by an event at this place
 abbrev pub rejected : Token → ℕ → Sent

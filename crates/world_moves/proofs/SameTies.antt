@@ -11,7 +11,7 @@ use Rattle.cancel_core.specs.Cancellations.{Cancellations}
 use Rattle.task_events.specs.declared.event.Event.{Event}
 use Rattle.script_lang.specs.declared.command.Script.{Script}
 use Rattle.world_moves.specs.declared.flight.Sent.{Sent}
-use Rattle.world_moves.specs.declared.running.Running.{Running}
+use Rattle.node_parts.specs.declared.running.Running.{Running}
 use Rattle.world_moves.specs.Ties.{Ties}
 use Rattle.world_moves.specs.Cancels.{waiting_for}
 use Rattle.world_moves.specs.Cancelling.{Cancelling}

@@ -7,11 +7,11 @@ use Rattle.task_ids.specs.declared.doc.Doc.{Doc}
 use Rattle.child_track.specs.Token.{Token, token_parent, token_ask}
 use Rattle.child_track.specs.Track.{new_track}
 use Rattle.task_events.specs.declared.request.Request.{Request}
-use Rattle.task_events.specs.declared.request.Request.TheVariants.{Search, Query, Fetch}
 use Rattle.task_work.specs.Works.{IsWorkOn, new_work}
-use Rattle.world_moves.specs.declared.running.Running.{Running}
+use Rattle.node_parts.specs.declared.running.Running.{Running}
 use Rattle.world_moves.specs.Facts.{Facts}
-use Rattle.world_moves.specs.Ties.{Runs, WorksFor}
+use Rattle.world_moves.specs.Ties.{Runs}
+use Rattle.world_moves.proofs.AllKinds.{works_first}
 use Rattle.world_moves.proofs.Unborn.{blank}
 
 -- what is so of a task that has just started
@@ -22,14 +22,9 @@ abbrev pub first : TaskId → Option Token → Bool → Request → ℕ → Runn
 first t token new request shards = record { ticket = record { id = t; token = token }; track = new_track t; work = new_work t request shards; is_new = new }
 
 module _ (cluster : Cluster) (corpus : Corpus) (t : TaskId) where
-  works : (request : Request) → ((writes : List Doc) → IsWorkOn (new_work t request cluster.shards) writes) → WorksFor cluster corpus t [] [] [] 0 (Some request) (new_work t request cluster.shards)
-  works (Search ask) on = record { state_is = refl; numbered = refl; planned = refl; as_many = refl; answered = refl; good = λ place a request reply at asks answered. absurd (cc) }
-  works (Query ask) on = record { ask_is = refl; turns_are = refl; asks_nothing = refl; version_is = refl; on = on _ }
-  works (Fetch ask) on = record { ask_is = refl; turns_are = refl; asks_nothing = refl; on = on _ }
-
   runs : (token : Option Token) (new : Bool) (request : Request) → ((writes : List Doc) → IsWorkOn (new_work t request cluster.shards) writes) → Runs cluster corpus t (started token new request) (first t token new request cluster.shards)
-  runs None new request on = record { live = refl; id = refl; token = refl; track = refl; new = refl; works = works request on }
-  runs (Some token) new request on = record { live = refl; id = refl; token = refl; track = refl; new = refl; works = works request on }
+  runs None new request on = record { live = refl; id = refl; token = refl; track = refl; new = refl; works = works_first cluster corpus t request on }
+  runs (Some token) new request on = record { live = refl; id = refl; token = refl; track = refl; new = refl; works = works_first cluster corpus t request on }
 
   pub runs_first : (token : Option Token) (new : Bool) (request : Request) (facts : Facts) (running : Running) → facts ≡ started token new request → running ≡ first t token new request cluster.shards → ((writes : List Doc) → IsWorkOn running.work writes)
       → Runs cluster corpus t facts running

@@ -1,21 +1,24 @@
 -- Events that no cancellation makes leave the tables of bans and cancellations as they should be.
-use Rattle.std.proofs.Common.{◌≡◌, ℕ, Bool, true, false, List, ◌∷◌, Option, Some, None, refl, sym, ◌∙◌}
+use Rattle.std.proofs.Common.{◌≡◌, ℕ, Bool, true, false, List, ◌∷◌, Option, Some, None, refl, sym, ap, ◌∙◌}
 use Rattle.std.specs.Prelude.{slice_get}
+use Rattle.std.specs.Option.{option_map_or}
 use Rattle.std.specs.BTreeSet.{BTreeSet}
-use Rattle.std.specs.FinMap.{FinMap, get}
+use Rattle.std.specs.FinMap.{FinMap}
 use Rattle.task_ids.specs.declared.task_id.TaskId.{TaskId}
 use Rattle.task_ids.specs.declared.cluster.Cluster.{Cluster}
 use Rattle.task_ids.specs.TaskIdOrder.{task_id_cmp}
 use Rattle.task_table.specs.Table.{Table}
-use Rattle.cancel_core.specs.Cancellation.{Cancellation}
 use Rattle.cancel_core.specs.Cancellations.{Cancellations}
 use Rattle.task_events.specs.declared.event.Event.{Event}
 use Rattle.task_events.specs.declared.event.Event.TheVariants.{Root, Put, Refuse, Cancel, Mark, BanPut, Listed, Acked, BanGone, End}
+use Rattle.task_events.specs.Same.{same_task}
 use Rattle.task_events.specs.Cancels.{is_named}
 use Rattle.world_moves.specs.declared.listing.Listing.{Listing}
 use Rattle.world_moves.specs.Cancels.{root_of}
 use Rattle.world_moves.specs.Listings.{is_open}
-use Rattle.world_moves.specs.Cancelling.{Cancelling, HasRows, HasBansAt, IsEntryOf, HasCoreAt}
+use Rattle.world_moves.specs.Cancelling.{Cancelling, HasRows, HasBansAt}
+use Rattle.world_moves.proofs.CancelFrame.{about_cancellation, cancel_in, entry_frame, cores_kept}
+use Rattle.world_moves.proofs.Naming.{is_in}
 
 -- the event marks or names a task, is of a ban, or ends a task
 abbrev pub cancels : Event → Bool
@@ -40,18 +43,14 @@ bans_stay cluster (BanGone n p) h a place o b = absurd (cc)
 bans_stay cluster _ h a place None b = b
 bans_stay cluster _ h a place (Some bans) b = b
 
-entry_stays : (e : Event) (h : List Event) → cancels e ≡ false → (waiting : List ℕ) (t : TaskId) (o : Option Cancellation) → IsEntryOf waiting t h o → IsEntryOf waiting t (e ∷ h) o
-entry_stays (Refuse u c) h a waiting t o i = absurd (cc)
-entry_stays (Cancel c u wait) h a waiting t o i = absurd (cc)
-entry_stays (Mark u c) h a waiting t o i = absurd (cc)
-entry_stays (Acked p n) h a waiting t o i = absurd (cc)
-entry_stays (End u r) h a waiting t o i = absurd (cc)
-entry_stays _ h a waiting t None i = i
-entry_stays _ h a waiting t (Some c) i = i
-
-cores_stay : (cluster : Cluster) (waiting : TaskId → List ℕ) (e : Event) (h : List Event) → cancels e ≡ false → (place : ℕ) (o : Option Cancellations) → HasCoreAt cluster waiting place h o → HasCoreAt cluster waiting place (e ∷ h) o
-cores_stay cluster waiting e h a place None i = i
-cores_stay cluster waiting e h a place (Some core) i = λ t there. entry_stays e h a (waiting t) t (get core.entries t) (i t there)
+-- it is about no task's cancellation, and of no cancel
+uninvolved : (e : Event) → cancels e ≡ false → (about_cancellation e ≡ None) × (cancel_in e ≡ None)
+uninvolved (Refuse u c) a = absurd (cc)
+uninvolved (Cancel c u wait) a = absurd (cc)
+uninvolved (Mark u c) a = absurd (cc)
+uninvolved (Acked p n) a = absurd (cc)
+uninvolved (End u r) a = absurd (cc)
+uninvolved _ a = (refl, refl)
 
 opens_nothing : (e : Event) (h : List Event) (l : Listing) → cancels e ≡ false → is_open l (e ∷ h) ≡ is_open l h
 opens_nothing (BanPut n p c) h l a = absurd (cc)
@@ -81,7 +80,8 @@ module _ (cluster : Cluster) (waiting : TaskId → List ℕ) (h : List Event) (t
     rows_are = rows;
     roots_are = starts_of;
     bans_are = λ place. bans_stay cluster e h a place _ (known.bans_are place);
-    cores_are = λ place. cores_stay cluster waiting e h a place _ (known.cores_are place);
+    cores_are = λ place. cores_kept cluster waiting waiting h (e ∷ h)
+        (λ u o. let none = uninvolved e a in entry_frame (waiting u) u h e o (ap (λ o. option_map_or (same_task u) o false) none.0) (ap (λ o. option_map_or (λ c. is_in c (waiting u)) o false) none.1)) place _ (known.cores_are place);
     listings_are = λ l. known.listings_are l ∙ sym (opens_nothing e h l a);
     one_task = λ c t u x y. known.one_task c t u (sym (names_nothing e h c t a) ∙ x) (sym (names_nothing e h c u a) ∙ y);
   }

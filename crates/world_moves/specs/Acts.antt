@@ -1,19 +1,16 @@
 -- What the acts of a node's core make happen.
-use Rattle.std.specs.Prelude.{ℕ, List, Option, Some, None, filter_map, reverse}
+use Rattle.std.specs.Prelude.{ℕ, List, Option, Some, None, filter_map, reverse, option_map}
 use Rattle.cancel_core.specs.declared.act.Act.{Act}
 use Rattle.cancel_core.specs.declared.act.Act.TheVariants as acts
 use Rattle.task_events.specs.declared.event.Event.{Event}
 use Rattle.task_events.specs.declared.event.Event.TheVariants.{AnswerPlaced, AnswerDone}
-use Rattle.world_moves.specs.declared.flight.Notice.TheVariants.{Ban, Ack, Unban}
+use Rattle.node_parts.specs.Notices.{notice_of}
 use Rattle.world_moves.specs.declared.flight.Sent.{Sent}
 use Rattle.world_moves.specs.declared.flight.Sent.TheVariants.{Notice}
 
 -- the message that an act of this node's core sends
 abbrev pub message_in : ℕ → Act → Option Sent
-message_in node (acts.SendBan to parent cancel) = Some (Notice (Ban parent cancel to))
-message_in node (acts.SendAck to parent) = Some (Notice (Ack parent node))
-message_in node (acts.SendUnban to parent) = Some (Notice (Unban parent to))
-message_in node _ = None
+message_in node act = option_map Notice (notice_of node act)
 
 -- the answer that it gives
 abbrev pub answer_in : Act → Option Event

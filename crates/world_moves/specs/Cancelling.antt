@@ -13,7 +13,7 @@ use Rattle.cancel_core.specs.Cancellations.{Cancellations}
 use Rattle.task_events.specs.declared.event.Event.{Event}
 use Rattle.task_events.specs.Same.{same_task}
 use Rattle.task_events.specs.Tasks.{has_ended, parent_of}
-use Rattle.task_events.specs.Bans.{mark_of, banned_nodes, is_acked, standing_ban, unbans_are_sent}
+use Rattle.task_events.specs.Bans.{mark_of, banned_nodes, is_acked, bans_are_placed, standing_ban, unbans_are_sent}
 use Rattle.task_events.specs.Cancels.{is_named}
 use Rattle.world_moves.specs.declared.listing.Listing.{Listing}
 use Rattle.world_moves.specs.Cancels.{root_of, waiting_for, waits_for_end}
@@ -40,19 +40,42 @@ is_under_way t h = is_some (mark_of t h) && not (unbans_are_sent t h)
 abbrev pub waiter_of : List Event → ℕ → Waiter
 waiter_of h c = record { cancel = c; wait = waits_for_end c h }
 
--- what a core knows of a cancellation, where these cancels wait for it
-abbrev pub IsCancellationOf : List ℕ → TaskId → List Event → Cancellation → Type 0
-IsCancellationOf waiting t h c =
-    (mark_of t h ≡ Some c.cancel)
-    × (c.banned ≡ banned_nodes t h)
-    × (c.awaited ≡ filter (λ n. not (is_acked n t h)) (banned_nodes t h))
-    × (c.waiters ≡ map (waiter_of h) waiting)
-    × (is_some c.receipt ≡ has_ended t h)
+-- What the past says of the cancellation of one task, for which these cancels wait.
+pub record CancelFacts : Type 0 where
+  pub mark : Option ℕ
+  pub banned : List ℕ
+  -- the banned nodes that have not acknowledged
+  pub awaited : List ℕ
+  pub placed : Bool
+  pub ended : Bool
+  pub waiting : List ℕ
+  pub waiters : List Waiter
 
--- a core knows the cancellations that are under way, and nobody waits for another
+abbrev pub cancel_facts : List ℕ → TaskId → List Event → CancelFacts
+cancel_facts waiting t h = record {
+  mark = mark_of t h;
+  banned = banned_nodes t h;
+  awaited = filter (λ n. not (is_acked n t h)) (banned_nodes t h);
+  placed = bans_are_placed t h;
+  ended = has_ended t h;
+  waiting = waiting;
+  waiters = map (waiter_of h) waiting;
+}
+
+-- a core knows of a cancellation what the past says
+abbrev pub KnowsFacts : CancelFacts → Cancellation → Type 0
+KnowsFacts facts c = (facts.mark ≡ Some c.cancel) × (c.banned ≡ facts.banned) × (c.awaited ≡ facts.awaited) × (c.waiters ≡ facts.waiters) × (is_some c.receipt ≡ facts.ended)
+
+-- it knows the cancellations that are under way, and nobody waits for another
+abbrev pub IsEntryBy : CancelFacts → Option Cancellation → Type 0
+IsEntryBy facts None = ((is_some facts.mark && not (facts.ended && facts.placed)) ≡ false) × (facts.waiting ≡ [])
+IsEntryBy facts (Some c) = ((is_some facts.mark && not (facts.ended && facts.placed)) ≡ true) × KnowsFacts facts c
+
+abbrev pub IsCancellationOf : List ℕ → TaskId → List Event → Cancellation → Type 0
+IsCancellationOf waiting t h c = KnowsFacts (cancel_facts waiting t h) c
+
 abbrev pub IsEntryOf : List ℕ → TaskId → List Event → Option Cancellation → Type 0
-IsEntryOf waiting t h None = (is_under_way t h ≡ false) × (waiting ≡ [])
-IsEntryOf waiting t h (Some c) = (is_under_way t h ≡ true) × IsCancellationOf waiting t h c
+IsEntryOf waiting t h o = IsEntryBy (cancel_facts waiting t h) o
 
 -- there is a core for each node of the cluster, from the first on
 abbrev pub HasCoreAt : Cluster → (TaskId → List ℕ) → ℕ → List Event → Option Cancellations → Type 0

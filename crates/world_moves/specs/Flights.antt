@@ -10,8 +10,8 @@ use Rattle.task_events.specs.declared.event.Event.TheVariants.{Ask, Reject, Refu
 use Rattle.task_events.specs.Tasks.{no_counts}
 use Rattle.task_events.specs.Messages.{Message}
 use Rattle.task_events.specs.Messages.Message.{Request, Answer, Ban, Ack, Unban}
-use Rattle.world_moves.specs.declared.flight.Notice.{Notice}
-use Rattle.world_moves.specs.declared.flight.Notice.TheVariants as notices
+use Rattle.node_parts.specs.declared.notice.Notice.{Notice}
+use Rattle.node_parts.specs.declared.notice.Notice.TheVariants as notices
 use Rattle.world_moves.specs.declared.flight.Sent.{Sent}
 use Rattle.world_moves.specs.declared.flight.Sent.TheVariants as sent
 

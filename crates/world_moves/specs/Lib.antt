@@ -1,11 +1,14 @@
 pub mod Acts
-pub mod Asking
 pub mod Cancelling
 pub mod Cancels
 pub mod Facts
+pub mod FetchRuns
 pub mod Flights
+pub mod Good
 pub mod Listings
 pub mod Moves
 pub mod Plain
+pub mod QueryRuns
 pub mod Roots
+pub mod SearchRuns
 pub mod Ties

@@ -10,99 +10,40 @@ use Rattle.task_ids.specs.TaskIdOrder.{task_id_cmp}
 use Rattle.task_ids.specs.declared.corpus.Corpus.{Corpus}
 use Rattle.task_ids.specs.declared.doc.Doc.{Doc}
 use Rattle.task_table.specs.Table.{Table}
-use Rattle.search_phase.specs.Queries.{QueryState, version_at}
-use Rattle.search_phase.specs.Fetches.{FetchState}
 use Rattle.task_work.specs.declared.work.Work.{Work}
-use Rattle.task_work.specs.declared.work.Work.TheVariants as works
-use Rattle.search_phase.specs.Searching.{Searching, EachAnswer, IsHonest, does_wait}
-use Rattle.task_work.specs.Works.{IsWorkOn, next_of}
-use Rattle.task_events.specs.declared.step.Do.{Do}
-use Rattle.child_track.specs.Track.{unanswered}
+use Rattle.task_work.specs.Works.{place_of}
 use Rattle.corpus_shards.specs.Stored.{Stored, AreFew}
 use Rattle.script_lang.specs.declared.command.Script.{Script}
 use Rattle.task_events.specs.declared.request.Request.{Request}
 use Rattle.task_events.specs.declared.request.Request.TheVariants.{Search, Query, Fetch}
-use Rattle.task_events.specs.declared.request.SearchAsk.{SearchAsk}
-use Rattle.task_events.specs.declared.request.ShardAsk.{ShardAsk}
-use Rattle.task_events.specs.declared.request.FetchAsk.{FetchAsk}
-use Rattle.task_events.specs.declared.reply.ShardTop.{ShardTop}
-use Rattle.task_events.specs.declared.reply.Reply.{Reply}
-use Rattle.task_events.specs.declared.reply.Reply.TheVariants.{Top}
-use Rattle.task_events.specs.declared.reply.Hit.{Hit}
 use Rattle.task_events.specs.Documents.{writes_of}
 use Rattle.task_events.specs.declared.step.Asked.{Asked}
 use Rattle.task_events.specs.declared.event.Event.{Event}
 use Rattle.task_events.specs.Tasks.{live_tasks, last_number}
 use Rattle.task_events.specs.Asks.{request_of_ask}
-use Rattle.task_events.specs.Possible.{can_have}
-use Rattle.task_events.specs.Searches.{requests_of}
 use Rattle.task_events.specs.Messages.{Message, in_flight}
 use Rattle.task_events.specs.Messages.Message.{Answer, Ban}
 use Rattle.task_events.specs.Lawful.{AwaitsNoMark, Lawful}
-use Rattle.world_moves.specs.declared.running.Running.{Running}
+use Rattle.node_parts.specs.declared.running.Running.{Running}
 use Rattle.world_moves.specs.declared.state.State.{State}
 use Rattle.world_moves.specs.Roots.{root_request}
 use Rattle.world_moves.specs.declared.flight.Sent.{Sent}
+use Rattle.world_moves.specs.FetchRuns.{RunsFetch}
+use Rattle.world_moves.specs.Good.{IsGoodReply}
+use Rattle.world_moves.specs.QueryRuns.{RunsQuery}
+use Rattle.world_moves.specs.SearchRuns.{RunsSearch}
 use Rattle.world_moves.specs.Facts.{Facts, facts_of, token_from, track_from}
 use Rattle.world_moves.specs.Flights.{message_of}
 use Rattle.world_moves.specs.Plain.{AnswersPlainly}
 use Rattle.world_moves.specs.Cancels.{waiting_for}
 use Rattle.world_moves.specs.Cancelling.{Cancelling}
 
--- the writes of a shard of an index
-abbrev pub written : Cluster → Corpus → List ℕ → ℕ → List Doc
-written cluster corpus index shard = writes_of corpus cluster.shards index shard
-
--- A query has come as far as the turns that its task has taken, and reads the version of its shard where it names none.
-pub record QueriesFor (ask : ShardAsk) (turns : ℕ) (awaited : List (Option ℕ)) (writes : List Doc) (q : QueryState) (top : Option ShardTop) : Type 0 where
-  pub ask_is : q.ask ≡ ask
-  pub turns_are : q.turns ≡ turns
-  pub asks_nothing : awaited ≡ []
-  pub version_is : version_at q writes ≡ unwrap_or ask.version (length writes)
-  pub on : IsWorkOn (works.Query q top) writes
-
-pub record FetchesFor (ask : FetchAsk) (turns : ℕ) (awaited : List (Option ℕ)) (writes : List Doc) (f : FetchState) (hits : Option (List Hit)) : Type 0 where
-  pub ask_is : f.ask ≡ ask
-  pub turns_are : f.turns ≡ turns
-  pub asks_nothing : awaited ≡ []
-  pub on : IsWorkOn (works.Fetch f hits) writes
-
--- the writes that a task's work looks at: those of the shard of its request
-abbrev pub own_writes : Cluster → Corpus → Option Request → List Doc
-own_writes cluster corpus (Some (Query ask)) = written cluster corpus ask.index ask.shard
-own_writes cluster corpus (Some (Fetch ask)) = written cluster corpus ask.index ask.shard
-own_writes cluster corpus _ = []
-
--- what a request reads: the writes of the shards of its index
-abbrev pub writes_for : Cluster → Corpus → Request → ℕ → List Doc
-writes_for cluster corpus (Search ask) shard = written cluster corpus ask.index shard
-writes_for cluster corpus (Query ask) shard = written cluster corpus ask.index shard
-writes_for cluster corpus (Fetch ask) shard = written cluster corpus ask.index shard
-
--- a query is answered at the version that it names, or else at the newest of its shard
-abbrev pub IsCurrent : Cluster → Corpus → Request → Reply → Type 0
-IsCurrent cluster corpus (Query ask) (Top top) = top.version ≡ unwrap_or ask.version (length (written cluster corpus ask.index ask.shard))
-IsCurrent cluster corpus r reply = ⊤
-
--- a reply that a request can have, and that says what its shard's writes say at the version that is due
-abbrev pub IsGoodReply : Cluster → Corpus → Request → Reply → Type 0
-IsGoodReply cluster corpus r reply = (can_have cluster.shards r reply ≡ true) × IsHonest (writes_for cluster corpus r) r reply × IsCurrent cluster corpus r reply
-
--- A search has made the first of its requests, and knows the answers that have come. Its asks are numbered from 1.
-pub record SearchesFor (cluster : Cluster) (corpus : Corpus) (t : TaskId) (ask : SearchAsk) (asked : List Asked) (requests : List Request) (awaited : List (Option ℕ)) (s : Searching) : Type 0 where
-  pub state_is : s ≡ record { task = t; ask = ask; shards = cluster.shards; asked = asked }
-  pub numbered : map (λ a. a.ask) asked ≡ range_with_len 1 (length asked)
-  pub planned : requests ≡ take (length asked) (requests_of ask cluster.shards asked)
-  pub as_many : length requests ≡ length asked
-  pub answered : map (λ a. is_some a.answer) asked ≡ map (λ o. not (is_some o)) awaited
-  pub good : EachAnswer (IsGoodReply cluster corpus) s
-
 -- the work of a task is as far as the past says, for what it was asked to do
 abbrev pub WorksFor : Cluster → Corpus → TaskId → List Asked → List Request → List (Option ℕ) → ℕ → Option Request → Work → Type 0
-WorksFor cluster corpus t asked requests awaited turns (Some (Search ask)) (works.Search s) = SearchesFor cluster corpus t ask asked requests awaited s
-WorksFor cluster corpus t asked requests awaited turns (Some (Query ask)) (works.Query q top) = QueriesFor ask turns awaited (written cluster corpus ask.index ask.shard) q top
-WorksFor cluster corpus t asked requests awaited turns (Some (Fetch ask)) (works.Fetch f hits) = FetchesFor ask turns awaited (written cluster corpus ask.index ask.shard) f hits
-WorksFor cluster corpus t asked requests awaited turns _ _ = ⊥
+WorksFor cluster corpus t asked requests awaited turns None work = ⊥
+WorksFor cluster corpus t asked requests awaited turns (Some (Search ask)) work = RunsSearch cluster corpus t asked requests awaited ask work
+WorksFor cluster corpus t asked requests awaited turns (Some (Query ask)) work = RunsQuery cluster corpus turns awaited ask work
+WorksFor cluster corpus t asked requests awaited turns (Some (Fetch ask)) work = RunsFetch cluster corpus turns awaited ask work
 
 -- what is kept of a live task is what the past says of it
 pub record Runs (cluster : Cluster) (corpus : Corpus) (t : TaskId) (facts : Facts) (running : Running) : Type 0 where
@@ -178,20 +119,13 @@ pub record HasShards (s : State) : Type 0 where
   pub shards_are : s.shards ≡ record { corpus = s.corpus.now; shards = s.cluster.shards }
   pub few : AreFew s.corpus.now.lines s.cluster.shards
 
--- The kept task's work does this next, over any shard that it may work on.
-abbrev pub DoesNext : Option Running → Do → Type 0
-DoesNext None step = ⊤
-DoesNext (Some running) step = (writes : List Doc) → IsWorkOn running.work writes → next_of running.work writes ≡ step
+-- the writes of the shard that a task works on, where it works on one
+abbrev pub writes_of_place : Stored → Option (List ℕ × ℕ) → List Doc
+writes_of_place stored None = []
+writes_of_place stored (Some place) = writes_of stored.corpus stored.shards place.0 place.1
 
--- the writes of the shard that a task works on; a search works on none
 abbrev pub looked_at : Stored → Work → List Doc
-looked_at stored (works.Search s) = []
-looked_at stored (works.Query q top) = writes_of stored.corpus stored.shards q.ask.index q.ask.shard
-looked_at stored (works.Fetch f hits) = writes_of stored.corpus stored.shards f.ask.index f.ask.shard
-
--- The kept task does not wait: it has not passed; or it is marked and its asks are answered; or its work goes on.
-abbrev pub goes_on : Running → List Doc → Bool
-goes_on running writes = running.is_new || (if is_some running.track.closed then unanswered running.track == 0 else not (does_wait (next_of running.work writes)))
+looked_at stored work = writes_of_place stored (place_of work)
 
 -- The past is lawful, and each search that has ended replied with the plain answer, unless it was cancelled.
 pub record KeepsLaws (s : State) : Type 0 where

@@ -1,10 +1,7 @@
 //! An answer comes to the task that asked.
 
 ghost use Rattle.std.specs.Prelude.{◌≡◌, ◌≤◌, true, length, remove, slice_get, Some, Err, IsSome, IfOk, IfErr, OnOk, OnErr, option_and_then};
-ghost use Rattle.child_track.specs.Track.{Answers};
 ghost use Rattle.task_events.specs.declared.history.TheConstants.{MAX_EVENTS};
-ghost use Rattle.task_work.specs.Works.{work_takes};
-ghost use Rattle.world_moves.specs.Asking.{running_with_answer};
 ghost use Rattle.world_moves.specs.declared.flight.Sent.TheVariants.{Answer};
 ghost use Rattle.world_moves.specs.Flights.{event_at, reply_in, is_answer_entry};
 ghost use Rattle.world_moves.specs.Moves.{Delivers, IsPartly, IsCutShort};
@@ -12,7 +9,6 @@ ghost use Rattle.world_moves.specs.Ties.{IsTied, Keeps};
 
 use crate::append::append;
 use crate::flight::Flight;
-use crate::running::Running;
 use crate::state::State;
 use child_track::Receipt;
 use task_events::{Event, History, Reply, Stop};
@@ -64,24 +60,6 @@ fn reply_at(history: &History, at: usize) -> Result<Reply, Stop>
     match history.get(at) {
         Some(event) => reply_sent(event),
         None => unreachable!(),
-    }
-}
-
-impl Running {
-    /// Takes the answer to an ask of this task that is unanswered.
-    fn take_reply(&mut self, receipt: Receipt, reply: Reply) -> Result<(), Stop>
-        requires own { Answers receipt self.old.track }
-        requires takes { work_takes self.old.work receipt.ask reply ≡ true }
-        ensures taken { OnOk result (self.new ≡ running_with_answer self.old receipt.ask reply) }
-        ensures memory { IfErr result (λ stop. stop ≡ Stop.Memory) }
-    {
-        if self.track.answer(receipt).is_err() {
-            unreachable!()
-        }
-        match self.work.feed(receipt.ask(), reply, 0) {
-            Ok(()) => Ok(()),
-            Err(_) => Err(Stop::Memory),
-        }
     }
 }
 

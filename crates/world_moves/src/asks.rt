@@ -1,58 +1,21 @@
 //! A live task asks for a child.
 
-ghost use Rattle.std.specs.Prelude.{◌≡◌, ◌∷◌, ◌+◌, ◌^◌, ◌<◌, ◌≤◌, true, false, length, Err, None, IfOk, IfErr, OnOk, OnErr};
-ghost use Rattle.task_ids.specs.Limits.{IsNode};
+ghost use Rattle.std.specs.Prelude.{◌≡◌, ◌∷◌, ◌+◌, ◌≤◌, true, false, length, Err, None, OnOk, OnErr};
 ghost use Rattle.task_events.specs.declared.history.TheConstants.{MAX_EVENTS};
 ghost use Rattle.task_events.specs.Asks.{last_ask};
-ghost use Rattle.task_events.specs.Steps.{node_for};
+ghost use Rattle.task_events.specs.Kinds.{node_for};
 ghost use Rattle.task_events.specs.Bans.{mark_of};
 ghost use Rattle.task_events.specs.Tasks.{is_live, is_new};
-ghost use Rattle.task_work.specs.Works.{can_ask};
-ghost use Rattle.world_moves.specs.Asking.{PlansToAsk, next_number, running_with_ask};
+ghost use Rattle.node_parts.specs.Running.{PlansToAsk};
 ghost use Rattle.world_moves.specs.Ties.{IsTied, Keeps, task_at};
 
 use crate::append::append;
 use crate::flight::Sent;
-use crate::running::Running;
 use crate::sending::send;
 use crate::state::State;
-use child_track::{AskError, AskToken};
-use shard_docs::node_of;
+use node_parts::kinds::node_for;
 use task_events::{Event, Request, Stop};
-use task_ids::{Cluster, TaskId};
-
-/// The node on which a request of the task is worked: that of its shard, or else the task's own.
-fn node_to_ask(task: TaskId, request: &Request, cluster: &Cluster) -> u32
-    ensures { result ≡ node_for cluster.now task request.now }
-{
-    match request {
-        Request::Search(_) => task.node,
-        Request::Query(ask) => node_of(ask.get().shard, cluster.nodes),
-        Request::Fetch(ask) => node_of(ask.get().shard, cluster.nodes),
-    }
-}
-
-impl Running {
-    /// Notes that the child which comes next was asked for, on this node, and gives the token that its request carries.
-    fn ask(&mut self, to: u32) -> Result<AskToken, Stop>
-        requires node { IsNode to }
-        requires few { length self.old.track.asks + 1 < 2 ^ 32 }
-        requires open { self.old.track.closed ≡ None }
-        requires can { can_ask self.old.work (next_number self.old) ≡ true }
-        ensures token { IfOk result (λ token. token ≡ record { parent = self.old.track.task; ask = next_number self.old }) }
-        ensures asked { OnOk result (self.new ≡ running_with_ask self.old to) }
-        ensures memory { IfErr result (λ stop. stop ≡ Stop.Memory) }
-    {
-        match self.track.ask(to) {
-            Ok(token) => {
-                self.work.asked(token.ask(), 0);
-                Ok(token)
-            }
-            Err(AskError::Closed { cancel: _ }) => unreachable!(),
-            Err(AskError::Memory) => Err(Stop::Memory),
-        }
-    }
-}
+use task_ids::TaskId;
 
 /// A task asks for what its plan says: the request goes on its way to the node of its shard.
 ///
@@ -73,7 +36,7 @@ pub fn ask(state: &mut State<'_>, task: TaskId, request: Request) -> Result<(), 
     ensures numbers { result ≡ Err Stop.NumbersSpent → ⊥ }
     ensures room { OnOk result (length state.new.history ≤ MAX_EVENTS) }
 {
-    let to = node_to_ask(task, &request, &state.cluster);
+    let to = node_for(task, &request, &state.cluster);
     let at = state.history.len();
     let Some(running) = state.tasks.get_mut(&task) else {
         unreachable!()

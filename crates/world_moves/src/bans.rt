@@ -2,17 +2,17 @@
 
 ghost use Rattle.std.specs.Prelude.{◌≡◌, ◌≤◌, length, slice_get, Err, Some, OnOk, OnErr, IfErr};
 ghost use Rattle.task_events.specs.declared.history.TheConstants.{MAX_EVENTS};
-ghost use Rattle.world_moves.specs.declared.flight.Notice.TheVariants as notices;
+ghost use Rattle.node_parts.specs.declared.notice.Notice.TheVariants as notices;
 ghost use Rattle.world_moves.specs.declared.flight.Sent.TheVariants as sent;
 ghost use Rattle.world_moves.specs.Moves.{Delivers, IsPartly, IsCutShort, StopsDelivery};
 ghost use Rattle.world_moves.specs.Ties.{IsTied, Keeps, KeepsLaws};
 
 use crate::append::append;
-use crate::flight::Notice;
 use crate::listing::Listing;
 use crate::performing::perform;
 use crate::state::State;
 use ban_table::BanPut;
+use node_parts::notice::Notice;
 use task_events::{Event, Stop};
 use task_ids::TaskId;
 

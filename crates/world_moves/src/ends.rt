@@ -12,15 +12,16 @@ ghost use Rattle.task_events.specs.declared.reply.Reply.TheVariants.{Cancelled};
 ghost use Rattle.world_moves.specs.Cancels.{with_answers, with_due};
 ghost use Rattle.world_moves.specs.Flights.{told_parent};
 ghost use Rattle.world_moves.specs.Moves.{IsPartOf, IsCutShort, MayLeave};
-ghost use Rattle.world_moves.specs.Ties.{IsTied, Keeps, HasShards, DoesNext, task_at, KeepsLaws};
+ghost use Rattle.world_moves.specs.Ties.{IsTied, Keeps, HasShards, task_at, KeepsLaws};
+ghost use Rattle.node_parts.specs.Running.{DoesNext};
 
 use crate::append::append;
 use crate::flight::{Flight, Sent};
 use crate::performing::perform;
-use crate::running::Running;
 use crate::sending::send;
 use crate::state::State;
 use child_track::Receipt;
+use node_parts::running::Running;
 use task_events::{Do, Event, Reply, Stop};
 use task_ids::TaskId;
 use task_table::TaskTable;

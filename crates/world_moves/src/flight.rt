@@ -4,32 +4,10 @@ ghost use Rattle.std.specs.Prelude.{◌≡◌, true, Some, ◌∷◌, [], ◌++�
 ghost use Rattle.world_moves.specs.Flights.{is_request_entry, is_answer_entry, notice_at};
 
 use child_track::{AskToken, Receipt};
+use node_parts::notice::Notice;
 use std::alloc::{AllocFailed, Global};
 use std::collections::VecDeque;
 use std::marker::Model;
-use task_ids::TaskId;
-
-/// A message about the bans of a marked task.
-#[derive(Clone, Copy, PartialEq, Eq)]
-pub enum Notice {
-    /// A node (`to`, from 1 to 15) is to refuse the new children of the task (`parent`), and to mark those that it has, with the
-    /// number of its cancel (`cancel`, from 1 to 65,535).
-    Ban {
-        parent: TaskId,
-        cancel: u32,
-        to: u32,
-    },
-    /// A node (`from`) has done so.
-    Ack {
-        parent: TaskId,
-        from: u32,
-    },
-    /// A node (`to`) is told that the task has ended.
-    Unban {
-        parent: TaskId,
-        to: u32,
-    },
-}
 
 /// A message that was sent. What a request or an answer says stands in the history, at the place of the event that sent
 /// it.

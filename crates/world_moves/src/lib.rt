@@ -14,7 +14,6 @@ pub mod listings;
 pub mod marks;
 pub mod performing;
 pub mod requests;
-pub mod running;
 mod sending;
 pub mod starting;
 pub mod state;

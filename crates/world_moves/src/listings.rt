@@ -10,12 +10,13 @@ ghost use Rattle.world_moves.specs.Moves.{IsPartly, StopsMove};
 ghost use Rattle.world_moves.specs.Ties.{IsTied, Keeps, KeepsLaws};
 
 use crate::append::append;
-use crate::flight::{Notice, Sent};
+use crate::flight::Sent;
 use crate::listing::Listing;
 use crate::marks::mark;
 use crate::sending::send;
 use crate::state::State;
 use cancel_core::Act;
+use node_parts::notice::Notice;
 use task_events::{Event, Stop};
 use task_ids::TaskId;
 

@@ -7,9 +7,10 @@ ghost use Rattle.world_moves.specs.Acts.{messages_in, answers_in};
 ghost use Rattle.world_moves.specs.Moves.{IsPartOf, IsCutShort};
 
 use crate::append::append;
-use crate::flight::{Flight, Notice, Sent};
+use crate::flight::{Flight, Sent};
 use crate::sending::send;
 use cancel_core::Act;
+use node_parts::notice::Notice;
 use task_events::{Event, History, Stop};
 
 /// Does one act of a node: a message is sent, or an answer is noted.
@@ -22,22 +23,18 @@ fn perform_one(flight: &mut Flight, history: &mut History, node: u32, act: &Act)
     ensures full { result ≡ Err Stop.HistoryFull → (length history.old ≡ MAX_EVENTS) × (e : Event) × (answers_in (act.now ∷ []) ≡ e ∷ []) }
     ensures numbers { result ≡ Err Stop.NumbersSpent → ⊥ }
 {
-    let notice = match *act {
-        Act::SendBan { to, parent, cancel } => Notice::Ban { parent, cancel, to },
-        Act::SendAck { to: _, parent } => Notice::Ack { parent, from: node },
-        Act::SendUnban { to, parent } => Notice::Unban { parent, to },
-        Act::AnswerPlaced { cancel, task: _ } => {
-            return append(history, Event::AnswerPlaced { cancel });
-        }
+    if let Some(notice) = Notice::of_act(act, node) {
+        return send(flight, Sent::Notice(notice));
+    }
+    match *act {
+        Act::AnswerPlaced { cancel, task: _ } => append(history, Event::AnswerPlaced { cancel }),
         Act::AnswerDone {
             cancel,
             task: _,
             receipt: _,
-        } => {
-            return append(history, Event::AnswerDone { cancel });
-        }
-    };
-    send(flight, Sent::Notice(notice))
+        } => append(history, Event::AnswerDone { cancel }),
+        Act::SendBan { .. } | Act::SendAck { .. } | Act::SendUnban { .. } => unreachable!(),
+    }
 }
 
 /// Does the acts of a node in their order: messages are sent, and answers are noted.

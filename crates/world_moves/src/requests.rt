@@ -9,9 +9,10 @@ ghost use Rattle.world_moves.specs.Ties.{IsTied, Keeps};
 use crate::append::append;
 use crate::flight::{Flight, Sent};
 use crate::sending::send;
-use crate::starting::{keep, new_task, put_on, spend, with_work};
+use crate::starting::{keep, put_on, spend};
 use crate::state::State;
 use child_track::AskToken;
+use node_parts::starting::{new_task, with_work};
 use task_events::{Event, History, Request, Stop};
 use task_table::PutError;
 

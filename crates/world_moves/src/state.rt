@@ -1,9 +1,9 @@
 use crate::flight::Flight;
 use crate::listing::Listing;
-use crate::running::Running;
 use ban_table::BanTable;
 use cancel_core::CancelCore;
 use corpus_shards::Shards;
+use node_parts::running::Running;
 use script_lang::Script;
 use std::alloc::Global;
 use std::collections::{BTreeMap, BTreeSet};

@@ -4,7 +4,8 @@ ghost use Rattle.std.specs.Prelude.{◌≡◌, ◌∷◌, ◌≤◌, true, false
 ghost use Rattle.task_events.specs.declared.history.TheConstants.{MAX_EVENTS};
 ghost use Rattle.task_events.specs.Bans.{mark_of};
 ghost use Rattle.task_events.specs.Tasks.{is_live, is_new};
-ghost use Rattle.world_moves.specs.Ties.{IsTied, Keeps, HasShards, DoesNext, task_at, looked_at};
+ghost use Rattle.world_moves.specs.Ties.{IsTied, Keeps, HasShards, task_at, looked_at};
+ghost use Rattle.node_parts.specs.Running.{DoesNext};
 
 use crate::append::append;
 use crate::state::State;
@@ -14,20 +15,13 @@ use task_events::{Do, Event, Stop};
 use task_ids::TaskId;
 use task_work::Work;
 
-/// The shard that the work looks at. For a search, which looks at none, it is empty.
+/// The shard that the work looks at. For work that looks at none it is empty.
 fn shard_of_work<'s>(shards: &'s Shards<'_>, work: &Work) -> &'s Shard
     ensures { result.now ≡ looked_at shards.now work.now }
 {
-    match work {
-        Work::Search(_) => shards.empty(),
-        Work::Query(query, _) => {
-            let ask = query.ask();
-            shards.get(ask.index.as_str(), ask.shard)
-        }
-        Work::Fetch(fetch, _) => {
-            let ask = fetch.ask();
-            shards.get(ask.index.as_str(), ask.shard)
-        }
+    match work.place() {
+        Some((index, shard)) => shards.get(index, shard),
+        None => shards.empty(),
     }
 }
 

@@ -12,7 +12,7 @@ use Rattle.task_ids.specs.declared.cluster.Cluster.{Cluster}
 use Rattle.task_ids.specs.declared.corpus.Corpus.{Corpus}
 use Rattle.task_table.specs.Table.{Table, new_table}
 use Rattle.script_lang.specs.declared.command.Script.{Script}
-use Rattle.world_moves.specs.declared.running.Running.{Running}
+use Rattle.node_parts.specs.declared.running.Running.{Running}
 use Rattle.world_moves.specs.Ties.{Ties, IsTableAt}
 use Rattle.world_moves.specs.declared.listing.Listing.{Listing}
 use Rattle.world_moves.specs.Cancels.{waiting_for}

@@ -32,7 +32,7 @@ use Rattle.task_laws.proofs.Same.{same_tests}
 use Rattle.script_lang.specs.declared.command.Script.{Script}
 use Rattle.world_moves.specs.declared.flight.Sent.{Sent}
 use Rattle.world_moves.specs.declared.listing.Listing.{Listing}
-use Rattle.world_moves.specs.declared.running.Running.{Running}
+use Rattle.node_parts.specs.declared.running.Running.{Running}
 use Rattle.world_moves.specs.Acts.{messages_in, answers_in}
 use Rattle.world_moves.specs.Cancels.{named_by, is_answered, waiting_for, waits_for_end, is_due, due_answers, answer_to, with_answers}
 use Rattle.world_moves.specs.Cancelling.{Cancelling, HasCoreAt, IsCancellationOf, IsEntryOf, is_under_way, waiter_of}
@@ -40,9 +40,10 @@ use Rattle.world_moves.specs.Moves.{IsPartOf}
 use Rattle.world_moves.specs.Plain.{AnswersPlainly}
 use Rattle.world_moves.specs.Ties.{Ties}
 use Rattle.world_moves.proofs.AnswersCome.{NameOneTask, waiting_after, answers_tied, answers_await, answers_noted}
+use Rattle.world_moves.proofs.CancelFrame.{waiters_same, entry_frame}
 use Rattle.world_moves.proofs.CoresAfter.{marked_in, core_on, its_entry, cores_after}
 use Rattle.world_moves.proofs.DueActs.{all_pass, none_pass, knows_placed}
-use Rattle.world_steps.proofs.NamedAfter.{waiters_same, first, cancel_lawful, not_waiting, ties_after_cancel, waits_as_told}
+use Rattle.world_steps.proofs.NamedAfter.{first, cancel_lawful, not_waiting, ties_after_cancel, waits_as_told}
 use Rattle.world_moves.proofs.Naming.{is_in, named_in, in_filter, named_acted}
 use Rattle.world_moves.proofs.Parts.{part_lawful, part_plain, later_part}
 
@@ -204,7 +205,7 @@ module _ (cluster : Cluster) (h : List Event) (c : ℕ) (t : TaskId) (wait : Boo
   -- ---- the cores
 
   others_stay : (u : TaskId) → same_task t u ≡ false → (o : Option Cancellation) → IsEntryOf (waiting_for u h) u h o → IsEntryOf (waiting_after t (Cancel c t wait ∷ h) u) u (Cancel c t wait ∷ h) o
-  others_stay u differs o has = subst (λ ws. IsEntryOf ws u (Cancel c t wait ∷ h) o) (sym same) (of_entry o has)
+  others_stay u differs o has = subst (λ ws. IsEntryOf ws u (Cancel c t wait ∷ h) o) (sym same) (entry_frame (waiting_for u h) u h (Cancel c t wait) o refl (not_waiting cluster h c t wait begun l awaits live u) has)
     where
       turned : same_task u t ≡ false
       turned = grind (arith, same_tests)
@@ -212,10 +213,6 @@ module _ (cluster : Cluster) (h : List Event) (c : ℕ) (t : TaskId) (wait : Boo
       same : waiting_after t (Cancel c t wait ∷ h) u ≡ waiting_for u h
       same = ap (λ b. cond b (filter (λ k. not (is_due t (Cancel c t wait ∷ h) k)) (waiting_for t (Cancel c t wait ∷ h))) (waiting_for u (Cancel c t wait ∷ h))) differs
           ∙ ap (λ b. filter (λ k. not (is_answered k h)) (cond b (named_by u h ++ c ∷ []) (named_by u h))) turned
-
-      of_entry : (o : Option Cancellation) → IsEntryOf (waiting_for u h) u h o → IsEntryOf (waiting_for u h) u (Cancel c t wait ∷ h) o
-      of_entry None j = j
-      of_entry (Some entry) j = (j.0, (j.1.0, j.1.1, j.1.2, j.1.3 ∙ waiters_same c t wait h (waiting_for u h) (not_waiting cluster h c t wait begun l awaits live u), j.1.4))
 
   named_once : NameOneTask h → NameOneTask (Cancel c t wait ∷ h)
   named_once before d u v i j =

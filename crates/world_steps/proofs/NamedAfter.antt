@@ -25,25 +25,18 @@ use Rattle.task_laws.proofs.Commands.{beginning_first, beginning_last}
 use Rattle.task_laws.proofs.Same.{same_task_tells, same_pair_refl, same_tests}
 use Rattle.world_moves.specs.declared.flight.Sent.{Sent}
 use Rattle.world_moves.specs.declared.listing.Listing.{Listing}
-use Rattle.world_moves.specs.declared.running.Running.{Running}
+use Rattle.node_parts.specs.declared.running.Running.{Running}
 use Rattle.world_moves.specs.Cancels.{waiting_for, waits_for_end, named_by, is_answered, after_cancel_of}
 use Rattle.world_moves.specs.Cancelling.{Cancelling, HasRows, HasBansAt, HasCoreAt, IsEntryOf, is_under_way, waiter_of, waiting_but}
 use Rattle.world_moves.specs.Roots.{root_request}
 use Rattle.world_moves.specs.Ties.{Ties}
+use Rattle.world_moves.proofs.CancelFrame.{entry_frame, cores_kept}
 use Rattle.world_moves.proofs.FlightAfter.{all_stay}
 use Rattle.world_moves.proofs.Kept.{kept_same}
 use Rattle.world_moves.proofs.Listed.{listed_same}
 use Rattle.world_moves.proofs.Naming.{is_in, named_in, in_filter}
 use Rattle.world_moves.proofs.NodeTables.{no_entry}
 use Rattle.world_steps.proofs.Unacted.{IsUnacted, unacted}
-
--- the waiters that are another cancel's stay as they were
-pub waiters_same : (c : ℕ) (t : TaskId) (wait : Bool) (h : List Event) (ks : List ℕ) → is_in c ks ≡ false → map (waiter_of h) ks ≡ map (waiter_of (Cancel c t wait ∷ h)) ks
-waiters_same c t wait h [] e = refl
-waiters_same c t wait h (k ∷ ks) e =
-    let apart : (k == c) ≡ false = grind (arith, same_tests) in
-    let rest = waiters_same c t wait h ks (grind (arith, same_tests)) in
-    rw apart (ap (λ ws. waiter_of h k ∷ ws) rest)
 
 module _ (cluster : Cluster) (h : List Event) (c : ℕ) (t : TaskId) (wait : Bool) (begun : beginning h ≡ Some c) (l : Lawful cluster h) (awaits : AwaitsNoMark h) (live : is_live t h ≡ true) where
   pub first : IsUnacted c h
@@ -110,7 +103,7 @@ module _ (cluster : Cluster) (h : List Event) (c : ℕ) (t : TaskId) (wait : Boo
         not_under_way = rw unmarked refl
 
     other_entry : (u : TaskId) → same_task t u ≡ false → (o : Option Cancellation) → IsEntryOf (waiting_for u h) u h o → IsEntryOf (waiting_but t (Cancel c t wait ∷ h) u) u (Cancel c t wait ∷ h) o
-    other_entry u differs o i = subst (λ ws. IsEntryOf ws u (Cancel c t wait ∷ h) o) (sym same) (of_entry o i)
+    other_entry u differs o i = subst (λ ws. IsEntryOf ws u (Cancel c t wait ∷ h) o) (sym same) (entry_frame (waiting_for u h) u h (Cancel c t wait) o refl (not_waiting u) i)
       where
         turned : same_task u t ≡ false
         turned = grind (arith, same_tests)
@@ -118,17 +111,13 @@ module _ (cluster : Cluster) (h : List Event) (c : ℕ) (t : TaskId) (wait : Boo
         same : waiting_but t (Cancel c t wait ∷ h) u ≡ waiting_for u h
         same = ap (λ b. cond b [] (waiting_for u (Cancel c t wait ∷ h))) differs ∙ ap (λ b. filter (λ k. not (is_answered k h)) (cond b (named_by u h ++ c ∷ []) (named_by u h))) turned
 
-        of_entry : (o : Option Cancellation) → IsEntryOf (waiting_for u h) u h o → IsEntryOf (waiting_for u h) u (Cancel c t wait ∷ h) o
-        of_entry None j = j
-        of_entry (Some entry) j = (j.0, (j.1.0, j.1.1, j.1.2, j.1.3 ∙ waiters_same c t wait h (waiting_for u h) (not_waiting u), j.1.4))
-
     pub cancels_after_cancel : (tables : List Table) (roots : ℕ → Option TaskId) (bans : List (FinMap task_id_cmp ℕ)) (cores : List Cancellations) (listings : BTreeSet Listing)
         → Cancelling cluster (λ u. waiting_for u h) h tables roots bans cores listings → Cancelling cluster (waiting_but t (Cancel c t wait ∷ h)) (Cancel c t wait ∷ h) tables roots bans cores listings
     cancels_after_cancel tables roots bans cores listings known = record {
       rows_are = λ place. of_rows (slice_get tables place) (known.rows_are place);
       roots_are = known.roots_are;
       bans_are = λ place. of_bans place (slice_get bans place) (known.bans_are place);
-      cores_are = λ place. of_core place (slice_get cores place) (known.cores_are place);
+      cores_are = λ place. cores_kept cluster (λ u. waiting_for u h) (waiting_but t (Cancel c t wait ∷ h)) h (Cancel c t wait ∷ h) (λ u o i. by_task u o i (same_task_tells t u)) place (slice_get cores place) (known.cores_are place);
       listings_are = known.listings_are;
       one_task = λ d u v i j. named_once d u v (known.one_task d u v) i j;
     }
@@ -149,10 +138,6 @@ module _ (cluster : Cluster) (h : List Event) (c : ℕ) (t : TaskId) (wait : Boo
             let none = no_entry u h (waiting_for u h) o (ap (λ x. mark_of x h) (sym same) ∙ unmarked) i in
             subst (λ x. IsEntryOf (waiting_but t (Cancel c t wait ∷ h) x) x (Cancel c t wait ∷ h) o) same (own_entry o none.0)
         by_task u o i (inr (differs, apart)) = other_entry u differs o i
-
-        of_core : (place : ℕ) (o : Option Cancellations) → HasCoreAt cluster (λ u. waiting_for u h) place h o → HasCoreAt cluster (waiting_but t (Cancel c t wait ∷ h)) place (Cancel c t wait ∷ h) o
-        of_core place None i = i
-        of_core place (Some core) i = λ u node. by_task u (get core.entries u) (i u node) (same_task_tells t u)
 
 -- ---- after a cancel that named no task
 

@@ -14,7 +14,9 @@ use Rattle.task_events.specs.declared.step.Do.TheVariants.{AskNext, Turn, Wait, 
 use Rattle.task_events.specs.declared.event.Event.{Event}
 use Rattle.task_events.specs.declared.event.Event.TheVariants.{End}
 use Rattle.task_events.specs.declared.reply.Reply.TheVariants.{Cancelled}
-use Rattle.task_events.specs.Searches.{search_step, query_step, fetch_step}
+use Rattle.task_events.specs.FetchTask.{fetch_step}
+use Rattle.task_events.specs.QueryTask.{query_step}
+use Rattle.task_events.specs.SearchTask.{search_step}
 use Rattle.task_events.specs.Tasks.{is_live, is_new, no_counts}
 use Rattle.task_events.specs.Steps.{event_of, planned_step, first_step, cancelled_step, asked_by, turns_of, request_of}
 use Rattle.task_events.specs.Asks.{unanswered}
@@ -25,52 +27,17 @@ use Rattle.task_work.specs.declared.work.Work.TheVariants as works
 use Rattle.task_work.specs.Works.{IsWorkOn, next_of, does_wait}
 use Rattle.script_lang.specs.declared.command.Script.{Script}
 use Rattle.world_moves.specs.declared.flight.Sent.{Sent}
-use Rattle.world_moves.specs.declared.running.Running.{Running}
+use Rattle.node_parts.specs.declared.running.Running.{Running}
 use Rattle.world_moves.specs.Facts.{facts_of, awaited_by, requested_by, none_awaited}
 use Rattle.world_moves.specs.Roots.{root_request}
 use Rattle.world_steps.specs.Runs as runs
-use Rattle.world_moves.specs.Ties.{Ties, Runs, WorksFor, DoesNext, goes_on, own_writes, written}
+use Rattle.world_moves.specs.Ties.{Ties, Runs, WorksFor}
+use Rattle.world_moves.specs.Good.{own_writes, written}
+use Rattle.node_parts.specs.Running.{DoesNext, goes_on}
+use Rattle.world_moves.proofs.AllKinds.{kind_laws}
+use Rattle.world_moves.proofs.KindLaws.{KindLaws}
 use Rattle.world_moves.proofs.Answered.{ends_cancelled, waits_cancelled, tells_none}
 use Rattle.world_moves.proofs.StepsAfter.{kept_running, is_kept}
-
--- the plan of a task, if it was asked for something
-abbrev pub plan_of : Cluster → Corpus → TaskId → List Event → Option Request → Option Do
-plan_of cluster corpus t h request = option_map (λ r. planned_step cluster corpus t r h) request
-
--- the work of a task follows its plan
-follows : (cluster : Cluster) (corpus : Corpus) (t : TaskId) (h : List Event) (request : Option Request) (work : Work)
-    → WorksFor cluster corpus t (asked_by t h) (requested_by t h) (awaited_by t h) (turns_of t h) request work
-    → plan_of cluster corpus t h request ≡ Some (next_of work (own_writes cluster corpus request))
-follows cluster corpus t h (Some (Search ask)) (works.Search s) w = ap (λ x. Some (search_step x.task x.ask x.shards x.asked)) (sym w.state_is)
-follows cluster corpus t h (Some (Query ask)) (works.Query q top) w =
-    let writes = written cluster corpus ask.index ask.shard in
-    ap (λ x. Some (query_step x (unwrap_or ask.version (length writes)) (turns_of t h) writes)) (sym w.ask_is)
-    ∙ ap (λ x. Some (query_step q.ask x (turns_of t h) writes)) (sym w.version_is)
-    ∙ ap (λ x. Some (query_step q.ask (version_at q writes) x writes)) (sym w.turns_are)
-follows cluster corpus t h (Some (Fetch ask)) (works.Fetch f hits) w =
-    let writes = written cluster corpus ask.index ask.shard in
-    ap (λ x. Some (fetch_step x (turns_of t h) writes)) (sym w.ask_is) ∙ ap (λ x. Some (fetch_step f.ask x writes)) (sym w.turns_are)
-follows cluster corpus t h None work w = absurd w
-follows cluster corpus t h (Some (Search ask)) (works.Query q top) w = absurd w
-follows cluster corpus t h (Some (Search ask)) (works.Fetch f hits) w = absurd w
-follows cluster corpus t h (Some (Query ask)) (works.Search s) w = absurd w
-follows cluster corpus t h (Some (Query ask)) (works.Fetch f hits) w = absurd w
-follows cluster corpus t h (Some (Fetch ask)) (works.Search s) w = absurd w
-follows cluster corpus t h (Some (Fetch ask)) (works.Query q top) w = absurd w
-
--- the work is on the writes that it looks at
-on_writes : (cluster : Cluster) (corpus : Corpus) (t : TaskId) (asked : List Asked) (requests : List Request) (awaited : List (Option ℕ)) (turns : ℕ) (request : Option Request) (work : Work)
-    → WorksFor cluster corpus t asked requests awaited turns request work → IsWorkOn work (own_writes cluster corpus request)
-on_writes cluster corpus t asked requests awaited turns (Some (Search ask)) (works.Search s) w = tt
-on_writes cluster corpus t asked requests awaited turns (Some (Query ask)) (works.Query q top) w = w.on
-on_writes cluster corpus t asked requests awaited turns (Some (Fetch ask)) (works.Fetch f hits) w = w.on
-on_writes cluster corpus t asked requests awaited turns None work w = absurd w
-on_writes cluster corpus t asked requests awaited turns (Some (Search ask)) (works.Query q top) w = absurd w
-on_writes cluster corpus t asked requests awaited turns (Some (Search ask)) (works.Fetch f hits) w = absurd w
-on_writes cluster corpus t asked requests awaited turns (Some (Query ask)) (works.Search s) w = absurd w
-on_writes cluster corpus t asked requests awaited turns (Some (Query ask)) (works.Fetch f hits) w = absurd w
-on_writes cluster corpus t asked requests awaited turns (Some (Fetch ask)) (works.Search s) w = absurd w
-on_writes cluster corpus t asked requests awaited turns (Some (Fetch ask)) (works.Query q top) w = absurd w
 
 acts : (cluster : Cluster) (t : TaskId) (h : List Event) (d : Do) → is_some (event_of cluster t h d) ≡ not (does_wait d)
 acts cluster t h (AskNext request) = refl
@@ -83,13 +50,16 @@ module _ (cluster : Cluster) (corpus : Corpus) (script : Script) (h : List Event
   abbrev pub writes_at : TaskId → List Doc
   writes_at t = own_writes cluster corpus (request_of (root_request script) t h)
 
+  laws_at : (t : TaskId) → is_live t h ≡ true → (r : Running) → tasks t ≡ Some r → KindLaws cluster corpus t (asked_by t h) (requested_by t h) (awaited_by t h) (turns_of t h) (request_of (root_request script) t h) r.work
+  laws_at t l r e = kind_laws cluster corpus t _ _ _ _ (request_of (root_request script) t h) r.work (kept_running cluster corpus script h tasks tables flight ties t l r e).works
+
   pub next_new : (t : TaskId) → is_new t h ≡ true → runs.next_of cluster corpus script t h ≡ Some (first_step t (ban_over t h))
   next_new t n = rw n refl
 
   pub next_old : (t : TaskId) → is_live t h ≡ true → is_new t h ≡ false → mark_of t h ≡ None → (r : Running) → tasks t ≡ Some r → runs.next_of cluster corpus script t h ≡ event_of cluster t h (next_of r.work (writes_at t))
   next_old t l n m r e =
       rw n (rw m (ap (λ o. option_and_then (event_of cluster t h) o)
-      (follows cluster corpus t h (request_of (root_request script) t h) r.work (kept_running cluster corpus script h tasks tables flight ties t l r e).works)))
+      (laws_at t l r e).follows))
 
   pub next_cancelled : (t : TaskId) (c : ℕ) → is_new t h ≡ false → mark_of t h ≡ Some c → runs.next_of cluster corpus script t h ≡ cancelled_step t c (unanswered t h)
   next_cancelled t c n m = rw n (rw m refl)
@@ -119,7 +89,7 @@ module _ (cluster : Cluster) (corpus : Corpus) (script : Script) (h : List Event
       by_new false n = by_mark n (mark_of t h) refl
 
   pub works_on : (t : TaskId) → is_live t h ≡ true → (r : Running) → tasks t ≡ Some r → IsWorkOn r.work (writes_at t)
-  works_on t l r e = on_writes cluster corpus t _ _ _ _ (request_of (root_request script) t h) r.work (kept_running cluster corpus script h tasks tables flight ties t l r e).works
+  works_on t l r e = (laws_at t l r e).on
 
   -- what the kept work does next is what the task does next, where it is not marked
   pub does : (t : TaskId) → is_live t h ≡ true → is_new t h ≡ false → mark_of t h ≡ None → (step : Do) → DoesNext (tasks t) step → runs.next_of cluster corpus script t h ≡ event_of cluster t h step

@@ -10,15 +10,13 @@ use Rattle.task_ids.specs.declared.task_id.TaskId.{TaskId}
 use Rattle.task_ids.specs.declared.cluster.Cluster.{Cluster}
 use Rattle.task_ids.specs.declared.corpus.Corpus.{Corpus}
 use Rattle.task_events.specs.declared.request.Request.{Request}
-use Rattle.task_events.specs.declared.request.Request.TheVariants.{Search, Query, Fetch}
 use Rattle.task_events.specs.declared.step.Do.{Do}
 use Rattle.task_events.specs.declared.step.Do.TheVariants.{AskNext, Turn, Wait, Finish}
 use Rattle.task_events.specs.declared.event.Event.{Event}
 use Rattle.task_events.specs.Bans.{mark_of}
 use Rattle.task_events.specs.Tasks.{is_live, is_new}
-use Rattle.task_events.specs.Documents.{writes_of}
 use Rattle.task_events.specs.Lawful.{Lawful}
-use Rattle.task_events.specs.Searches.{search_step, query_step, fetch_step}
+use Rattle.task_events.specs.Kinds.{kind_of}
 use Rattle.task_events.specs.Steps.{event_of, planned_step, request_of}
 use Rattle.script_lang.specs.declared.command.Script.{Script}
 use Rattle.task_work.specs.Works.{does_wait}
@@ -36,11 +34,7 @@ use Rattle.world_moves.proofs.FactsAfter.{frame}
 
 -- what a task's facts say of it
 abbrev plan_from : Cluster → Corpus → TaskId → Facts → Request → Do
-plan_from cluster corpus t facts (Search ask) = search_step t ask cluster.shards facts.asked
-plan_from cluster corpus t facts (Query ask) =
-    let writes = writes_of corpus cluster.shards ask.index ask.shard in
-    query_step ask (unwrap_or ask.version (length writes)) facts.turns writes
-plan_from cluster corpus t facts (Fetch ask) = fetch_step ask facts.turns (writes_of corpus cluster.shards ask.index ask.shard)
+plan_from cluster corpus t facts r = (kind_of r).step cluster corpus t facts.asked facts.turns
 
 -- whether its work goes on
 abbrev works_from : Cluster → Corpus → TaskId → Facts → Bool
@@ -108,11 +102,6 @@ about_it : (e : Event) (t : TaskId) → about e ≡ Some t → (q : TaskId) → 
 about_it e t a q = rw a (grind (arith, same_tests))
 
 module _ (cluster : Cluster) (corpus : Corpus) (script : Script) where
-  one_plan : (t : TaskId) (h : List Event) (r : Request) → planned_step cluster corpus t r h ≡ plan_from cluster corpus t (facts_of (root_request script) t h) r
-  one_plan t h (Search ask) = refl
-  one_plan t h (Query ask) = refl
-  one_plan t h (Fetch ask) = refl
-
   one_event : (t : TaskId) (h : List Event) (d : Do) → is_some (event_of cluster t h d) ≡ not (does_wait d)
   one_event t h (AskNext request) = refl
   one_event t h Turn = refl
@@ -122,7 +111,7 @@ module _ (cluster : Cluster) (corpus : Corpus) (script : Script) where
   by_request : (t : TaskId) (h : List Event) (o : Option Request)
       → is_some (option_and_then (event_of cluster t h) (option_map (λ r. planned_step cluster corpus t r h) o)) ≡ option_map_or (λ r. not (does_wait (plan_from cluster corpus t (facts_of (root_request script) t h) r))) o false
   by_request t h None = refl
-  by_request t h (Some r) = one_event t h (planned_step cluster corpus t r h) ∙ ap (λ d. not (does_wait d)) (one_plan t h r)
+  by_request t h (Some r) = one_event t h (planned_step cluster corpus t r h)
 
   -- the facts of the task
   abbrev facts_at : TaskId → List Event → Facts

@@ -16,7 +16,9 @@ use Rattle.task_events.specs.declared.step.Do.TheVariants.{AskNext, Turn, Wait, 
 use Rattle.task_events.specs.Asks.{unanswered}
 use Rattle.task_events.specs.Bans.{mark_of, listing_is_open}
 use Rattle.task_events.specs.Laws.{IsAtRest, IsLeaf, IsDrained}
-use Rattle.task_events.specs.Searches.{are_answered, ask_or_end, work_or_end}
+use Rattle.task_events.specs.Searches.{are_answered}
+use Rattle.task_events.specs.Looking.{work_or_end}
+use Rattle.task_events.specs.SearchTask.{ask_or_end}
 use Rattle.task_events.specs.Steps.{request_of, event_of}
 use Rattle.task_events.specs.Tasks.{is_live, is_new}
 use Rattle.task_laws.proofs.Rest.{leaf}
@@ -25,47 +27,16 @@ use Rattle.task_work.specs.declared.work.Work.TheVariants as works
 use Rattle.task_work.specs.Works.{next_of, does_wait}
 use Rattle.script_lang.specs.declared.command.Script.{Script}
 use Rattle.world_moves.specs.declared.flight.Sent.{Sent}
-use Rattle.world_moves.specs.declared.running.Running.{Running}
+use Rattle.node_parts.specs.declared.running.Running.{Running}
 use Rattle.world_moves.specs.Facts.{none_awaited}
 use Rattle.world_moves.specs.Roots.{root_request}
 use Rattle.world_steps.specs.Runs as runs
 use Rattle.world_moves.specs.Ties.{Ties, WorksFor}
+use Rattle.world_moves.proofs.AllKinds.{kind_laws}
+use Rattle.world_moves.proofs.KindLaws.{KindLaws}
 use Rattle.world_moves.proofs.Answered.{none_to_await}
 use Rattle.world_steps.proofs.Plans.{next_new, next_old, ends_marked, writes_at}
 use Rattle.world_moves.proofs.StepsAfter.{kept_running, is_kept}
-
--- with all answers a search does not wait, and other work never does
-ends_or_asks : (next : Option Request) (answered : Bool) (reply : Reply) → answered ≡ true → does_wait (ask_or_end next answered reply) ≡ false
-ends_or_asks (Some request) answered reply all = refl
-ends_or_asks None true reply all = refl
-ends_or_asks None false reply all = absurd (cc)
-
-works_or_ends : (done : Bool) (reply : Reply) → does_wait (work_or_end done reply) ≡ false
-works_or_ends true reply = refl
-works_or_ends false reply = refl
-
--- no ask is awaited, so all are answered
-all_known : (asked : List Asked) (awaited : List (Option ℕ)) → map (λ a. is_some a.answer) asked ≡ map (λ o. not (is_some o)) awaited → none_awaited awaited ≡ true → are_answered asked ≡ true
-all_known [] awaited e none = refl
-all_known (a ∷ asked) [] e none = absurd (cc)
-all_known (a ∷ asked) (Some n ∷ awaited) e none = absurd (cc)
-all_known (a ∷ asked) (None ∷ awaited) e none =
-    let here : is_some a.answer ≡ true = cc in
-    rw here (all_known asked awaited (cc) none)
-
-module _ (cluster : Cluster) (corpus : Corpus) (t : TaskId) (asked : List Asked) (requests : List Request) (awaited : List (Option ℕ)) (turns : ℕ) where
-  goes_on : (request : Option Request) (work : Doing) (writes : List Doc) → WorksFor cluster corpus t asked requests awaited turns request work → none_awaited awaited ≡ true → does_wait (next_of work writes) ≡ false
-  goes_on (Some (asks.Search ask)) (works.Search s) writes w none =
-      ends_or_asks _ (are_answered s.asked) _ (ap (λ x. are_answered x.asked) w.state_is ∙ all_known asked awaited w.answered none)
-  goes_on (Some (asks.Query ask)) (works.Query q top) writes w none = works_or_ends _ _
-  goes_on (Some (asks.Fetch ask)) (works.Fetch f hits) writes w none = works_or_ends _ _
-  goes_on None work writes w none = absurd w
-  goes_on (Some (asks.Search ask)) (works.Query q top) writes w none = absurd w
-  goes_on (Some (asks.Search ask)) (works.Fetch f hits) writes w none = absurd w
-  goes_on (Some (asks.Query ask)) (works.Search s) writes w none = absurd w
-  goes_on (Some (asks.Query ask)) (works.Fetch f hits) writes w none = absurd w
-  goes_on (Some (asks.Fetch ask)) (works.Search s) writes w none = absurd w
-  goes_on (Some (asks.Fetch ask)) (works.Query q top) writes w none = absurd w
 
 has_event : (cluster : Cluster) (t : TaskId) (h : List Event) (d : Do) → does_wait d ≡ false → event_of cluster t h d ≡ None → ⊥
 has_event cluster t h (AskNext request) goes none = cc
@@ -84,7 +55,7 @@ module _ (cluster : Cluster) (corpus : Corpus) (script : Script) (h : List Event
           let writes = writes_at cluster corpus script h tasks tables flight ties u in
           let works = (kept_running cluster corpus script h tasks tables flight ties u l.live r e).works in
           let next = next_old cluster corpus script h tasks tables flight ties u l.live l.passed l.unmarked r e in
-          has_event cluster u h (next_of r.work writes) (goes_on cluster corpus u _ _ _ _ (request_of (root_request script) u h) r.work writes works (none_to_await cluster u h ties.lawful l.answered)) (sym next ∙ none)
+          has_event cluster u h (next_of r.work writes) ((kind_laws cluster corpus u _ _ _ _ (request_of (root_request script) u h) r.work works).moves writes (none_to_await cluster u h ties.lawful l.answered)) (sym next ∙ none)
 
   pub drained : runs.IsSettled cluster corpus script h → IsDrained h
   drained s = record { nothing_in_flight = s.nothing_in_flight; no_listing = closed; nothing_live = λ t. gone t (is_live t h) refl }

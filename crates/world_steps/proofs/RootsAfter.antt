@@ -17,7 +17,7 @@ use Rattle.task_events.specs.Cancels.{last_command, beginning}
 use Rattle.task_events.specs.Allowed.{TakesSlot}
 use Rattle.task_events.specs.Lawful.{AwaitsNoMark}
 use Rattle.world_moves.specs.declared.flight.Sent.{Sent}
-use Rattle.world_moves.specs.declared.running.Running.{Running}
+use Rattle.node_parts.specs.declared.running.Running.{Running}
 use Rattle.world_moves.specs.Facts.{Facts, facts_of}
 use Rattle.world_moves.specs.Moves.{IsStart}
 use Rattle.world_moves.specs.Roots.{root_request}

@@ -6,7 +6,8 @@ ghost use Rattle.task_events.specs.Tasks.{is_live, is_new};
 ghost use Rattle.world_moves.specs.Facts.{awaited_by, none_awaited};
 ghost use Rattle.world_moves.specs.Moves.{IsPartly, StopsMove};
 ghost use Rattle.world_steps.specs.Runs.{AnswersStep, HasRoom, Steps};
-ghost use Rattle.world_moves.specs.Ties.{IsTied, Keeps, HasShards, DoesNext, task_at, KeepsLaws};
+ghost use Rattle.world_moves.specs.Ties.{IsTied, Keeps, HasShards, task_at, KeepsLaws};
+ghost use Rattle.node_parts.specs.Running.{DoesNext};
 
 use task_events::{Do, Stop};
 use task_ids::TaskId;

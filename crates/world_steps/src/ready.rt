@@ -6,13 +6,14 @@ ghost use Rattle.task_ids.specs.declared.doc.Doc.{Doc};
 ghost use Rattle.task_ids.specs.TaskIdOrder.{task_id_cmp};
 ghost use Rattle.task_events.specs.Same.{same_task};
 ghost use Rattle.world_moves.specs.Facts.{about};
-ghost use Rattle.world_moves.specs.Ties.{IsTied, goes_on};
+ghost use Rattle.world_moves.specs.Ties.{IsTied};
+ghost use Rattle.node_parts.specs.Running.{goes_on};
 ghost use Rattle.world_steps.specs.World.{HasReady, HadReady, ready_in};
 
+use node_parts::running::Running;
 use std::collections::BTreeSet;
 use task_events::{Event, Stop};
 use task_ids::TaskId;
-use world_moves::running::Running;
 use world_moves::state::State;
 
 /// The task that an event is about, if there is one.

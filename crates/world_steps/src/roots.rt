@@ -11,14 +11,15 @@ ghost use Rattle.world_moves.specs.Moves.{Starts, NodeLacksNumber, IsPartly, IsC
 ghost use Rattle.world_moves.specs.Roots.{root_request};
 ghost use Rattle.world_moves.specs.Ties.{IsTied, Keeps, task_at};
 
+use node_parts::running::Running;
+use node_parts::starting::{new_task, with_work};
 use std::alloc::Global;
 use std::collections::BTreeMap;
 use task_events::{Event, History, Request, SearchAsk, Stop};
 use task_ids::{Boxed, TaskId};
 use task_table::PutError;
 use world_moves::append::append;
-use world_moves::running::Running;
-use world_moves::starting::{keep, new_task, put_on, spend, with_work};
+use world_moves::starting::{keep, put_on, spend};
 use world_moves::state::State;
 
 /// A command begins, the next in order. Commands are numbered from 1.

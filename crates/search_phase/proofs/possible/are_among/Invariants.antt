@@ -1,5 +1,5 @@
 use Rattle.std.proofs.Common.{◌≡◌, ◌≤◌, map, drop, length}
-use Rattle.task_events.specs.Possible.{are_among}
+use Rattle.task_events.specs.FetchTask.{are_among}
 use Rattle.search_phase.proofs.possible.are_among.Given as goal
 
 abbrev pub invariant-loop-place : goal.invariant-loop-place

@@ -2,7 +2,7 @@ use Rattle.std.proofs.Common.{◌≡◌, ◌+◌, ◌-◌, sym, ◌∙◌, ap, a
 use Rattle.std.specs.Prelude.{◌&&◌}
 use Rattle.std.specs.Ordering.{is_lt}
 use Rattle.task_events.specs.HitOrder.{hit_cmp}
-use Rattle.task_events.specs.Possible.{ascend}
+use Rattle.task_events.specs.QueryTask.{ascend}
 use Rattle.search_phase.proofs.FetchAnswers.{ascend_step, ascend_last}
 use Rattle.search_phase.proofs.possible.is_ascending.Goals as goal
 

@@ -1,5 +1,5 @@
 use Rattle.std.proofs.Common.{◌≡◌, ◌-◌, drop}
-use Rattle.task_events.specs.Possible.{ascend}
+use Rattle.task_events.specs.QueryTask.{ascend}
 use Rattle.search_phase.proofs.possible.is_ascending.Given as goal
 
 abbrev pub invariant-loop-place : goal.invariant-loop-place

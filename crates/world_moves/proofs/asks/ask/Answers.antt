@@ -3,7 +3,7 @@ use Rattle.std.specs.Option.{option_copied_mut}
 use Rattle.task_events.specs.declared.event.Event.TheVariants.{Ask}
 use Rattle.task_events.specs.Asks.{last_ask}
 use Rattle.world_moves.specs.declared.flight.Sent.TheVariants.{Request}
-use Rattle.world_moves.specs.Asking.{PlansToAsk}
+use Rattle.node_parts.specs.Running.{PlansToAsk}
 use Rattle.world_moves.specs.Cancels.{waiting_for}
 use Rattle.world_moves.specs.Ties.{task_at}
 use Rattle.world_moves.proofs.Kept.{at_changed, off_changed}
@@ -41,7 +41,7 @@ returns-clause-happened c =
     let planned : PlansToAsk (Some r) c.args.request = rw was at c.requires.planned in
     let next = number_is s.cluster s.corpus.now s.script.now s.history _ _ _ c.requires.tied.ties c.args.task c.args.request c.requires.live r was planned in
     let number : c.ask-number.result ≡ last_ask c.args.task s.history + 1 = c.ask-number.ensures ∙ ap (λ t. t.ask) c.in-Ok.ensures.token ∙ next in
-    then_ok c.append.result _ _ c.append.ensures.ok (λ happened. happened ∙ (λ i. Ask c.args.task (number i) (c.node_to_ask-to.ensures i) c.args.request ∷ s.history))
+    then_ok c.append.result _ _ c.append.ensures.ok (λ happened. happened ∙ (λ i. Ask c.args.task (number i) (c.node_for-to.ensures i) c.args.request ∷ s.history))
 
 pub returns-clause-tied : goal.returns-clause-tied
 returns-clause-tied c =
@@ -53,15 +53,15 @@ returns-clause-tied c =
     let number : c.ask-number.result ≡ last_ask c.args.task s.history + 1 = c.ask-number.ensures ∙ ap (λ t. t.ask) c.in-Ok.ensures.token ∙ next in
     let task = track_of s.cluster s.corpus.now s.script.now s.history _ _ _ c.requires.tied.ties c.args.task c.args.request c.requires.live r was planned in
     let token : c.in-Ok.token ≡ record { parent = c.args.task; ask = last_ask c.args.task s.history + 1 } = c.in-Ok.ensures.token ∙ (λ i. record { parent = task i; ask = next i }) in
-    let flight : c.send.new.flight ≡ s.flight ++ Request c.in-Ok.token c.node_to_ask-to.result (length s.history) ∷ [] =
-    c.in-Ok-send.ensures.ok ∙ ap (λ at. s.flight ++ Request c.in-Ok.token c.node_to_ask-to.result at ∷ []) c.len-at.ensures in
+    let flight : c.send.new.flight ≡ s.flight ++ Request c.in-Ok.token c.node_for-to.result (length s.history) ∷ [] =
+    c.in-Ok-send.ensures.ok ∙ ap (λ at. s.flight ++ Request c.in-Ok.token c.node_for-to.result at ∷ []) c.len-at.ensures in
     let w = c.ask.new.self in
     let changed = ((c.get_mut.follows.holds w).3 (some_of _ _ was)).0 in
     let here = at_changed c.args.task (Some w) (task_at s.tasks) _ changed ∙ ap Some c.in-Ok.ensures.asked in
     let others = off_changed c.args.task (Some w) (task_at s.tasks) _ changed in
     then_ok c.append.result _ _ c.append.ensures.ok (λ happened. rw (happened, number, flight) (record {
-      ties = after_ask s.cluster s.corpus.now s.script.now s.history _ _ _ c.requires.tied.ties c.args.task c.args.request c.requires.live r was planned _ c.node_to_ask-to.result c.in-Ok.token c.requires.tied.awaits c.requires.unmarked c.requires.passed c.node_to_ask-to.ensures token here others;
-      cancels = noted s.cluster (λ t. waiting_for t s.history) s.history _ _ _ _ _ c.requires.tied.cancels (Ask c.args.task (last_ask c.args.task s.history + 1) c.node_to_ask-to.result c.args.request) refl refl;
+      ties = after_ask s.cluster s.corpus.now s.script.now s.history _ _ _ c.requires.tied.ties c.args.task c.args.request c.requires.live r was planned _ c.node_for-to.result c.in-Ok.token c.requires.tied.awaits c.requires.unmarked c.requires.passed c.node_for-to.ensures token here others;
+      cancels = noted s.cluster (λ t. waiting_for t s.history) s.history _ _ _ _ _ c.requires.tied.cancels (Ask c.args.task (last_ask c.args.task s.history + 1) c.node_for-to.result c.args.request) refl refl;
       awaits = tt;
     }))
 

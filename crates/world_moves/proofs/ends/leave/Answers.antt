@@ -17,6 +17,7 @@ use Rattle.world_moves.proofs.StepsAfter.{is_kept}
 use Rattle.world_moves.proofs.AnswersCome.{answers_lawful, answers_await, answers_tied, answers_noted}
 use Rattle.world_moves.proofs.CancelledEnds.{leaves_so, leaver_lives, awaits_none, left_lawful, left_plain, none_part, first_part, leaver_open, after_cancelled, after_unmarked}
 use Rattle.world_moves.proofs.LeftEntries.{core_is, known_there, no_receipt, unmarked_there, nobody_there, answered_then, sent_then, part_then, answers_plain, set_again}
+use Rattle.task_laws.proofs.Reach.{reach_facts}
 use Rattle.world_moves.proofs.LeftNotes.{noted_unmarked, noted_ended, nothing_due, core_there, one_task_left}
 use Rattle.world_moves.proofs.Leaving.{own_track, has_table, in_cluster, table_is, stands, runs}
 use Rattle.corpus_shards.proofs.Cases.{then_ok, both_ok, then_err, on_err}
@@ -205,7 +206,7 @@ returns-clause-tied c =
       cancels =
           rw (happened, row, c.in-Ok-ended.ensures.ended)
           (answers_noted s.cluster c.args.task (e ∷ s.history) _ _ _ _ _ (left_lawful c.args.task s.history s.cluster c.requires.tied.ties.lawful c.requires.tied.awaits e m)
-          (noted_ended c.args.task s.history e leaves s.cluster s.tables.items _ s.bans.items s.cores.items s.listings c.index_mut.result.now core (entry_of core c.args.task) receipt its at_core known c.requires.tied.cancels));
+          (noted_ended c.args.task s.history e leaves s.cluster s.tables.items _ s.bans.items s.cores.items s.listings c.index_mut.result.now core (entry_of core c.args.task) receipt its at_core known ((reach_facts s.cluster s.history c.requires.tied.ties.lawful).live_in c.args.task live) c.requires.tied.cancels));
       awaits = rw happened (answers_await s.cluster c.args.task (e ∷ s.history) awaits);
     })
 

@@ -2,7 +2,7 @@ use Rattle.std.proofs.Common.{◌≡◌, ◌∙◌, ◌-◌, ◌∷◌, ◌++◌
 use Rattle.std.specs.Prelude.{slice_set}
 use Rattle.std.proofs.lemmas.Option.{slice_get_within}
 use Rattle.task_events.specs.declared.event.Event.TheVariants.{Listed}
-use Rattle.world_moves.specs.declared.flight.Notice.TheVariants.{Ack}
+use Rattle.node_parts.specs.declared.notice.Notice.TheVariants.{Ack}
 use Rattle.world_moves.specs.declared.flight.Sent.TheVariants.{Notice}
 use Rattle.world_moves.proofs.ListedAfter.{after_listed, cancels_after_listed}
 use Rattle.world_moves.proofs.LiveRows.{read_at}

@@ -9,7 +9,7 @@ use Rattle.child_track.specs.Token.{Token}
 use Rattle.task_events.specs.declared.event.Event.TheVariants.{Put, Reject}
 use Rattle.task_events.specs.declared.request.Request.{Request}
 use Rattle.world_moves.specs.declared.flight.Sent.{Sent}
-use Rattle.world_moves.specs.declared.running.Running.{Running}
+use Rattle.node_parts.specs.declared.running.Running.{Running}
 use Rattle.world_moves.specs.Moves.{Delivers}
 use Rattle.task_events.specs.Lawful.{AwaitsNoMark}
 use Rattle.world_moves.specs.Cancels.{waiting_for}

@@ -1,7 +1,8 @@
 use Rattle.std.proofs.Common.{◌∷◌, ◌∙◌, refl, sym, subst, rules, ◌≡◌, length}
 use Rattle.task_events.specs.declared.event.Event.TheVariants.{End}
 use Rattle.task_events.specs.declared.step.Do.TheVariants.{AskNext, Turn, Wait, Finish}
-use Rattle.world_moves.specs.Ties.{DoesNext, task_at}
+use Rattle.world_moves.specs.Ties.{task_at}
+use Rattle.node_parts.specs.Running.{DoesNext}
 use Rattle.world_steps.proofs.NoneDue.{none_due}
 use Rattle.world_steps.proofs.Plans.{does}
 use Rattle.task_events.specs.declared.history.TheConstants.{MAX_EVENTS}

@@ -7,7 +7,7 @@ use Rattle.task_table.specs.declared.ended.PutError.TheVariants.{Full, NumbersSp
 use Rattle.child_track.specs.Token.{Token}
 use Rattle.task_events.specs.declared.event.Event.TheVariants.{Root, RootRejected}
 use Rattle.task_events.specs.declared.stop.Stop.TheVariants as Stop
-use Rattle.world_moves.specs.declared.running.Running.{Running}
+use Rattle.node_parts.specs.declared.running.Running.{Running}
 use Rattle.task_events.specs.Lawful.{AwaitsNoMark}
 use Rattle.world_moves.specs.Cancels.{waiting_for}
 use Rattle.world_moves.specs.Ties.{task_at}

@@ -5,7 +5,7 @@ use Rattle.task_events.specs.declared.request.Request.TheVariants as asks
 use Rattle.task_events.specs.declared.reply.ShardTop.{ShardTop}
 use Rattle.task_events.specs.declared.reply.SearchReply.{SearchReply}
 use Rattle.task_events.specs.declared.step.Asked.{Asked}
-use Rattle.task_events.specs.Possible.{can_have}
+use Rattle.task_events.specs.Kinds.{can_have}
 use Rattle.task_events.specs.Searches.{tops_in}
 use Rattle.search_phase.specs.Searching.{Searching, IsSearching, has_ended, next_step, search_answer, answer_of, reply_with}
 use Rattle.search_phase.proofs.AnswerParts.{ended_is_known}

@@ -1,5 +1,5 @@
 use Rattle.std.proofs.Common.{◌≡◌, None, Some, refl}
-use Rattle.world_moves.proofs.running.Running.ask.Goals as goal
+use Rattle.node_parts.proofs.running.Running.ask.Goals as goal
 
 pub unreachable-requires : goal.unreachable-requires
 unreachable-requires c =

@@ -1,26 +1,23 @@
--- The kind of the task that a request asks for, and a live task that asks for a child or takes an answer.
-use Rattle.std.specs.Prelude.{◌≡◌, ℕ, ◌+◌, List, length, Option, Some, None}
-use Rattle.task_ids.specs.declared.action.Action.{Action}
-use Rattle.task_ids.specs.declared.action.Action.TheVariants as actions
+-- A live task that asks for a child, takes an answer, or waits.
+use Rattle.std.specs.Prelude.{◌≡◌, ℕ, ◌+◌, List, length, Bool, ◌||◌, ◌==◌, not, is_some, Option, Some, None, if◌then◌else◌, ⊤}
 use Rattle.task_ids.specs.declared.doc.Doc.{Doc}
-use Rattle.child_track.specs.Track.{with_ask, with_answer}
+use Rattle.child_track.specs.Track.{with_ask, with_answer, unanswered}
 use Rattle.task_events.specs.declared.request.Request.{Request}
-use Rattle.task_events.specs.declared.request.Request.TheVariants.{Search, Query, Fetch}
 use Rattle.task_events.specs.declared.reply.Reply.{Reply}
+use Rattle.task_events.specs.declared.step.Do.{Do}
 use Rattle.task_events.specs.declared.step.Do.TheVariants.{AskNext}
-use Rattle.task_work.specs.Works.{IsWorkOn, next_of, work_with_ask, work_with_answer}
-use Rattle.world_moves.specs.declared.running.Running.{Running}
-
--- the action of the task that a request asks for
-abbrev pub action_of : Request → Action
-action_of (Search ask) = actions.Search
-action_of (Query ask) = actions.Query
-action_of (Fetch ask) = actions.Fetch
+use Rattle.task_work.specs.Works.{IsWorkOn, next_of, does_wait, work_with_ask, work_with_answer}
+use Rattle.node_parts.specs.declared.running.Running.{Running}
 
 -- the task is kept, and its plan says that it asks for this next
 abbrev pub PlansToAsk : Option Running → Request → Type 0
 PlansToAsk None request = ⊥
 PlansToAsk (Some running) request = (writes : List Doc) → IsWorkOn running.work writes → next_of running.work writes ≡ AskNext request
+
+-- The kept task's work does this next, over any shard that it may work on.
+abbrev pub DoesNext : Option Running → Do → Type 0
+DoesNext None step = ⊤
+DoesNext (Some running) step = (writes : List Doc) → IsWorkOn running.work writes → next_of running.work writes ≡ step
 
 -- the number of its next ask
 abbrev pub next_number : Running → ℕ
@@ -33,3 +30,7 @@ running_with_ask running to = record running { track = with_ask running.track to
 -- after the answer to an ask
 abbrev pub running_with_answer : Running → ℕ → Reply → Running
 running_with_answer running ask reply = record running { track = with_answer running.track ask; work = work_with_answer running.work ask reply }
+
+-- The kept task does not wait: it has not passed; or it is marked and its asks are answered; or its work goes on.
+abbrev pub goes_on : Running → List Doc → Bool
+goes_on running writes = running.is_new || (if is_some running.track.closed then unanswered running.track == 0 else not (does_wait (next_of running.work writes)))

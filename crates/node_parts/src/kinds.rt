@@ -1,0 +1,40 @@
+//! What is so of a request by its kind: the action of its task, and where it is worked.
+
+ghost use Rattle.std.specs.Prelude.{◌≡◌};
+ghost use Rattle.task_events.specs.Kinds.{kind_of, action_of, node_for};
+
+use shard_docs::node_of;
+use task_events::Request;
+use task_ids::{Action, Cluster, TaskId};
+
+/// The action of the task that a request asks for.
+pub fn action_of(request: &Request) -> Action
+    ensures { result ≡ action_of request.now }
+{
+    match request {
+        Request::Search(_) => Action::Search,
+        Request::Query(_) => Action::Query,
+        Request::Fetch(_) => Action::Fetch,
+    }
+}
+
+/// The shard on which a request is worked, from 0, if it is one of a shard.
+pub fn shard_of(request: &Request) -> Option<u32>
+    ensures { result ≡ (kind_of request.now).shard }
+{
+    match request {
+        Request::Search(_) => None,
+        Request::Query(ask) => Some(ask.get().shard),
+        Request::Fetch(ask) => Some(ask.get().shard),
+    }
+}
+
+/// The node on which a request of the task is worked, from 1: that of its shard, or else the task's own.
+pub fn node_for(task: TaskId, request: &Request, cluster: &Cluster) -> u32
+    ensures { result ≡ node_for cluster.now task request.now }
+{
+    match shard_of(request) {
+        Some(shard) => node_of(shard, cluster.nodes),
+        None => task.node,
+    }
+}

@@ -1,0 +1,174 @@
+-- What a search asks for, in the order of its plan.
+use Rattle.std.proofs.Common.{◌≡◌, ◌⊎◌, ◌≤◌, ◌<◌, ℕ, zero, suc, ◌+◌, Bool, true, false, cond, List, [], ◌∷◌, ◌++◌, length, map, take, Option, Some, None, refl, sym, ap, subst, ◌∙◌, inl, inr, arith}
+use Rattle.std.specs.Prelude.{is_some, not, nat_lt, slice_get, filter, filter_map, option_and_then}
+use Rattle.std.specs.List.{AllByRecursion, cons_option, list_all, range_with_len}
+use Rattle.std.proofs.lemmas.Bool.{cases_lt}
+use Rattle.std.proofs.lemmas.Bool.Decides.{nat_tests}
+use Rattle.std.proofs.lemmas.List.{length-map, map-append, length-take}
+use Rattle.std.proofs.lemmas.Option.{slice_get_within}
+use Rattle.task_ids.specs.declared.task_id.TaskId.{TaskId}
+use Rattle.task_ids.specs.declared.cluster.Cluster.{Cluster}
+use Rattle.task_ids.specs.declared.corpus.Corpus.{Corpus}
+use Rattle.task_ids.specs.declared.doc.Doc.{Doc}
+use Rattle.child_track.specs.Token.{Token}
+use Rattle.child_track.specs.Track.{with_ask}
+use Rattle.task_table.specs.Table.{Table}
+use Rattle.task_events.specs.declared.request.SearchAsk.{SearchAsk}
+use Rattle.task_events.specs.declared.request.Request.{Request}
+use Rattle.task_events.specs.declared.request.Request.TheVariants.{Search, Query, Fetch}
+use Rattle.task_events.specs.declared.reply.Reply.{Reply}
+use Rattle.task_events.specs.declared.step.Asked.{Asked}
+use Rattle.task_events.specs.declared.step.Do.TheVariants.{AskNext}
+use Rattle.task_events.specs.declared.event.Event.{Event}
+use Rattle.task_events.specs.declared.event.Event.TheVariants.{Ask}
+use Rattle.task_events.specs.Same.{same_task, same_pair}
+use Rattle.task_events.specs.Tasks.{is_live, is_new, child_of}
+use Rattle.task_events.specs.Asks.{last_ask, request_of_ask, rejection_of, answer_of}
+use Rattle.task_events.specs.Steps.{asked_by, turns_of, request_of}
+use Rattle.task_events.specs.Kinds.{node_for}
+use Rattle.task_events.specs.Searches.{top_of, tops_in, winners_among, has_winner, won_tops, fetch_of, fetches_of, has_queried, requests_of}
+use Rattle.task_events.specs.Looking.{work_or_end}
+use Rattle.task_events.specs.SearchTask.{ask_or_end}
+use Rattle.task_events.specs.Messages.{Message, in_flight}
+use Rattle.task_events.specs.Messages.Message.{Request as a_request, Answer as an_answer, Ban as a_ban}
+use Rattle.task_events.specs.Laws.{IsTold}
+use Rattle.task_events.specs.Lawful.{AwaitsNoMark, Lawful}
+use Rattle.task_events.specs.Bans.{mark_of}
+use Rattle.task_laws.proofs.Same.{same_tests}
+use Rattle.task_laws.proofs.Asks.{AskFacts, ask_facts}
+use Rattle.task_laws.proofs.Content.{AnswerFacts, answer_facts, told}
+use Rattle.task_laws.proofs.Reach.{reach_facts}
+use Rattle.search_phase.specs.Searching.{Searching, wants_to_ask, next_step, is_above}
+use Rattle.search_phase.specs.Searching as searching
+use Rattle.search_phase.proofs.Asks.{requests_of-ask, EachAnswer-ask}
+use Rattle.search_phase.proofs.Requests.{length-requests_before, length-requests_after}
+use Rattle.task_work.specs.declared.work.Work.{Work}
+use Rattle.task_work.specs.declared.work.Work.TheVariants as works
+use Rattle.task_work.specs.Works.{IsWorkOn, next_of, can_ask, work_with_ask}
+use Rattle.script_lang.specs.declared.command.Script.{Script}
+use Rattle.world_moves.specs.declared.flight.Sent.{Sent}
+use Rattle.world_moves.specs.declared.flight.Sent.TheVariants as sent
+use Rattle.node_parts.specs.declared.running.Running.{Running}
+use Rattle.node_parts.specs.Running.{PlansToAsk, next_number, running_with_ask}
+use Rattle.world_moves.specs.Facts.{facts_of, awaited_by, requested_by}
+use Rattle.world_moves.specs.Flights.{message_of}
+use Rattle.world_moves.specs.Roots.{root_request}
+use Rattle.world_moves.specs.Ties.{Ties, Runs, WorksFor, IsGood}
+use Rattle.world_moves.specs.SearchRuns.{SearchesFor}
+use Rattle.world_moves.specs.Good.{IsGoodReply, written}
+use Rattle.world_moves.proofs.FactsAfter.{at_ask}
+use Rattle.world_moves.proofs.FlightAfter.{all_stay, event_newest}
+use Rattle.world_moves.proofs.Kept.{kept_after}
+use Rattle.world_moves.proofs.Listed.{listed_same}
+use Rattle.world_moves.proofs.ByPlace.{all_push}
+use Rattle.world_moves.proofs.Requested.{length-grown, awaited_counted}
+use Rattle.world_moves.proofs.StepsAfter.{kept_running}
+
+-- ---- what a search asks for
+
+take-grown : {X : Type 0} (n : ℕ) (xs : List X) (x : X) → slice_get xs n ≡ Some x → take (suc n) xs ≡ take n xs ++ x ∷ []
+take-grown n [] x e = absurd (cc)
+take-grown zero (y ∷ ys) x e = let same : y ≡ x = cc in rw same refl
+take-grown (suc n) (y ∷ ys) x e = ap (λ l. y ∷ l) (take-grown n ys x e)
+
+-- numbers from b on
+numbered-grown : (b : ℕ) (asked : List Asked) (a : Asked) → map (λ a. a.ask) asked ≡ range_with_len b (length asked) → a.ask ≡ b + length asked
+    → map (λ a. a.ask) (asked ++ a ∷ []) ≡ range_with_len b (length (asked ++ a ∷ []))
+numbered-grown b [] a e n = let m : a.ask ≡ b = omega arith in ap (λ k. k ∷ []) m
+numbered-grown b (c ∷ asked) a e n =
+    let here : c.ask ≡ b = cc in
+    let later = numbered-grown (b + 1) asked a (cc) (omega arith) in
+    cc
+
+above : (b n : ℕ) (asked : List Asked) → map (λ a. a.ask) asked ≡ range_with_len b (length asked) → b + length asked ≤ n → list_all (λ a. nat_lt a.ask n) asked ≡ true
+above b n [] e l = refl
+above b n (c ∷ asked) e l =
+    let here : c.ask ≡ b = cc in
+    let low : nat_lt c.ask n ≡ true = grind (arith, nat_tests) in
+    rw low (above (b + 1) n asked (cc) (omega arith))
+
+asks_what : (o : Option Request) (answered : Bool) (reply : Reply) (request : Request) → ask_or_end o answered reply ≡ AskNext request → o ≡ Some request
+asks_what (Some r) answered reply request e = cc
+asks_what None true reply request e = absurd (cc)
+asks_what None false reply request e = absurd (cc)
+
+module _ (cluster : Cluster) (corpus : Corpus) (t : TaskId) (asked : List Asked) (requests : List Request) (awaited : List (Option ℕ)) (request : Request) where
+  as_many_asked : (ask : SearchAsk) (s : Searching) → SearchesFor cluster corpus t ask asked requests awaited s → length awaited ≡ length asked
+  as_many_asked ask s x =
+      let e : length (map (λ a. is_some a.answer) asked) ≡ length (map (λ o. not (is_some o)) awaited) = ap length x.answered in
+      omega (arith, length-map asked (λ a. is_some a.answer), length-map awaited (λ o. not (is_some o)))
+
+  request_next : (ask : SearchAsk) (s : Searching) → SearchesFor cluster corpus t ask asked requests awaited s → next_step s ≡ AskNext request → slice_get (requests_of ask cluster.shards asked) (length asked) ≡ Some request
+  request_next ask s x plans = subst (λ z. slice_get (requests_of z.ask z.shards z.asked) (length z.asked) ≡ Some request) x.state_is (asks_what _ _ _ request plans)
+
+  pub searches_on : (ask : SearchAsk) (s : Searching) (k n : ℕ) → SearchesFor cluster corpus t ask asked requests awaited s → next_step s ≡ AskNext request → k ≡ length awaited + 1
+      → SearchesFor cluster corpus t ask (asked ++ record { ask = k; answer = None } ∷ []) (requests ++ request ∷ []) (awaited ++ Some n ∷ []) (searching.with_ask s k)
+  searches_on ask s k n x plans number =
+      let a : Asked = record { ask = k; answer = None } in
+      let as_many : length awaited ≡ length asked = as_many_asked ask s x in
+      let longer : length (asked ++ a ∷ []) ≡ suc (length asked) = omega (arith, length-grown asked a) in
+      record {
+        state_is = ap (λ z. searching.with_ask z k) x.state_is;
+        numbered = numbered-grown 1 asked a x.numbered (omega arith);
+        planned =
+            ap (λ l. l ++ request ∷ []) x.planned
+            ∙ sym (take-grown (length asked) (requests_of ask cluster.shards asked) request (request_next ask s x plans))
+            ∙ ap (λ l. take (suc (length asked)) l) (sym (requests_of-ask ask cluster.shards asked k))
+            ∙ ap (λ m. take m (requests_of ask cluster.shards (asked ++ a ∷ []))) (sym longer);
+        as_many = let e = x.as_many in omega (arith, length-grown requests request);
+        answered =
+            map-append (λ a. is_some a.answer) asked (a ∷ [])
+            ∙ ap (λ l. l ++ false ∷ []) x.answered
+            ∙ sym (map-append (λ o. not (is_some o)) awaited (Some n ∷ []));
+        good = EachAnswer-ask (IsGoodReply cluster corpus) s k x.good;
+      }
+
+  pub may_ask : (ask : SearchAsk) (s : Searching) → SearchesFor cluster corpus t ask asked requests awaited s → next_step s ≡ AskNext request → can_ask (works.Search s) (length awaited + 1) ≡ true
+  may_ask ask s x plans =
+      let as_many : length awaited ≡ length asked = as_many_asked ask s x in
+      let wants : wants_to_ask (next_step s) ≡ true = ap wants_to_ask plans in
+      let high : is_above (length awaited + 1) s.asked ≡ true = subst (λ z. is_above (length awaited + 1) z.asked ≡ true) (sym x.state_is) (above 1 (length awaited + 1) asked x.numbered (omega arith)) in
+      rw (wants, high) refl
+
+-- ---- how many
+
+filtered : {X : Type 0} (p : X → Bool) (xs : List X) → length (filter p xs) ≤ length xs
+filtered p [] = omega arith
+filtered p (x ∷ xs) = one_more (p x) x (filter p xs) (length xs) (filtered p xs)
+  where
+    one_more : {X : Type 0} (b : Bool) (x : X) (ys : List X) (n : ℕ) → length ys ≤ n → length (cond b (x ∷ ys) ys) ≤ suc n
+    one_more true x ys n l = omega arith
+    one_more false x ys n l = omega arith
+
+mapped : {X Y : Type 0} (f : X → Option Y) (xs : List X) → length (filter_map f xs) ≤ length xs
+mapped f [] = omega arith
+mapped f (x ∷ xs) = one_more (f x) (filter_map f xs) (length xs) (mapped f xs)
+  where
+    one_more : {Y : Type 0} (o : Option Y) (ys : List Y) (n : ℕ) → length ys ≤ n → length (cons_option o ys) ≤ suc n
+    one_more None ys n l = omega arith
+    one_more (Some y) ys n l = omega arith
+
+-- a search asks each shard at most twice
+requests_few : (ask : SearchAsk) (shards : ℕ) (asked : List Asked) → length (requests_of ask shards asked) ≤ shards + shards
+requests_few ask shards asked = by_case (has_queried shards asked) refl
+  where
+    by_case : (b : Bool) → has_queried shards asked ≡ b → length (requests_of ask shards asked) ≤ shards + shards
+    by_case false e = let n = length-requests_before ask shards asked e in omega arith
+    by_case true e =
+        let n = length-requests_after ask shards asked e in
+        let tops = tops_in shards asked in
+        let fetches : length (fetches_of ask tops) ≡ length (won_tops ask.body tops) = length-map (won_tops ask.body tops) (fetch_of ask (winners_among ask.body tops)) in
+        let won : length (won_tops ask.body tops) ≤ length tops = filtered (has_winner (winners_among ask.body tops)) tops in
+        let answered : length tops ≤ length (take shards asked) = mapped (λ a. option_and_then top_of a.answer) (take shards asked) in
+        let first : length (take shards asked) ≤ shards = omega (arith, length-take shards asked) in
+        omega arith
+
+pub few_asks : (cluster : Cluster) (corpus : Corpus) (t : TaskId) (asked : List Asked) (requests : List Request) (awaited : List (Option ℕ)) (request : Request) (ask : SearchAsk) (s : Searching)
+    → SearchesFor cluster corpus t ask asked requests awaited s → next_step s ≡ AskNext request → length awaited + 1 < 4294967296
+few_asks cluster corpus t asked requests awaited request ask s x plans =
+    let as_many = as_many_asked cluster corpus t asked requests awaited request ask s x in
+    let next = request_next cluster corpus t asked requests awaited request ask s x plans in
+    let below : length asked < length (requests_of ask cluster.shards asked) = slice_get_within (requests_of ask cluster.shards asked) (length asked) request next in
+    let few = requests_few ask cluster.shards asked in
+    let shards : cluster.shards ≤ 15 = cluster.shards_in_range.1 in
+    omega arith
