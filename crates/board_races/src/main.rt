@@ -19,6 +19,14 @@ use std::process::ExitCode;
 use std::rt::Env;
 use std::thread::Threads;
 
+/// The number that a text writes in decimal digits, without a sign or a leading zero.
+fn number(text: &str) -> Option<u32> {
+    if text.starts_with('+') || (text.len() > 1 && text.starts_with('0')) {
+        return None;
+    }
+    text.parse::<u32>().ok()
+}
+
 /// The number of rounds, which is the one word after the program's name.
 fn rounds<R: Env + AllocGlobal>(rt: &R) -> Option<u32> {
     let Ok(args) = env::args(rt) else {
@@ -29,7 +37,7 @@ fn rounds<R: Env + AllocGlobal>(rt: &R) -> Option<u32> {
     if args.next().is_some() {
         return None;
     }
-    word.parse::<u32>().ok()
+    number(word.as_str())
 }
 
 /// Races the rounds one after the other.
