@@ -1,2 +1,11 @@
+pub mod BulkFields
+pub mod Bulks
+pub mod Counts
+pub mod RootFields
+pub mod RootWork
+pub mod Roots
+pub mod Searching
+pub mod SliceFields
+pub mod Slices
 pub mod Writes
 pub mod Writing

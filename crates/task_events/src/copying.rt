@@ -108,8 +108,8 @@ impl FetchAsk {
     }
 }
 
-/// Equal documents, in the same order.
-fn copy_docs(docs: &Items<Doc>) -> Result<Items<Doc>, AllocError>
+/// Equal documents, in the same order. It fails only for want of memory.
+pub fn copy_docs(docs: &Items<Doc>) -> Result<Items<Doc>, AllocError>
     ensures { IfOk result (λ copies. copies ≡ docs.now) }
 {
     let mut copies = Vec::with_capacity(docs.allocator(), docs.as_slice().len())?;

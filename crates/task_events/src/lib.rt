@@ -9,7 +9,7 @@ mod request;
 mod step;
 mod stop;
 
-pub use copying::copy_hits;
+pub use copying::{copy_docs, copy_hits};
 pub use event::{Event, Outcome};
 pub use history::{History, MAX_EVENTS, PushError};
 pub use reply::{Counts, FailedShard, Hit, Reply, SearchReply, ShardCount, ShardFailure, ShardTop};

@@ -1,0 +1,61 @@
+//! A batch of documents, by the shards in which they lie.
+
+ghost use Rattle.std.specs.Prelude.{◌≡◌, ◌<◌, ◌≤◌, ◌==◌, ◌++◌, filter, length, IfOk, OnOk};
+ghost use Rattle.task_ids.specs.Placing as placed;
+ghost use Rattle.reindex.specs.Bulks.{part_list, parts_of};
+
+use shard_docs::shard_of;
+use std::alloc::{AllocError, Global};
+use task_events::{BulkAsk, BulkShardAsk};
+use task_ids::{Doc, Items, Text};
+
+/// Copies of the documents that lie in a shard, where their index has so many.
+fn docs_in(alloc: Global, docs: &[Doc], shards: u32, shard: u32) -> Result<Vec<Doc>, AllocError>
+    requires { 0 < shards }
+    ensures { IfOk result (λ found. found.items
+        ≡ filter (λ doc. placed.shard_of doc.id shards == shard) docs.now) }
+{
+    let mut found = Vec::new(alloc);
+    for doc in docs {
+        if shard_of(doc.id.as_str().as_bytes(), shards) == shard {
+            found.push(doc.copy()?)?;
+        }
+    }
+    Ok(found)
+}
+
+/// Adds the part of a shard, where it has a document.
+fn add_part(
+    parts: &mut Vec<BulkShardAsk>,
+    index: &Text,
+    shard: u32,
+    docs: Vec<Doc>,
+) -> Result<(), AllocError>
+    ensures { OnOk result (parts.new.items ≡ parts.old.items ++ part_list index.now shard docs.items) }
+{
+    if docs.is_empty() {
+        return Ok(());
+    }
+    let dest = index.copy()?;
+    let docs = Items::from_vec(docs);
+    parts.push(BulkShardAsk { dest, shard, docs })?;
+    Ok(())
+}
+
+/// The documents of a batch, shard by shard, of each shard that has one.
+pub(crate) fn parts_of(
+    alloc: Global,
+    ask: &BulkAsk,
+    shards: u32,
+) -> Result<Vec<BulkShardAsk>, AllocError>
+    requires { 0 < shards }
+    ensures parts { IfOk result (λ parts. parts.items ≡ parts_of ask.now shards) }
+    ensures few { IfOk result (λ parts. length parts.items ≤ shards) }
+{
+    let mut parts = Vec::new(alloc);
+    for shard in 0..shards {
+        let docs = docs_in(alloc, ask.docs.as_slice(), shards, shard)?;
+        add_part(&mut parts, &ask.dest, shard, docs)?;
+    }
+    Ok(parts)
+}
