@@ -6,6 +6,7 @@ ghost use Rattle.throttle.specs.Waits.{per_second};
 ghost use Rattle.reindex.specs.Searching.{IsFirstSearch, pick_of};
 
 use query_match::{Items, SearchBody};
+use shared_value::Shared;
 use std::alloc::{AllocError, Global};
 use task_events::{ReindexAsk, SearchAsk, SlicePick};
 use task_ids::TaskId;
@@ -39,7 +40,7 @@ pub(crate) fn first_search(
     requires slice { slice < reindex.now.slices }
     ensures { IfOk result (λ search. IsFirstSearch task reindex.now slice shards search) }
 {
-    let index = reindex.source.copy()?;
+    let index = Shared::new(alloc, reindex.source.copy()?)?;
     let query = reindex.query.copy()?;
     let body = SearchBody {
         query,
@@ -47,6 +48,7 @@ pub(crate) fn first_search(
         from: 0,
         size: reindex.batch,
     };
+    let body = Shared::new(alloc, body)?;
     Ok(SearchAsk {
         index,
         body,
