@@ -12,7 +12,7 @@ fn doc(alloc: Global, id: &str, number: u32) -> Option<Doc> {
     let id = Text::new(String::from_str(alloc, id).ok()?);
     let source = format!(in alloc; "{{\"n\":{number}}}").ok()?;
     let value = Value::from_str(alloc, source.as_str()).ok()?;
-    let source = DocSource::new(value).ok()?;
+    let source = DocSource::new(alloc, value).ok()?;
     Some(Doc { id, source })
 }
 
