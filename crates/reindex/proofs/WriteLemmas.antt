@@ -6,7 +6,7 @@ use Rattle.task_events.specs.declared.request.WriteNote.{WriteNote}
 use Rattle.std.proofs.lemmas.Bool.{cases_lt}
 use Rattle.std.proofs.lemmas.List.Sums.{sum_by-cons}
 use Rattle.std.proofs.lemmas.List.{take_all, drop_all, length-take, length-drop}
-use Rattle.task_events.specs.Searches.{rows_per_turn}
+use Rattle.task_events.specs.Looking.{rows_per_turn}
 use Rattle.reindex.specs.Writes.{note_of, notes_of, BreaksOff}
 
 -- one document more

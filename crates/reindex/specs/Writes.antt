@@ -3,7 +3,7 @@ use Rattle.std.specs.Prelude.{◌≡◌, ℕ, ◌+◌, ◌≤◌, List, [], ◌�
 use Rattle.task_ids.specs.declared.doc.Doc.{Doc}
 use Rattle.task_ids.specs.Rows.{is_alive}
 use Rattle.task_events.specs.declared.request.WriteNote.{WriteNote}
-use Rattle.task_events.specs.Searches.{rows_per_turn}
+use Rattle.task_events.specs.Looking.{rows_per_turn}
 
 -- a document that is written after these writes is created where no document of its id is alive
 abbrev pub note_of : (index : List ℕ) → (shard : ℕ) → (writes : List Doc) → Doc → WriteNote

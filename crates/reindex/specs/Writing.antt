@@ -4,7 +4,7 @@ use Rattle.task_ids.specs.declared.doc.Doc.{Doc}
 use Rattle.task_events.specs.declared.request.BulkShardAsk.{BulkShardAsk}
 use Rattle.task_events.specs.declared.request.WriteNote.{WriteNote}
 use Rattle.task_events.specs.declared.reply.Counts.{Counts}
-use Rattle.task_events.specs.Searches.{rows_per_turn}
+use Rattle.task_events.specs.Looking.{rows_per_turn}
 use Rattle.reindex.specs.Writes.{notes_of, BreaksOff}
 
 -- what is still to be written to a shard of an index, and what was written

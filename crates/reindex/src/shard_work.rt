@@ -2,7 +2,7 @@
 
 ghost use Rattle.std.specs.Prelude.{◌≡◌, ◌++◌, ◌+◌, ℕ, false, length, IfOk, OnOk, OnErr};
 ghost use Rattle.task_events.specs.declared.request.BulkShardAsk.{BulkShardAsk};
-ghost use Rattle.task_events.specs.Searches.{is_done};
+ghost use Rattle.task_events.specs.Looking.{is_done};
 ghost use Rattle.reindex.specs.Writing.{IsWritingOf, StopsShort, new_writing, next_docs, is_written, after_turn, counts_of};
 ghost use Rattle.reindex.specs.Writes.{notes_of};
 

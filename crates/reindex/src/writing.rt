@@ -1,7 +1,7 @@
 //! Writing documents to a shard.
 
 ghost use Rattle.std.specs.Prelude.{◌≡◌, ◌∷◌, [], ◌++◌, take, drop, count_by, not, IfOk, OnOk, OnErr};
-ghost use Rattle.task_events.specs.Searches.{rows_per_turn};
+ghost use Rattle.task_events.specs.Looking.{rows_per_turn};
 ghost use Rattle.reindex.specs.Writes.{note_of, notes_of, BreaksOff};
 
 use shard_docs::{Shard, Written};

@@ -1,7 +1,7 @@
 use Rattle.std.proofs.Common.{◌≡◌, length, not, ap, ◌∙◌, arith}
 use Rattle.std.specs.Prelude.{count_by}
 use Rattle.task_events.specs.declared.request.WriteNote.{WriteNote}
-use Rattle.task_events.specs.Searches.{rows_per_turn}
+use Rattle.task_events.specs.Looking.{rows_per_turn}
 use Rattle.reindex.proofs.WriteLemmas.{counts_and_rest}
 use Rattle.reindex.proofs.shard_work.BulkShardWork.turn.Goals as goal
 
