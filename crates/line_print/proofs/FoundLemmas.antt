@@ -28,7 +28,7 @@ same_move script k (e ∷ es) idle other h = refl
 
 same_line : (cluster : Cluster) (corpus : Corpus) (script : List Command) (history : List Event) (k : ℕ) (command : Command) (idle other : Option Idle) → (events_of k history ≡ [] → idle ≡ other)
     → line_of cluster corpus script history k command idle ≡ line_of cluster corpus script history k command other
-same_line cluster corpus script history k (Search index node body) idle other h = refl
+same_line cluster corpus script history k (Search index node body opaque_id) idle other h = refl
 same_line cluster corpus script history k (Cancel target reason wait) idle other h = refl
 same_line cluster corpus script history k Settle idle other h = refl
 same_line cluster corpus script history k History idle other h = refl

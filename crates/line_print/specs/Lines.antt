@@ -167,7 +167,7 @@ settled events = object_of ((codes "events", count events) ∷ [])
 
 -- The line of a command. The last is why it makes nothing happen, which tells only where nothing happened.
 abbrev pub line_of : Cluster → Corpus → List Command → List Event → ℕ → Command → Option Idle → List ℕ
-line_of cluster corpus script history k (commands.Search index node body) idle =
+line_of cluster corpus script history k (commands.Search index node body opaque_id) idle =
     search_line cluster.shards script k (refusal index (body_at false 0 body) (is_known corpus index) (first_in full_node_in (events_of k history))) (option_and_then (λ t. reply_of t history) (started k history))
 line_of cluster corpus script history k (commands.Cancel target reason wait) idle = cancel_line k (target_in script history target) wait (events_of k history)
 line_of cluster corpus script history k commands.Settle idle = reply_line k (settled (length (events_of k history)))

@@ -1,11 +1,13 @@
 //! What is so of a request by its kind: the action of its task, and where it is worked.
 
-ghost use Rattle.std.specs.Prelude.{◌≡◌};
-ghost use Rattle.task_events.specs.Kinds.{kind_of, action_of, node_for};
+ghost use Rattle.std.specs.Prelude.{◌≡◌, IfOk};
+ghost use Rattle.task_events.specs.Kinds.{kind_of, action_of, description_of, node_for};
+ghost use Rattle.task_events.specs.Looking.{shard_description};
 
 use shard_docs::node_of;
+use std::alloc::{AllocError, Global};
 use task_events::Request;
-use task_ids::{Action, Cluster, TaskId};
+use task_ids::{Action, Cluster, TaskId, Text};
 
 /// The action of the task that a request asks for.
 pub fn action_of(request: &Request) -> Action
@@ -15,6 +17,33 @@ pub fn action_of(request: &Request) -> Action
         Request::Search(_) => Action::Search,
         Request::Query(_) => Action::Query,
         Request::Fetch(_) => Action::Fetch,
+    }
+}
+
+/// What work on a shard of an index is called.
+fn shard_description(alloc: Global, index: &str, shard: u32) -> Result<Text, AllocError>
+    ensures { IfOk result (λ text. text ≡ shard_description index.now shard) }
+{
+    Ok(Text::new(format!(in alloc; "shardId[[{index}][{shard}]]")?))
+}
+
+/// What the task that a request asks for works on, as a detailed task list shows it. It fails only for want of memory.
+pub fn description_of(alloc: Global, request: &Request) -> Result<Text, AllocError>
+    ensures { IfOk result (λ text. text ≡ description_of request.now) }
+{
+    match request {
+        Request::Search(ask) => {
+            let index = ask.get().index.get().as_str();
+            Ok(Text::new(format!(in alloc; "indices[{index}]")?))
+        }
+        Request::Query(ask) => {
+            let ask = ask.get();
+            shard_description(alloc, ask.index.get().as_str(), ask.shard)
+        }
+        Request::Fetch(ask) => {
+            let ask = ask.get();
+            shard_description(alloc, ask.index.get().as_str(), ask.shard)
+        }
     }
 }
 

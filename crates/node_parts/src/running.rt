@@ -8,6 +8,7 @@ ghost use Rattle.node_parts.specs.Running.{next_number, running_with_ask, runnin
 
 use child_track::{AskError, AskToken, ChildTrack, Receipt};
 use task_events::{Reply, Stop};
+use task_ids::Headers;
 use task_table::Ticket;
 use task_work::Work;
 
@@ -21,6 +22,8 @@ pub struct Running {
     pub work: Work,
     /// It was put and has not passed.
     pub is_new: bool,
+    /// What its request carried, which the requests of its own carry on.
+    pub headers: Headers,
 }
 
 impl Running {
@@ -70,7 +73,9 @@ impl Running {
             track,
             work,
             is_new: _,
+            headers,
         } = self;
+        drop(headers);
         drop(work);
         (ticket, track)
     }
@@ -84,8 +89,10 @@ impl Drop for Running {
             track,
             work,
             is_new: _,
+            headers,
         } = self;
         ticket.give_up();
+        drop(headers);
         drop(work);
         drop(track);
     }

@@ -1,48 +1,64 @@
 //! What a request makes: a task of its kind, with its work.
 
-ghost use Rattle.std.specs.Prelude.{◌≡◌, [], List, None, IfOk, IfErr};
+ghost use Rattle.std.specs.Prelude.{◌≡◌, List, IfOk, IfErr};
 ghost use Rattle.child_track.specs.Track.{new_track};
-ghost use Rattle.task_events.specs.Kinds.{action_of};
+ghost use Rattle.task_events.specs.Kinds.{action_of, description_of};
 ghost use Rattle.task_ids.specs.declared.doc.Doc.{Doc};
 ghost use Rattle.task_work.specs.Works.{IsWorkOn, new_work};
 
-use crate::kinds::action_of;
+use crate::kinds::{action_of, description_of};
 use crate::running::Running;
 use child_track::ChildTrack;
-use std::alloc::Global;
+use std::alloc::{AllocError, Global};
 use task_events::{Request, Stop};
-use task_ids::{Cluster, Headers, NewTask, TaskId, Text};
+use task_ids::{Cluster, Headers, NewTask, TaskId};
 use task_table::Ticket;
 use task_work::Work;
 
-/// The task that a request asks for: of its kind, and so far without a description, a time or a client's id.
-pub fn new_task(alloc: Global, request: &Request, parent: Option<TaskId>) -> NewTask
-    ensures action { result.action ≡ action_of request.now }
-    ensures parent { result.parent ≡ parent }
-    ensures bare { (result.description ≡ []) × (result.start_ms ≡ 0) × (result.headers.opaque_id ≡ None) }
+/// The task that a request asks for, which carries these headers: of its kind, with what it works on, and as one that starts at
+/// this moment, in milliseconds. It fails only for want of memory.
+pub fn new_task(
+    alloc: Global,
+    request: &Request,
+    parent: Option<TaskId>,
+    start_ms: u64,
+    headers: &Headers,
+) -> Result<NewTask, AllocError>
+    ensures { IfOk result (λ task. task ≡ record {
+      action = action_of request.now;
+      description = description_of request.now;
+      start_ms = start_ms;
+      parent = parent;
+      headers = headers.now;
+    }) }
 {
-    NewTask {
+    let description = description_of(alloc, request)?;
+    let headers = headers.copy()?;
+    Ok(NewTask {
         action: action_of(request),
-        description: Text::new(String::new(alloc)),
-        start_ms: 0,
+        description,
+        start_ms,
         parent,
-        headers: Headers { opaque_id: None },
-    }
+        headers,
+    })
 }
 
-/// The task of a ticket, with the work that is asked of it. Where memory runs out (`Memory`) the ticket is given up.
+/// The task of a ticket, with the work that is asked of it and what its request carried. Where memory runs out (`Memory`) the ticket
+/// is given up.
 pub fn with_work(
     alloc: Global,
     ticket: Ticket,
     request: &Request,
     cluster: &Cluster,
     is_new: bool,
+    headers: Headers,
 ) -> Result<Running, Stop>
     ensures running { IfOk result (λ running. running ≡ record {
       ticket = ticket;
       track = new_track ticket.id;
       work = new_work ticket.id request.now cluster.now.shards;
       is_new = is_new;
+      headers = headers;
     }) }
     ensures begun { (writes : List Doc) → IfOk result (λ running. IsWorkOn running.work writes) }
     ensures err { IfErr result (λ stop. stop ≡ Stop.Memory) }
@@ -54,8 +70,10 @@ pub fn with_work(
             track: ChildTrack::new(alloc, task),
             work,
             is_new,
+            headers,
         }),
         Err(_) => {
+            drop(headers);
             ticket.give_up();
             Err(Stop::Memory)
         }

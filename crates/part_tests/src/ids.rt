@@ -88,7 +88,7 @@ fn copied_row(alloc: Global) -> Result<TaskInfo, AllocError> {
         start_ms: 5,
         parent: Some(TaskId { node: 1, number: 1 }),
         headers: Headers {
-            opaque_id: Some(text(alloc, "q7")?),
+            opaque_id: Some(Shared::new(alloc, text(alloc, "q7")?)?),
         },
         cancelled: Some(4),
     };

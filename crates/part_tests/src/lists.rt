@@ -36,7 +36,7 @@ fn row(
     parent: Option<TaskId>,
 ) -> Result<TaskInfo, AllocError> {
     let description = Text::new(String::from_str(alloc, description)?);
-    let opaque_id = Text::new(String::from_str(alloc, "q7")?);
+    let opaque_id = Shared::new(alloc, Text::new(String::from_str(alloc, "q7")?))?;
     Ok(TaskInfo {
         id,
         action,

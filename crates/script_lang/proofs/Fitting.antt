@@ -99,7 +99,7 @@ module _ (nodes : ℕ) (some : 1 ≤ nodes) (before : List Command) where
   search_fits value command e =
       let found = first_ok (search_parts nodes value) _ command e in
       let parts = first_ok (fields_of search_fields built_search_fields value) _ found.0 found.1 in
-      let same : Search found.0.0 found.0.1.0 found.0.1.1 ≡ command = cc (found.2) in
+      let same : Search found.0.0 found.0.1.0 found.0.1.1 None ≡ command = cc (found.2) in
       let node = both_first _ _ found.0.1 (both_second _ _ found.0 parts.2) in
       subst (Fits nodes before) same (node_or_first_fits nodes (get_member (codes "node") parts.0) found.0.1.0 some node)
 

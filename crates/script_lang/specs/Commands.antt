@@ -44,7 +44,7 @@ search_parts nodes value = do
 unfoldable pub search_in : ℕ → Data → Result Command Cause
 search_in nodes value = do
   found ← search_parts nodes value
-  Ok (Search found.0 found.1.0 found.1.1)
+  Ok (Search found.0 found.1.0 found.1.1 None)
 
 -- what a cancel after some commands names, its reason, and whether it waits
 unfoldable pub cancel_parts : List Command → Data → Result (CancelTarget × (List ℕ × Bool)) Cause

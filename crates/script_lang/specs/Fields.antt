@@ -10,7 +10,7 @@ use Rattle.shard_docs.specs.Fault.{◌>>=◌}
 use Rattle.script_lang.specs.declared.command.CancelTarget.{CancelTarget}
 use Rattle.script_lang.specs.declared.command.CancelTarget.TheVariants as targets
 use Rattle.script_lang.specs.declared.command.Command.{Command}
-use Rattle.script_lang.specs.declared.command.Command.TheVariants.{Search, Cancel, Deliver, Step, ListStep, Settle, History}
+use Rattle.script_lang.specs.declared.command.Command.TheVariants.{Search, Cancel, ListTasks, Deliver, Step, ListStep, Settle, History}
 use Rattle.script_lang.specs.Names.{task_id_of, is_one_of, node_of}
 
 -- ---- which cause counts
@@ -126,8 +126,9 @@ truth_in value = truth_of (as_bool value)
 -- ---- what a cancel names
 
 abbrev pub starts_task : Command → Bool
-starts_task (Search index node body) = true
+starts_task (Search index node body opaque_id) = true
 starts_task (Cancel target reason wait) = false
+starts_task (ListTasks filter group detailed) = false
 starts_task (Deliver nth) = false
 starts_task (Step task) = false
 starts_task (ListStep node parent) = false

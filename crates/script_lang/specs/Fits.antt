@@ -3,7 +3,7 @@ use Rattle.std.specs.Prelude.{◌≡◌, ℕ, ◌≤◌, List, [], ◌∷◌, �
 use Rattle.script_lang.specs.declared.command.CancelTarget.{CancelTarget}
 use Rattle.script_lang.specs.declared.command.CancelTarget.TheVariants as targets
 use Rattle.script_lang.specs.declared.command.Command.{Command}
-use Rattle.script_lang.specs.declared.command.Command.TheVariants.{Search, Cancel, Deliver, Step, ListStep, Settle, History}
+use Rattle.script_lang.specs.declared.command.Command.TheVariants.{Search, Cancel, ListTasks, Deliver, Step, ListStep, Settle, History}
 use Rattle.script_lang.specs.Fields.{starts_at}
 
 -- a node of a cluster of so many
@@ -13,12 +13,14 @@ IsNodeOf nodes node = (1 ≤ node) × (node ≤ nodes)
 -- a command that is named comes before and starts a task
 abbrev pub NamesStart : List Command → CancelTarget → Type 0
 NamesStart before (targets.Task id) = Unit {0}
+NamesStart before (targets.Matching filter) = Unit {0}
 NamesStart before (targets.Command number) = starts_at before number ≡ true
 
 -- a command after others, on a cluster of so many nodes
 abbrev pub Fits : ℕ → List Command → Command → Type 0
-Fits nodes before (Search index node body) = IsNodeOf nodes node
+Fits nodes before (Search index node body opaque_id) = IsNodeOf nodes node
 Fits nodes before (Cancel target reason wait) = NamesStart before target
+Fits nodes before (ListTasks filter group detailed) = Unit {0}
 Fits nodes before (Deliver nth) = Unit {0}
 Fits nodes before (Step task) = Unit {0}
 Fits nodes before (ListStep node parent) = IsNodeOf nodes node

@@ -1,4 +1,6 @@
+use shared_value::Shared;
 use task_ids::{DocSource, Items, TaskId, Text};
+use tasks_api::{Filter, GroupBy};
 
 /// How a script runs: step by step in one order that it may choose, or on threads.
 #[derive(Clone, Copy, PartialEq, Eq)]
@@ -10,12 +12,14 @@ pub enum Mode {
 }
 
 /// What a cancel names.
-#[derive(Clone, Copy, PartialEq, Eq)]
+#[derive(Drop)]
 pub enum CancelTarget {
     /// A task by its id, whose node need not be of the cluster.
     Task(TaskId),
     /// The task of an earlier command that starts one, by the command's number, from 1.
     Command(u32),
+    /// Each live task that a filter lets through.
+    Matching(Filter),
 }
 
 /// A command of a script, its defaults filled in.
@@ -29,15 +33,26 @@ pub enum Command {
         node: u32,
         /// The query and what else a search has, which may have faults. It is empty where it is not written.
         body: DocSource,
+        /// The text by which a client knows what it started, if it is written. Each task that the search asks for carries it on.
+        opaque_id: Option<Shared<Text>>,
     },
     /// A cancel, after Elasticsearch's task cancellation.
     Cancel {
-        /// The task that it is about.
+        /// The task or the tasks that it is about.
         target: CancelTarget,
         /// Why, `by user request` where it is not written.
         reason: Text,
         /// Whether it is answered only once the tasks have ended; false where it is not written.
         wait: bool,
+    },
+    /// Shows the live tasks, after Elasticsearch's task management.
+    ListTasks {
+        /// Which of them.
+        filter: Filter,
+        /// How they are grouped, by their nodes where it is not written.
+        group: GroupBy,
+        /// Whether it tells what each works on; false where it is not written.
+        detailed: bool,
     },
     /// Delivers a message.
     Deliver {

@@ -117,6 +117,7 @@ fn search_in(alloc: Global, nodes: u32, value: &Value) -> Result<Command, Comman
         index: text_from(alloc, index)?,
         node,
         body: body_from(alloc, body)?,
+        opaque_id: None,
     })
 }
 

@@ -50,7 +50,7 @@ fn earlier(first: Cause, second: Cause) -> Cause
 }
 
 /// Two fields, or the earlier of their causes.
-pub(crate) fn both<A: Copy, B: Copy>(
+pub(crate) fn both<A: Drop, B: Drop>(
     first: Result<A, Cause>,
     second: Result<B, Cause>,
 ) -> Result<(A, B), Cause>

@@ -12,7 +12,7 @@ use Rattle.task_events.specs.declared.step.Do.{Do}
 use Rattle.task_events.specs.Answers.{fetched}
 use Rattle.task_events.specs.Documents.{writes_of}
 use Rattle.task_events.specs.Kind.{Kind}
-use Rattle.task_events.specs.Looking.{is_done, work_or_end}
+use Rattle.task_events.specs.Looking.{is_done, shard_description, work_or_end}
 
 -- a fetch looks up its places, and ends with their documents
 abbrev pub fetch_step : FetchAsk → ℕ → List Doc → Do
@@ -35,6 +35,7 @@ fetch_can_have ask _ = false
 abbrev pub fetch_task : FetchAsk → Kind
 fetch_task ask = record {
   action = actions.Fetch;
+  description = shard_description ask.index ask.shard;
   index = ask.index;
   shard = Some ask.shard;
   step = λ cluster corpus t asked turns. fetch_step ask turns (writes_of corpus cluster.shards ask.index ask.shard);

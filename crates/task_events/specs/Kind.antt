@@ -11,6 +11,8 @@ use Rattle.task_events.specs.declared.step.Do.{Do}
 pub record Kind : Type 0 where
   -- the action of its task
   pub action : Action
+  -- what its task works on, as a detailed task list shows it
+  pub description : List ℕ
   -- the index that it reads
   pub index : List ℕ
   -- the shard of that index on which it works, where it works on one

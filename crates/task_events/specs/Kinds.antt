@@ -1,5 +1,5 @@
 -- The kinds of tasks, and what is so of each request by its kind.
-use Rattle.std.specs.Prelude.{ℕ, Bool, true}
+use Rattle.std.specs.Prelude.{ℕ, List, Bool, true}
 use Rattle.std.specs.Option.{option_map_or}
 use Rattle.task_ids.specs.declared.action.Action.{Action}
 use Rattle.task_ids.specs.declared.cluster.Cluster.{Cluster}
@@ -22,6 +22,10 @@ kind_of (Fetch ask) = fetch_task ask
 -- the action of the task that a request asks for
 abbrev pub action_of : Request → Action
 action_of request = (kind_of request).action
+
+-- what that task works on, as a detailed task list shows it
+abbrev pub description_of : Request → List ℕ
+description_of request = (kind_of request).description
 
 -- the node on which a request of a task is worked: that of its shard, or else the task's own
 abbrev pub node_for : Cluster → TaskId → Request → ℕ

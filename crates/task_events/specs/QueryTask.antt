@@ -17,7 +17,7 @@ use Rattle.task_events.specs.Answers.{window, shard_top}
 use Rattle.task_events.specs.Documents.{writes_of}
 use Rattle.task_events.specs.HitOrder.{hit_cmp, is_after}
 use Rattle.task_events.specs.Kind.{Kind}
-use Rattle.task_events.specs.Looking.{is_done, work_or_end}
+use Rattle.task_events.specs.Looking.{is_done, shard_description, work_or_end}
 
 -- a query looks at the rows of a version, and ends with its top
 abbrev pub query_step : ShardAsk → ℕ → ℕ → List Doc → Do
@@ -48,6 +48,7 @@ query_can_have ask _ = false
 abbrev pub query_task : ShardAsk → Kind
 query_task ask = record {
   action = actions.Query;
+  description = shard_description ask.index ask.shard;
   index = ask.index;
   shard = Some ask.shard;
   step = λ cluster corpus t asked turns. query_step_in ask cluster corpus turns;

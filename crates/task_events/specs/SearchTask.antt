@@ -1,5 +1,5 @@
 -- A search: it asks for the query of each shard and then for fetches, and replies with the plain answer.
-use Rattle.std.specs.Prelude.{ℕ, ◌^◌, List, length, Bool, true, false, not, ◌&&◌, nat_lt, nat_le, Option, Some, None, is_some, slice_get}
+use Rattle.std.specs.Prelude.{ℕ, ◌^◌, List, ◌++◌, length, codes, Bool, true, false, not, ◌&&◌, nat_lt, nat_le, Option, Some, None, is_some, slice_get}
 use Rattle.task_ids.specs.declared.action.Action.TheVariants as actions
 use Rattle.task_ids.specs.declared.task_id.TaskId.{TaskId}
 use Rattle.task_events.specs.declared.request.Request.{Request}
@@ -40,6 +40,7 @@ search_can_have ask shards _ = false
 abbrev pub search_task : SearchAsk → Kind
 search_task ask = record {
   action = actions.Search;
+  description = codes "indices[" ++ ask.index ++ codes "]";
   index = ask.index;
   shard = None;
   step = λ cluster corpus t asked turns. search_step t ask cluster.shards asked;

@@ -1,6 +1,7 @@
 pub mod Action
 pub mod Cause
 pub mod DataCode
+pub mod Headers
 pub mod Limits
 pub mod Pattern
 pub mod Placing

@@ -3,16 +3,27 @@ ghost use Rattle.std.specs.Prelude.{◌≡◌, IfOk};
 use crate::action::Action;
 use crate::task_id::TaskId;
 use crate::text::Text;
+use shared_value::Shared;
 use std::alloc::AllocError;
 
-/// What a request carries beside its content, as Elasticsearch's `X-Opaque-Id`. A child has its parent's.
+/// What a request carries beside its content, as Elasticsearch's `X-Opaque-Id`. A child has its parent's, and shares it.
 #[derive(Drop)]
 pub struct Headers {
-    pub opaque_id: Option<Text>,
+    /// The text by which a client knows its requests, where it gave one.
+    pub opaque_id: Option<Shared<Text>>,
 }
 
 impl Headers {
-    /// Equal headers. It fails only for want of memory.
+    ghost use Rattle.task_ids.specs.Headers.{no_headers};
+
+    /// No header.
+    pub fn none() -> Headers
+        ensures { result ≡ no_headers }
+    {
+        Headers { opaque_id: None }
+    }
+
+    /// Equal headers, which share the text.
     pub fn copy(&self) -> Result<Headers, AllocError>
         ensures { IfOk result (λ headers. headers ≡ self.now) }
     {

@@ -133,6 +133,14 @@ impl TaskTable {
         None
     }
 
+    /// The live tasks, by ascending number.
+    pub fn live(&self) -> &[TaskInfo]
+        ensures live { result.now ≡ self.now.live }
+        ensures table { IsTable self.now }
+    {
+        self.rows.as_slice()
+    }
+
     /// Copies of the live tasks, by ascending number. It fails only for want of memory.
     pub fn rows(&self) -> Result<Vec<TaskInfo>, AllocError>
         ensures rows { IfOk result (λ rows. rows.items ≡ self.now.live) }

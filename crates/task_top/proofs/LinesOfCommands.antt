@@ -34,7 +34,7 @@ use Rattle.node_parts.specs.declared.listing.Listing.{Listing}
 use Rattle.world_moves.specs.Listings.{is_open}
 use Rattle.world_moves.specs.Moves.{IsStart}
 use Rattle.world_moves.specs.Plain.{AnswersPlainly}
-use Rattle.world_moves.specs.Roots.{command_at, root_request, whole_ask}
+use Rattle.command_roots.specs.Roots.{command_at, root_request, whole_ask}
 use Rattle.world_steps.specs.declared.acting.Stepped.{Stepped}
 use Rattle.world_steps.specs.declared.acting.Stepped.TheVariants.{Done, Waiting, NotRunning}
 use Rattle.world_steps.specs.Runs.{AnswersStep}
@@ -88,7 +88,7 @@ module _ (cluster : Cluster) (corpus : Corpus) (script : Script) (h : List Event
   -- ---- a search
 
   module _ (index : Text) (node : ℕ) (body : Data) (lawful : Lawful cluster h) (drained : IsDrained h) (plain : AnswersPlainly cluster corpus script h)
-      (at : command_at script k ≡ Some (commands.Search index node body)) (done : HasDone cluster corpus script k (commands.Search index node body) h) where
+      (at : command_at script k ≡ Some (commands.Search index node body opaque_id)) (done : HasDone cluster corpus script k (commands.Search index node body opaque_id) h) where
     started : (found : SearchBody) (t : TaskId) → root_request script k ≡ Some (asks.Search (whole_ask index found)) → done.after ≡ Root k t ∷ Begin k ∷ done.before → HasEnded k h
     started found t asked same = record {
       task = t;
@@ -217,7 +217,7 @@ module _ (cluster : Cluster) (corpus : Corpus) (script : Script) (h : List Event
 
 module _ (cluster : Cluster) (corpus : Corpus) (script : Script) (h : List Event) (lawful : Lawful cluster h) (drained : IsDrained h) (answered : AllAnswered h) (plain : AnswersPlainly cluster corpus script h) where
   by_command : (k : ℕ) (command : Command) → command_at script k ≡ Some command → HasDone cluster corpus script k command h → HasItsLine cluster corpus script h k command
-  by_command k (commands.Search index node body) at done = search_told cluster corpus script h k index node body lawful drained plain at done
+  by_command k (commands.Search index node body opaque_id) at done = search_told cluster corpus script h k index node body lawful drained plain at done
   by_command k (commands.Cancel target reason wait) at done = cancel_told cluster corpus script h k target reason wait answered done
   by_command k (commands.Deliver nth) at done = deliver_told cluster corpus script h k _ done nth done.does
   by_command k (commands.Step t) at done = step_told cluster corpus script h k _ done t done.does.0 done.does.1

@@ -60,7 +60,7 @@ module _ (cluster : Cluster) (corpus : Corpus) (commands : List Command) (h : Li
     full_refused (Ok found) true reply = error_prints k (rejected node)
     full_refused (Ok found) false reply = error_prints k (index_not_found index)
 
-    search_prints : (body : Data) → TellsSearch corpus index node body k h → (idle : Option Idle) → IsLine (line_of cluster corpus commands h k (Search index node body) idle)
+    search_prints : (body : Data) → TellsSearch corpus index node body k h → (idle : Option Idle) → IsLine (line_of cluster corpus commands h k (Search index node body opaque_id) idle)
     search_prints body (inl (fault, is, told)) idle = rw is (error_prints k (body_error fault))
     search_prints body (inr (inl unknown)) idle = rw unknown (unknown_refused (body_at false 0 body) (first_in full_node_in (events_of k h)) (option_and_then (λ t. reply_of t h) (started k h)))
     search_prints body (inr (inr (inl full))) idle = rw full (full_refused (body_at false 0 body) (is_known corpus index) None)
@@ -84,7 +84,7 @@ module _ (cluster : Cluster) (corpus : Corpus) (commands : List Command) (h : Li
 
 module _ (cluster : Cluster) (corpus : Corpus) (script : Script) (h : List Event) where
   by_command : (k : ℕ) (command : Command) → HasItsLine cluster corpus script h k command → IsLine (line_of cluster corpus script.commands h k command (idle_of command (history_before k h)))
-  by_command k (Search index node body) told = search_prints cluster corpus script.commands h k index node body told None
+  by_command k (Search index node body opaque_id) told = search_prints cluster corpus script.commands h k index node body told None
   by_command k (Cancel target reason wait) told = cancel_prints cluster corpus script.commands h k (target_in script.commands h target) wait (events_of k h)
   by_command k (Deliver nth) told = move_prints cluster corpus script.commands h k (events_of k h) (NoSuchMessage (length (in_flight (history_before k h))))
   by_command k (Step t) told = move_prints cluster corpus script.commands h k (events_of k h) (if is_live t (history_before k h) then Waiting else NotRunning)

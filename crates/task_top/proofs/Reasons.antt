@@ -26,7 +26,7 @@ use Rattle.world_moves.specs.Cancels.{after_cancel_of, is_due, target_of, waitin
 use Rattle.node_parts.specs.declared.listing.Listing.{Listing}
 use Rattle.world_moves.specs.Listings.{IsListStep, ListSteps}
 use Rattle.world_moves.specs.Moves.{IsDelivery, Delivers, IsStart, Starts}
-use Rattle.world_moves.specs.Roots.{command_at, root_request}
+use Rattle.command_roots.specs.Roots.{command_at, root_request}
 use Rattle.world_moves.proofs.CancelAnswers.{answers_appended, answers_keep}
 use Rattle.world_steps.specs.declared.acting.Stepped.{Stepped}
 use Rattle.world_steps.specs.declared.acting.Stepped.TheVariants.{Done, Waiting, NotRunning}
@@ -171,7 +171,7 @@ module _ (c : ℕ) (t : TaskId) where
 
     -- what a command names is its own, and it is a cancel
     by_command : (k : ℕ) (command : Command) → command_at script k ≡ Some command → (h new : List Event) → Does cluster corpus script k command h new → is_named c t new ≡ true → (is_named c t h ≡ true) ⊎ IsCancelAt script c
-    by_command k (commands.Search index node body) at h new does named = inl (sym (starts_where (can_start corpus index body) k node h new does) ∙ named)
+    by_command k (commands.Search index node body opaque_id) at h new does named = inl (sym (starts_where (can_start corpus index body) k node h new does) ∙ named)
     by_command k (commands.Cancel target reason wait) at h new does named =
         by_test (c == k)
         (λ yes. let same : c ≡ k = grind (arith, same_tests) in inr (target, reason, wait, ap (command_at script) same ∙ at))

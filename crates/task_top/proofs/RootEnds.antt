@@ -25,7 +25,7 @@ use Rattle.task_laws.proofs.Content.{answer_facts}
 use Rattle.task_laws.proofs.Same.{same_task_tells, same_tests}
 use Rattle.script_lang.specs.declared.command.Script.{Script}
 use Rattle.world_moves.specs.Plain.{AnswersPlainly, EndsPlainly}
-use Rattle.world_moves.specs.Roots.{root_request}
+use Rattle.command_roots.specs.Roots.{root_request}
 use Rattle.task_top.specs.EachLine.{IsSearchReply}
 
 module _ (k : ℕ) (t : TaskId) (base : List Event) where

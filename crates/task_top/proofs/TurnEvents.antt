@@ -12,7 +12,7 @@ use Rattle.task_events.specs.declared.event.Event.TheVariants.{Begin}
 use Rattle.task_events.specs.Turns.{is_begin, begun, events_while, events_of, history_before}
 use Rattle.script_lang.specs.declared.command.Command.{Command}
 use Rattle.script_lang.specs.declared.command.Script.{Script}
-use Rattle.world_moves.specs.Roots.{command_at}
+use Rattle.command_roots.specs.Roots.{command_at}
 use Rattle.world_steps.specs.Scripts.{IsTurn, Commands, Does, HasRun, IsRun, closing}
 use Rattle.world_steps.proofs.Turning.{turn_of_command, turn_of_drain}
 use Rattle.task_top.proofs.ProgressLemmas.{begun_after, begun_more, before_stays, before_next, both_false}

@@ -33,7 +33,7 @@ use Rattle.task_laws.proofs.Counts.{is_for}
 use Rattle.task_laws.proofs.Same.{same_task_tells, same_tests}
 use Rattle.script_lang.specs.declared.command.Script.{Script}
 use Rattle.world_moves.specs.Plain.{AnswersPlainly, EndsPlainly, IsPlainReply}
-use Rattle.world_moves.specs.Roots.{root_request}
+use Rattle.command_roots.specs.Roots.{root_request}
 use Rattle.task_events.specs.ShardOutcomes.{ask_for, answered_shards, failed_shards, failure_told, why_failed, is_query_of, is_fetch_of}
 use Rattle.task_top.specs.Unharmed.{IsUnharmed, IsWholeAnswer}
 

@@ -23,7 +23,7 @@ use Rattle.task_events.specs.Tasks.{is_live, refusal_of, reply_of}
 use Rattle.task_events.specs.Turns.{events_of, history_before}
 use Rattle.world_moves.specs.Cancels.{is_answered, target_of}
 use Rattle.world_moves.specs.Listings.{is_open}
-use Rattle.world_moves.specs.Roots.{command_at}
+use Rattle.command_roots.specs.Roots.{command_at}
 use Rattle.world_steps.specs.Runs.{next_of}
 use Rattle.line_print.specs.Lines.{is_known, named_in, finds_none, idle_of, line_of, printed}
 
@@ -89,7 +89,7 @@ module _ (cluster : Cluster) (corpus : Corpus) (script : Script) where
 
   -- What the line of a command tells: a `deliver`, a `step` or a `list_step` of its events, or else of why nothing happened. A `settle` and a `history` tell of any number of events.
   abbrev pub HasItsLine : List Event → ℕ → Command → Type 0
-  HasItsLine h k (Search index node body) = TellsSearch corpus index node body k h
+  HasItsLine h k (Search index node body opaque_id) = TellsSearch corpus index node body k h
   HasItsLine h k (Cancel target reason wait) = TellsCancel target k h
   HasItsLine h k (Deliver nth) = Moved k h ⊎ (length (in_flight (as_began k h)) ≤ nth)
   HasItsLine h k (Step t) = Moved k h ⊎ (is_live t (as_began k h) ≡ false) ⊎ Waits t (as_began k h)

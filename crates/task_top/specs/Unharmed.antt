@@ -11,7 +11,7 @@ use Rattle.task_events.specs.Asks.{rejection_of}
 use Rattle.task_events.specs.Bans.{mark_of}
 use Rattle.task_events.specs.Steps.{request_of}
 use Rattle.task_events.specs.Tasks.{parent_of, refusal_of, reply_of}
-use Rattle.world_moves.specs.Roots.{root_request}
+use Rattle.command_roots.specs.Roots.{root_request}
 
 -- Neither the task nor a child of it is marked or refused, and none of its requests was rejected.
 pub record IsUnharmed (t : TaskId) (h : List Event) : Type 0 where

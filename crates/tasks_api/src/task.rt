@@ -9,6 +9,7 @@ ghost use Rattle.tasks_api.specs.Lists.{children_part, description_part, headers
 use crate::members::{object_value, put_number, put_text};
 use crate::names::node_name;
 use serde_json::{Map, Value, put};
+use shared_value::Shared;
 use std::alloc::{AllocError, Global};
 use task_ids::{Headers, TaskId, TaskInfo, Text};
 
@@ -55,12 +56,12 @@ fn put_description(
 fn put_opaque_id(
     alloc: Global,
     members: &mut Map<String, Value>,
-    opaque_id: &Option<Text>,
+    opaque_id: &Option<Shared<Text>>,
 ) -> Result<(), AllocError>
     ensures { OnOk result (members_view members.new.entries ≡ with_members (members_view members.old.entries) (headers_part opaque_id.now)) }
 {
     match opaque_id {
-        Some(opaque_id) => put_text(alloc, members, "X-Opaque-Id", opaque_id.as_str()),
+        Some(opaque_id) => put_text(alloc, members, "X-Opaque-Id", opaque_id.get().as_str()),
         None => Ok(()),
     }
 }

@@ -37,7 +37,7 @@ use Rattle.world_moves.specs.Cancelling.{Cancelling, HasCoreAt, IsCancellationOf
 use Rattle.world_moves.specs.Flights.{message_of}
 use Rattle.world_moves.specs.Moves.{Delivers, IsPartOf, IsPartly}
 use Rattle.world_moves.specs.Plain.{AnswersPlainly}
-use Rattle.world_moves.specs.Roots.{root_request}
+use Rattle.command_roots.specs.Roots.{root_request}
 use Rattle.world_moves.specs.Ties.{Ties, IsGood}
 use Rattle.world_moves.proofs.CancelAnswersAfter.{NameOneTask, waiting_after, answers_tied, answers_noted}
 use Rattle.world_moves.proofs.BansInFlight.{ack_here, ack_taken, ack_new, ack_banned}

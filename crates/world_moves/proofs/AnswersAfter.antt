@@ -39,7 +39,7 @@ use Rattle.node_parts.specs.Running.{running_with_answer}
 use Rattle.world_moves.specs.Facts.{facts_of, awaited_by, requested_by}
 use Rattle.world_moves.specs.Flights.{event_at, message_of, reply_in}
 use Rattle.world_moves.specs.Moves.{Delivers}
-use Rattle.world_moves.specs.Roots.{root_request}
+use Rattle.command_roots.specs.Roots.{root_request}
 use Rattle.world_moves.specs.Ties.{Ties, Runs, WorksFor, IsGood}
 use Rattle.world_moves.specs.Good.{IsGoodReply}
 use Rattle.world_moves.proofs.AllKinds.{kind_laws}

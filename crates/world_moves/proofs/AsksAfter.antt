@@ -41,7 +41,7 @@ use Rattle.node_parts.specs.declared.running.Running.{Running}
 use Rattle.node_parts.specs.Running.{PlansToAsk, next_number, running_with_ask}
 use Rattle.world_moves.specs.Facts.{facts_of, awaited_by, requested_by}
 use Rattle.world_moves.specs.Flights.{message_of}
-use Rattle.world_moves.specs.Roots.{root_request}
+use Rattle.command_roots.specs.Roots.{root_request}
 use Rattle.world_moves.specs.Ties.{Ties, Runs, WorksFor, IsGood}
 use Rattle.world_moves.specs.Good.{IsGoodReply}
 use Rattle.world_moves.proofs.FactsAfter.{at_ask}

@@ -31,7 +31,7 @@ use Rattle.world_moves.specs.Cancels.{waiting_for}
 use Rattle.world_moves.specs.Cancelling.{Cancelling, HasBansAt}
 use Rattle.world_moves.specs.Flights.{message_of}
 use Rattle.world_moves.specs.Listings.{listing_cmp}
-use Rattle.world_moves.specs.Roots.{root_request}
+use Rattle.command_roots.specs.Roots.{root_request}
 use Rattle.world_moves.specs.Ties.{Ties, IsGood}
 use Rattle.world_moves.proofs.AtPlace.{at_node, set_at}
 use Rattle.world_moves.proofs.BansInFlight.{ban_taken, ban_mark, unban_taken}

@@ -27,7 +27,7 @@ use Rattle.world_moves.specs.Cancelling.{Cancelling}
 use Rattle.world_moves.specs.Facts.{facts_of}
 use Rattle.world_moves.specs.Flights.{message_of}
 use Rattle.world_moves.specs.Plain.{AnswersPlainly}
-use Rattle.world_moves.specs.Roots.{root_request}
+use Rattle.command_roots.specs.Roots.{root_request}
 use Rattle.world_moves.specs.Ties.{Ties, IsKept, IsTableAt, IsGood}
 use Rattle.task_laws.proofs.Same.{same_tests}
 use Rattle.world_moves.proofs.CancelAnswers.{IsAnswerable, answers_appended, answers_keep, all_lawful, answered_after}

@@ -31,7 +31,7 @@ use Rattle.world_moves.specs.Facts.{awaited_by, none_awaited}
 use Rattle.world_moves.specs.Flights.{message_of, told_parent}
 use Rattle.world_moves.specs.Moves.{IsPartOf, MayLeave}
 use Rattle.world_moves.specs.Plain.{AnswersPlainly, EndsPlainly}
-use Rattle.world_moves.specs.Roots.{root_request}
+use Rattle.command_roots.specs.Roots.{root_request}
 use Rattle.world_moves.specs.Ties.{Ties}
 use Rattle.world_moves.proofs.AllKinds.{good_cancelled}
 use Rattle.world_moves.proofs.NoneAwaited.{none_from}

@@ -30,7 +30,7 @@ use Rattle.corpus_shards.specs.Stored.{AreFew}
 use Rattle.world_moves.specs.Facts.{awaited_by, requested_by, none_awaited}
 use Rattle.world_moves.specs.Flights.{told_parent}
 use Rattle.world_moves.specs.Plain.{EndsPlainly}
-use Rattle.world_moves.specs.Roots.{root_request}
+use Rattle.command_roots.specs.Roots.{root_request}
 use Rattle.world_moves.specs.Ties.{Ties, IsGood, looked_at}
 use Rattle.node_parts.specs.Running.{DoesNext}
 use Rattle.world_moves.proofs.NoneAwaited.{none_unanswered}

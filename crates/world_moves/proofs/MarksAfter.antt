@@ -49,7 +49,7 @@ use Rattle.world_moves.specs.Cancelling.{Cancelling, IsRowOf, HasRows, HasBansAt
 use Rattle.world_moves.specs.Facts.{facts_of}
 use Rattle.world_moves.specs.Flights.{message_of}
 use Rattle.world_moves.specs.Moves.{IsPartOf}
-use Rattle.world_moves.specs.Roots.{root_request}
+use Rattle.command_roots.specs.Roots.{root_request}
 use Rattle.world_moves.specs.Ties.{Ties, Runs, IsTableAt, IsGood}
 use Rattle.world_moves.proofs.CancelAnswersAfter.{waiting_after}
 use Rattle.world_moves.proofs.AtPlace.{set_at}

@@ -29,7 +29,7 @@ use Rattle.node_parts.specs.declared.running.Running.{Running}
 use Rattle.world_moves.specs.Facts.{Facts, facts_of}
 use Rattle.world_moves.specs.Flights.{message_of, reply_in}
 use Rattle.world_moves.specs.Moves.{Delivers}
-use Rattle.world_moves.specs.Roots.{root_request}
+use Rattle.command_roots.specs.Roots.{root_request}
 use Rattle.world_moves.specs.Ties.{Ties, IsGood}
 use Rattle.world_moves.proofs.AllKinds.{good_rejection}
 use Rattle.world_moves.proofs.RequestsInFlight.{Arrives}

@@ -15,7 +15,7 @@ use Rattle.script_lang.specs.declared.command.Script.{Script}
 use Rattle.world_moves.specs.declared.flight.Sent.{Sent}
 use Rattle.node_parts.specs.declared.running.Running.{Running}
 use Rattle.world_moves.specs.Facts.{facts_of}
-use Rattle.world_moves.specs.Roots.{root_request}
+use Rattle.command_roots.specs.Roots.{root_request}
 use Rattle.world_moves.specs.Ties.{Ties, Runs}
 use Rattle.world_moves.proofs.FactsAfter.{at_pass}
 use Rattle.world_moves.proofs.FlightAfter.{all_stay}

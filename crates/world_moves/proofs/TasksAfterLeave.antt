@@ -28,7 +28,7 @@ use Rattle.node_parts.specs.declared.running.Running.{Running}
 use Rattle.world_moves.specs.Facts.{facts_of, awaited_by, none_awaited, about}
 use Rattle.world_moves.specs.Flights.{message_of, told_parent, reply_in}
 use Rattle.world_moves.specs.Plain.{AnswersPlainly}
-use Rattle.world_moves.specs.Roots.{root_request}
+use Rattle.command_roots.specs.Roots.{root_request}
 use Rattle.world_moves.specs.Ties.{Ties, Runs, IsGood}
 use Rattle.world_moves.proofs.LiveRows.{row_of_task}
 use Rattle.world_moves.proofs.NoneAwaited.{none_counted}

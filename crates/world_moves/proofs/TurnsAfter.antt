@@ -22,7 +22,7 @@ use Rattle.script_lang.specs.declared.command.Script.{Script}
 use Rattle.world_moves.specs.declared.flight.Sent.{Sent}
 use Rattle.node_parts.specs.declared.running.Running.{Running}
 use Rattle.world_moves.specs.Facts.{facts_of}
-use Rattle.world_moves.specs.Roots.{root_request}
+use Rattle.command_roots.specs.Roots.{root_request}
 use Rattle.world_moves.specs.Ties.{Ties, Runs, WorksFor, looked_at}
 use Rattle.world_moves.proofs.AllKinds.{kind_laws}
 use Rattle.world_moves.proofs.KindLaws.{stored_of}

@@ -9,6 +9,5 @@ pub mod Listings
 pub mod Moves
 pub mod Plain
 pub mod QueryRuns
-pub mod Roots
 pub mod SearchRuns
 pub mod Ties

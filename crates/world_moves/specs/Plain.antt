@@ -19,7 +19,7 @@ use Rattle.task_events.specs.Answers.{plain_answer}
 use Rattle.task_events.specs.Documents.{writes_of}
 use Rattle.task_events.specs.Steps.{request_of}
 use Rattle.script_lang.specs.declared.command.Script.{Script}
-use Rattle.world_moves.specs.Roots.{root_request}
+use Rattle.command_roots.specs.Roots.{root_request}
 use Rattle.task_events.specs.ShardOutcomes.{found_in, answered_shards, shard_failed, failed_shards}
 
 -- What a search replies once all that it asked for is answered.

@@ -26,7 +26,7 @@ use Rattle.task_events.specs.Messages.Message.{Answer, Ban}
 use Rattle.task_events.specs.Lawful.{AwaitsNoMark, Lawful}
 use Rattle.node_parts.specs.declared.running.Running.{Running}
 use Rattle.world_moves.specs.declared.state.State.{State}
-use Rattle.world_moves.specs.Roots.{root_request}
+use Rattle.command_roots.specs.Roots.{root_request}
 use Rattle.world_moves.specs.declared.flight.Sent.{Sent}
 use Rattle.world_moves.specs.FetchRuns.{RunsFetch}
 use Rattle.world_moves.specs.Good.{IsGoodReply}

@@ -17,7 +17,7 @@ use Rattle.script_lang.specs.declared.command.Script.{Script}
 use Rattle.world_moves.specs.Moves.{Delivers, IsPartly, Starts}
 use Rattle.world_moves.specs.declared.state.State.{State}
 use Rattle.corpus_shards.specs.Stored.{has_index}
-use Rattle.world_moves.specs.Roots.{body_or_none, command_at}
+use Rattle.command_roots.specs.Roots.{body_or_none, command_at}
 use Rattle.world_moves.specs.Ties.{Keeps}
 use Rattle.world_steps.specs.Runs.{AnswersStep, FirstMoves, Steps}
 use Rattle.world_steps.specs.declared.acting.Stepped.{Stepped}
@@ -54,7 +54,7 @@ can_do nodes (first ∷ more) all (suc place) command at = can_do nodes more all
 
 -- a command that has done nothing yet has done a part
 pub nothing_done : (cluster : Cluster) (corpus : Corpus) (script : Script) (k : ℕ) (command : Command) (h new : List Event) → new ≡ h → PartlyDoes cluster corpus script k command h new
-nothing_done cluster corpus script k (Search index node body) h new same = inl same
+nothing_done cluster corpus script k (Search index node body opaque_id) h new same = inl same
 nothing_done cluster corpus script k (Cancel target reason wait) h new same = inl same
 nothing_done cluster corpus script k (Deliver nth) h new same = inl same
 nothing_done cluster corpus script k (Step task) h new same = inl same

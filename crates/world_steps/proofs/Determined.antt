@@ -28,7 +28,7 @@ use Rattle.world_moves.specs.Cancels.{with_due}
 use Rattle.world_moves.specs.Listings.{IsNextChild, IsListStep, ListSteps}
 use Rattle.world_moves.specs.Moves.{IsDelivery, Delivers, IsStart, Starts}
 use Rattle.world_steps.proofs.ListingKeys.{one_listing}
-use Rattle.world_moves.specs.Roots.{command_at}
+use Rattle.command_roots.specs.Roots.{command_at}
 use Rattle.world_steps.specs.Runs.{Steps, AnswersStep, FirstMoves, IsSettled, Passes, Settles}
 use Rattle.world_steps.specs.Scripts.{can_start, StartsWhere, DeliversWhere, ListsWhere, Does, Commands, HasRun, IsRun}
 
@@ -235,7 +235,7 @@ module _ (cluster : Cluster) (corpus : Corpus) (script : Script) where
   place_one nth h new other (inr (past, same)) (inr (past_too, same_too)) = same ∙ sym same_too
 
   does_one : (k : ℕ) (command : Command) (h new other : List Event) → Does cluster corpus script k command h new → Does cluster corpus script k command h other → new ≡ other
-  does_one k (Search index node body) h new other a b = where_one (can_start corpus index body) k node h new other a b
+  does_one k (Search index node body opaque_id) h new other a b = where_one (can_start corpus index body) k node h new other a b
   does_one k (Cancel target reason wait) h new other a b = a ∙ sym b
   does_one k (Deliver nth) h new other a b = place_one nth h new other a b
   does_one k (Step task) h new other (a, s) (b, t) = answers_one task h new other a b s t

@@ -6,7 +6,7 @@ use Rattle.script_lang.specs.Fits.{Fits, AllFit}
 use Rattle.world_steps.specs.Scripts.{CanDo, CanRun}
 
 one_can : (nodes : ℕ) (before : List Command) (command : Command) → Fits nodes before command → CanDo nodes command
-one_can nodes before (Search index node body) fits = fits
+one_can nodes before (Search index node body opaque_id) fits = fits
 one_can nodes before (Cancel target reason wait) fits = tt
 one_can nodes before (Deliver nth) fits = tt
 one_can nodes before (Step task) fits = tt

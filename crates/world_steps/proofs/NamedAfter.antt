@@ -28,7 +28,7 @@ use Rattle.node_parts.specs.declared.listing.Listing.{Listing}
 use Rattle.node_parts.specs.declared.running.Running.{Running}
 use Rattle.world_moves.specs.Cancels.{waiting_for, waits_for_end, named_by, is_answered, after_cancel_of}
 use Rattle.world_moves.specs.Cancelling.{Cancelling, HasRows, HasBansAt, IsEntryOf, is_under_way, waiting_but}
-use Rattle.world_moves.specs.Roots.{root_request}
+use Rattle.command_roots.specs.Roots.{root_request}
 use Rattle.world_moves.specs.Ties.{Ties}
 use Rattle.world_moves.proofs.CancelFrame.{entry_frame, cores_kept}
 use Rattle.world_moves.proofs.FlightAfter.{all_stay}

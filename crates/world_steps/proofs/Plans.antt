@@ -21,7 +21,7 @@ use Rattle.script_lang.specs.declared.command.Script.{Script}
 use Rattle.world_moves.specs.declared.flight.Sent.{Sent}
 use Rattle.node_parts.specs.declared.running.Running.{Running}
 use Rattle.world_moves.specs.Facts.{facts_of, awaited_by, requested_by, none_awaited}
-use Rattle.world_moves.specs.Roots.{root_request}
+use Rattle.command_roots.specs.Roots.{root_request}
 use Rattle.world_steps.specs.Runs as runs
 use Rattle.world_moves.specs.Ties.{Ties, Runs}
 use Rattle.world_moves.specs.Good.{own_writes}

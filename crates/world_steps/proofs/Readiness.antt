@@ -22,7 +22,7 @@ use Rattle.script_lang.specs.declared.command.Script.{Script}
 use Rattle.task_work.specs.Works.{does_wait}
 use Rattle.world_moves.specs.Facts.{Facts, facts_of, about, is_about, awaited_by, none_awaited}
 use Rattle.world_moves.specs.Flights.{event_at}
-use Rattle.world_moves.specs.Roots.{root_request}
+use Rattle.command_roots.specs.Roots.{root_request}
 use Rattle.world_steps.specs.Runs.{next_of}
 use Rattle.world_moves.specs.Ties.{Keeps}
 use Rattle.world_steps.specs.World.{HasReady, HadReady, is_ready, past_of}

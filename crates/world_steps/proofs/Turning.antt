@@ -32,7 +32,7 @@ use Rattle.world_moves.specs.declared.listings.ListStep.TheVariants.{Done as Lis
 use Rattle.world_moves.specs.Cancels.{after_cancel, after_cancel_of, answer_to, due_answers, is_due, target_of, waiting_for, waits_for_end, with_answers, with_cancel, with_due}
 use Rattle.world_moves.specs.Listings.{AnswersListing, IsListStep, ListSteps}
 use Rattle.world_moves.specs.Moves.{IsDelivery, Delivers, IsStart, Starts}
-use Rattle.world_moves.specs.Roots.{root_request}
+use Rattle.command_roots.specs.Roots.{root_request}
 use Rattle.world_steps.specs.Runs.{AnswersStep, FirstMoves, Passes, Settles}
 use Rattle.world_steps.specs.Scripts.{can_start, StartsWhere, DeliversWhere, ListsWhere, Does, Commands, Drains, IsTurn, closing}
 
@@ -180,7 +180,7 @@ module _ (cluster : Cluster) (corpus : Corpus) (script : Script) where
   delivered_where nth h new (inr (none, same)) = stays h new same
 
   done : (k : ℕ) (command : Command) (h new : List Event) → Does cluster corpus script k command h new → Follows h new
-  done k (Search index node body) h new d = started_where (can_start corpus index body) k node h new d
+  done k (Search index node body opaque_id) h new d = started_where (can_start corpus index body) k node h new d
   done k (Cancel target reason wait) h new d = cancel_after k target wait h new d
   done k (Deliver nth) h new d = delivered_where nth h new d
   done k (Step task) h new (stepped, a) = stepped_there task h new stepped a

@@ -11,14 +11,14 @@ use Rattle.task_events.specs.declared.stop.Stop.{Stop}
 use Rattle.task_events.specs.Messages.{in_flight}
 use Rattle.task_events.specs.Turns.{is_begin}
 use Rattle.script_lang.specs.declared.command.Command.{Command}
-use Rattle.script_lang.specs.declared.command.Command.TheVariants.{Search, Cancel, Deliver, Step, ListStep, Settle, History}
+use Rattle.script_lang.specs.declared.command.Command.TheVariants.{Search, Cancel, ListTasks, Deliver, Step, ListStep, Settle, History}
 use Rattle.script_lang.specs.declared.command.Script.{Script}
 use Rattle.world_steps.specs.declared.acting.Stepped.{Stepped}
 use Rattle.node_parts.specs.declared.listing.Listing.{Listing}
 use Rattle.world_moves.specs.Cancels.{after_cancel}
 use Rattle.world_moves.specs.Listings.{is_open, ListSteps}
 use Rattle.world_moves.specs.Moves.{Delivers, Starts, NodeLacksNumber, DeliveryLacksNumber, IsPartly, Stops}
-use Rattle.world_moves.specs.Roots.{body_or_none, command_at}
+use Rattle.command_roots.specs.Roots.{body_or_none, command_at}
 use Rattle.corpus_shards.specs.Stored.{has_index}
 use Rattle.world_steps.specs.Runs.{AnswersStep, Settles, PartlySettles, SettlingLacksNumber}
 
@@ -30,8 +30,9 @@ IsTurn k h new = (events : List Event) × (new ≡ events ++ Begin k ∷ h) × (
 
 -- a command that the world can do: a search starts on a node of the cluster, and the number of a command is that of a cancel
 abbrev pub CanDo : ℕ → Command → Type 0
-CanDo nodes (Search index node body) = (1 ≤ node) × (node ≤ nodes)
+CanDo nodes (Search index node body opaque_id) = (1 ≤ node) × (node ≤ nodes)
 CanDo nodes (Cancel target reason wait) = ⊤
+CanDo nodes (ListTasks wanted group detailed) = ⊤
 CanDo nodes (Deliver nth) = ⊤
 CanDo nodes (Step task) = ⊤
 CanDo nodes (ListStep node parent) = ⊤
@@ -69,8 +70,9 @@ ListsWhere l h new = ListSteps l h new ⊎ ((is_open l h ≡ false) × (new ≡ 
 module _ (cluster : Cluster) (corpus : Corpus) (script : Script) where
   -- what a command with this number appends after its beginning
   abbrev pub Does : ℕ → Command → List Event → List Event → Type 0
-  Does k (Search index node body) h new = StartsWhere cluster (can_start corpus index body) k node h new
-  Does k (Cancel target reason wait) h new = new ≡ after_cancel k target wait h
+  Does k (Search index node body opaque_id) h new = StartsWhere cluster (can_start corpus index body) k node h new
+  Does k (Cancel target reason wait) h new = new ≡ after_cancel cluster script k target wait h
+  Does k (ListTasks wanted group detailed) h new = new ≡ h
   Does k (Deliver nth) h new = DeliversWhere cluster nth h new
   Does k (Step task) h new = (stepped : Stepped) × AnswersStep cluster corpus script task h stepped new
   Does k (ListStep node parent) h new = ListsWhere (record { node = node; parent = parent }) h new
@@ -117,7 +119,7 @@ module _ (cluster : Cluster) (corpus : Corpus) (script : Script) where
 
   -- The next event of a command would start or put a task for which its node has no number.
   abbrev pub CommandLacksNumber : Command → List Event → List Event → Type 0
-  CommandLacksNumber (Search index node body) h new = (can_start corpus index body ≡ true) × NodeLacksNumber cluster h node × (new ≡ h)
+  CommandLacksNumber (Search index node body opaque_id) h new = (can_start corpus index body ≡ true) × NodeLacksNumber cluster h node × (new ≡ h)
   CommandLacksNumber (Deliver nth) h new = DeliveryLacksNumber cluster h nth × (new ≡ h)
   CommandLacksNumber Settle h new = SettlingLacksNumber cluster corpus script h new
   CommandLacksNumber _ h new = ⊥

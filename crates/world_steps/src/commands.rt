@@ -4,7 +4,7 @@ ghost use Rattle.std.specs.Prelude.{◌≡◌, ◌⊎◌, ◌↔◌, ◌∷◌, 
 ghost use Rattle.query_parse.specs.Bodies.{body_at};
 ghost use Rattle.task_events.specs.Cancels.{last_command, beginning};
 ghost use Rattle.task_events.specs.Laws.{IsDrained};
-ghost use Rattle.world_moves.specs.Roots.{body_or_none, command_at, whole_ask};
+ghost use Rattle.command_roots.specs.Roots.{body_or_none, command_at, whole_ask};
 ghost use Rattle.task_ids.specs.Limits.{IsCancel};
 ghost use Rattle.world_moves.specs.Cancels.{after_cancel, AllAnswered};
 ghost use Rattle.world_moves.specs.Moves.{DeliveryLacksNumber, IsPartly, Stops, StopsMove};

@@ -2,7 +2,7 @@ use Rattle.std.proofs.Common.{◌∙◌, ap, sym, arith}
 use Rattle.std.specs.Option.{option_copied}
 use Rattle.child_track.specs.Token.{token_parent}
 use Rattle.world_moves.specs.Facts.{facts_of}
-use Rattle.world_moves.specs.Roots.{root_request}
+use Rattle.command_roots.specs.Roots.{root_request}
 use Rattle.world_steps.proofs.BansOver.{parent_told, no_parent, with_parent, has_place, found}
 use Rattle.world_moves.proofs.StepsAfter.{is_kept, runs_of}
 use Rattle.world_steps.proofs.acting.ban_over.Goals as goal

@@ -1,0 +1,73 @@
+//! What the commands of a script ask their roots to do.
+#![tactic(auto)]
+
+ghost use Rattle.std.specs.Prelude.{◌≡◌, ◌↔◌, true, false, IfOk, IfErr, option_and_then, Some};
+ghost use Rattle.query_parse.specs.Bodies.{body_at};
+ghost use Rattle.command_roots.specs.Roots.{body_or_none, whole_ask, opaque_id_in};
+
+use query_match::SearchBody;
+use query_parse::{BodyError, read_body};
+use script_lang::Command;
+use shared_value::Shared;
+use std::alloc::{AllocError, Global};
+use task_events::SearchAsk;
+use task_ids::{DocSource, Headers, Text};
+
+/// Whether a body could not be read for want of memory. Otherwise the fault is one of the body.
+fn lacks_memory(fault: &BodyError) -> bool
+    ensures { (result ≡ true) ↔ (fault.now ≡ BodyError.Memory) }
+{
+    matches!(fault, BodyError::Memory)
+}
+
+/// The body of a search, unless it has a fault. It fails only for want of memory.
+pub fn body_of(alloc: Global, body: &DocSource) -> Result<Option<SearchBody>, AllocError>
+    ensures { IfOk result (λ found. found ≡ body_or_none (body_at false 0 body.now)) }
+{
+    match read_body(alloc, body.as_value(), false, 0) {
+        Ok(body) => Ok(Some(body)),
+        Err(fault) => {
+            let spent = lacks_memory(&fault);
+            drop(fault);
+            if spent { Err(AllocError) } else { Ok(None) }
+        }
+    }
+}
+
+/// A copy of a text, to be shared.
+fn shared_copy(alloc: Global, text: &Text) -> Result<Shared<Text>, AllocError>
+    ensures { IfOk result (λ copy. copy ≡ text.now) }
+{
+    Ok(Shared::new(alloc, text.copy()?)?)
+}
+
+/// The search of all documents of an index that match, which opens no context. It fails only for want of memory.
+pub fn whole_ask(alloc: Global, index: &Text, body: SearchBody) -> Result<SearchAsk, AllocError>
+    ensures { IfOk result (λ ask. ask ≡ whole_ask index.now body) }
+{
+    let (Ok(index), Ok(body)) = (shared_copy(alloc, index), Shared::new(alloc, body)) else {
+        return Err(AllocError);
+    };
+    Ok(SearchAsk {
+        index,
+        body,
+        scroll: None,
+        slice: None,
+        owner: None,
+    })
+}
+
+/// What the request of a command's root carries. It takes no memory but a count.
+pub fn headers_of(command: &Command) -> Result<Headers, AllocError>
+    ensures { IfOk result (λ headers. headers ≡ record { opaque_id = opaque_id_in command.now }) }
+{
+    match command {
+        Command::Search {
+            opaque_id: Some(opaque_id),
+            ..
+        } => Ok(Headers {
+            opaque_id: Some(opaque_id.copy()?),
+        }),
+        _ => Ok(Headers::none()),
+    }
+}
