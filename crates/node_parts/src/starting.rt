@@ -2,7 +2,7 @@
 
 ghost use Rattle.std.specs.Prelude.{◌≡◌, List, IfOk, IfErr};
 ghost use Rattle.child_track.specs.Track.{new_track};
-ghost use Rattle.task_events.specs.Kinds.{action_of, description_of};
+ghost use Rattle.node_parts.specs.Starting.{task_for};
 ghost use Rattle.task_ids.specs.declared.doc.Doc.{Doc};
 ghost use Rattle.task_work.specs.Works.{IsWorkOn, new_work};
 
@@ -24,13 +24,7 @@ pub fn new_task(
     start_ms: u64,
     headers: &Headers,
 ) -> Result<NewTask, AllocError>
-    ensures { IfOk result (λ task. task ≡ record {
-      action = action_of request.now;
-      description = description_of request.now;
-      start_ms = start_ms;
-      parent = parent;
-      headers = headers.now;
-    }) }
+    ensures { IfOk result (λ task. task ≡ task_for request.now parent start_ms headers.now) }
 {
     let description = description_of(alloc, request)?;
     let headers = headers.copy()?;

@@ -1,6 +1,6 @@
 -- The tables fit the past after an acknowledgement has come, with the answers and the unbans that come due with it.
 use Rattle.std.proofs.Common.{◌≡◌, ◌≤◌, ◌-◌, ◌==◌, ℕ, Bool, true, false, cond, not, List, [], ◌∷◌, ◌++◌, map, filter, Option, Some, None, refl, sym, ap, subst, ◌∙◌, inr, arith}
-use Rattle.std.specs.Prelude.{◌&&◌, slice_get, slice_set, remove, is_some, reverse, Contains}
+use Rattle.std.specs.Prelude.{◌&&◌, slice_get, slice_set, remove, is_some, Contains}
 use Rattle.std.specs.List.{AllByRecursion}
 use Rattle.std.specs.BTreeSet.{BTreeSet}
 use Rattle.std.specs.FinMap.{FinMap, get}
@@ -31,15 +31,18 @@ use Rattle.world_moves.specs.declared.flight.Sent.{Sent}
 use Rattle.world_moves.specs.declared.flight.Sent.TheVariants as sent
 use Rattle.node_parts.specs.declared.listing.Listing.{Listing}
 use Rattle.node_parts.specs.declared.running.Running.{Running}
-use Rattle.world_moves.specs.Acts.{messages_in, answers_in}
-use Rattle.world_moves.specs.Cancels.{waiting_for, with_answers, due_answers}
+use Rattle.world_moves.specs.Acts.{messages_in, offered_in, left_after, answers_of, answers_in}
+use Rattle.world_moves.specs.Cancels.{waiting_for, with_answers, answer_to}
+use Rattle.world_moves.specs.Left.{HasLeft}
 use Rattle.world_moves.specs.Cancelling.{Cancelling, HasCoreAt, IsCancellationOf, IsEntryOf, is_under_way}
 use Rattle.world_moves.specs.Flights.{message_of}
 use Rattle.world_moves.specs.Moves.{Delivers, IsPartOf, IsPartly}
 use Rattle.world_moves.specs.Plain.{AnswersPlainly}
-use Rattle.command_roots.specs.Roots.{root_request}
+use Rattle.command_roots.specs.Roots.{root_request, root_headers}
 use Rattle.world_moves.specs.Ties.{Ties, IsGood}
-use Rattle.world_moves.proofs.CancelAnswersAfter.{NameOneTask, waiting_after, answers_tied, answers_noted}
+use Rattle.world_moves.proofs.AtOneTask.{at_ack}
+use Rattle.world_moves.proofs.CancelAnswersAfter.{answers_tied, answers_noted}
+use Rattle.world_moves.proofs.CountsAfter.{let_go, still_waiting, others_wait, answers_then, counts_then}
 use Rattle.world_moves.proofs.BansInFlight.{ack_here, ack_taken, ack_new, ack_banned}
 use Rattle.world_moves.proofs.ByPlace.{pairs_left, all_left}
 use Rattle.world_moves.proofs.CancelFrame.{entry_frame}
@@ -72,7 +75,7 @@ module _ (cluster : Cluster) (corpus : Corpus) (script : Script) (h : List Event
       let taken = ack_taken cluster corpus script h tasks tables flight ties nth p n here in
       record {
         lawful = (taken.0, ties.lawful, awaits);
-        kept = kept_same cluster corpus (root_request script) (Acked p n) h tasks refl ties.kept;
+        kept = kept_same cluster corpus (root_request script) (root_headers script) (Acked p n) h tasks refl ties.kept;
         listed = λ place. listed_same cluster (Acked p n) h (λ m. refl) refl place _ (ties.listed place);
         sent = map-append (message_of (Acked p n ∷ h)) (remove flight nth) more
             ∙ ap (λ ms. ms ++ map (message_of (Acked p n ∷ h)) more) (all_stay (Acked p n) h (remove flight nth) (remove (in_flight h) nth) (pairs_left (message_of h) flight (in_flight h) nth ties.sent))
@@ -132,67 +135,64 @@ module _ (h : List Event) (p : TaskId) (n : ℕ) where
   awaited_now (m ∷ ns) = let rest = awaited_now ns in grind (arith, same_tests)
 
   -- a core knows that the node has acknowledged
-  pub acked_known : (c : Cancellation) → IsCancellationOf (waiting_for p h) p h c → IsCancellationOf (waiting_for p (Acked p n ∷ h)) p (Acked p n ∷ h) (with_ack c n)
+  pub acked_known : (c : Cancellation) → IsCancellationOf (waiting_for p h) p h c → IsCancellationOf (waiting_for p h) p (Acked p n ∷ h) (with_ack c n)
   acked_known c known = (known.0, known.1, ap (filter (λ m. not (m == n))) known.2 ∙ awaited_now (banned_nodes p h), known.3, known.4)
 
-  others_stay : (u : TaskId) → same_task p u ≡ false → (o : Option Cancellation) → IsEntryOf (waiting_for u h) u h o → IsEntryOf (waiting_for u (Acked p n ∷ h)) u (Acked p n ∷ h) o
-  others_stay u differs o has =
+  others_stay : (cluster : Cluster) → Lawful cluster h → (u : TaskId) → same_task p u ≡ false → (o : Option Cancellation) → IsEntryOf (waiting_for u h) u h o → IsEntryOf (waiting_for u (Acked p n ∷ h)) u (Acked p n ∷ h) o
+  others_stay cluster lawful u differs o has =
       let turned : same_task u p ≡ false = grind (arith, same_tests) in
-      entry_frame (waiting_for u h) u h (Acked p n) o turned refl has
+      rw (others_wait cluster p (Acked p n) h lawful (at_ack p n h) u differs) (entry_frame (waiting_for u h) u h (Acked p n) o turned tt has)
 
-  pub noted_ack : (cluster : Cluster) (tables : List Table) (roots : ℕ → Option TaskId) (bans : List (FinMap task_id_cmp ℕ)) (cores : List Cancellations) (listings : BTreeSet Listing)
+  pub noted_ack : (cluster : Cluster) (tables : List Table) (roots : ℕ → Option TaskId) (bans : List (FinMap task_id_cmp ℕ)) (cores : List Cancellations) (listings : BTreeSet Listing) → Lawful cluster h
       → Cancelling cluster (λ t. waiting_for t h) h tables roots bans cores listings → p.node ≤ cluster.nodes
       → (core : Cancellations) → slice_get cores (p.node - 1) ≡ Some core → (c : Cancellation) → IsCancellationOf (waiting_for p h) p h c
-      → Cancelling cluster (waiting_after p (Acked p n ∷ h)) (Acked p n ∷ h) tables roots bans (slice_set cores (p.node - 1) (with_entry core p (rest_of (with_ack c n)))) listings
-  noted_ack cluster tables roots bans cores listings ties high core here c known = record {
+      → Cancelling cluster (λ t. waiting_for t (Acked p n ∷ h)) (Acked p n ∷ h) tables roots bans (slice_set cores (p.node - 1) (with_entry core p (rest_of (with_ack c n)))) listings
+  noted_ack cluster tables roots bans cores listings lawful ties high core here c known = record {
     rows_are = ties.rows_are;
     roots_are = ties.roots_are;
     bans_are = ties.bans_are;
-    cores_are = cores_after cluster (λ t. waiting_for t h) h cores ties.cores_are p high core here (waiting_after p (Acked p n ∷ h)) (Acked p n ∷ h) (rest_of (with_ack c n)) this others;
+    cores_are = cores_after cluster (λ t. waiting_for t h) h cores ties.cores_are p high core here (λ t. waiting_for t (Acked p n ∷ h)) (Acked p n ∷ h) (rest_of (with_ack c n)) this (others_stay cluster lawful);
     listings_are = ties.listings_are;
-    one_task = ties.one_task;
   }
     where
-      own : (ws vs : List ℕ) → cond (same_task p p) ws vs ≡ ws
-      own ws vs = let is_one : same_task p p ≡ true = grind (arith, same_tests) in rw is_one refl
-
-      this : IsEntryOf (waiting_after p (Acked p n ∷ h) p) p (Acked p n ∷ h) (rest_of (with_ack c n))
-      this = subst (λ ws. IsEntryOf ws p (Acked p n ∷ h) (rest_of (with_ack c n))) (sym (own _ _)) (due_left p (Acked p n ∷ h) (with_ack c n) (acked_known c known))
-
-      others : (u : TaskId) → same_task p u ≡ false → (o : Option Cancellation) → IsEntryOf (waiting_for u h) u h o → IsEntryOf (waiting_after p (Acked p n ∷ h) u) u (Acked p n ∷ h) o
-      others u differs o has =
-          let ws : waiting_after p (Acked p n ∷ h) u ≡ waiting_for u (Acked p n ∷ h) = rw differs refl in
-          subst (λ xs. IsEntryOf xs u (Acked p n ∷ h) o) (sym ws) (others_stay u differs o has)
+      this : IsEntryOf (waiting_for p (Acked p n ∷ h)) p (Acked p n ∷ h) (rest_of (with_ack c n))
+      this = subst (λ ks. IsEntryOf ks p (Acked p n ∷ h) (rest_of (with_ack c n))) (still_waiting cluster p (Acked p n) h lawful (at_ack p n h)) (due_left (waiting_for p h) p (Acked p n ∷ h) (with_ack c n) (acked_known c known))
 
 -- ---- the whole of it
 
 module _ (cluster : Cluster) (corpus : Corpus) (script : Script) (h : List Event) (tasks : TaskId → Option Running) (tables : List Table) (flight : List Sent) (ties : Ties cluster corpus script h tasks tables flight) (awaits : AwaitsNoMark h) (nth : ℕ) (p : TaskId) (n : ℕ) (here : slice_get flight nth ≡ Some (sent.Notice (notices.Ack p n)))
-    (c : Cancellation) (known : IsCancellationOf (waiting_for p h) p h c) (one : NameOneTask h) where
+    (c : Cancellation) (known : IsCancellationOf (waiting_for p h) p h c) (left : ℕ → ℕ) (has : HasLeft None h left) where
   tied_now : Ties cluster corpus script (Acked p n ∷ h) tasks tables (remove flight nth ++ messages_in p.node (due_acts p (with_ack c n)))
   tied_now =
       tied_ack cluster corpus script h tasks tables flight ties awaits nth p n here (messages_in p.node (due_acts p (with_ack c n)))
-      (due_sent p (Acked p n ∷ h) (with_ack c n) (acked_known h p n c known) p.node (Acked p n ∷ h))
+      (due_sent (waiting_for p h) p (Acked p n ∷ h) (with_ack c n) (acked_known h p n c known) p.node (Acked p n ∷ h))
 
   pub tied_after : Ties cluster corpus script (with_answers p (Acked p n ∷ h)) tasks tables (remove flight nth ++ messages_in p.node (due_acts p (with_ack c n)))
-  tied_after = answers_tied cluster p (Acked p n ∷ h) corpus script tasks tables _ tied_now tt one
+  tied_after = answers_tied cluster p (Acked p n ∷ h) corpus script tasks tables _ tied_now tt
+
+  offered : (acts : List Act) → acts ≡ due_acts p (with_ack c n) → offered_in acts ≡ map (answer_to (Acked p n ∷ h)) (let_go p (Acked p n) h)
+  offered acts are = ap offered_in are ∙ due_answered (waiting_for p h) p (Acked p n ∷ h) (with_ack c n) (acked_known h p n c known)
 
   -- the past after the answers
-  pub ack_happened : (past new : List Event) (acts : List Act) → past ≡ Acked p n ∷ h → acts ≡ due_acts p (with_ack c n) → new ≡ answers_in acts ++ past → new ≡ with_answers p (Acked p n ∷ h)
+  pub ack_happened : (past new : List Event) (acts : List Act) → past ≡ Acked p n ∷ h → acts ≡ due_acts p (with_ack c n) → new ≡ answers_in acts left ++ past → new ≡ with_answers p (Acked p n ∷ h)
   ack_happened past new acts is are happened =
-      happened ∙ ap (λ xs. answers_in xs ++ past) are ∙ ap (λ es. es ++ past) (due_answered p (Acked p n ∷ h) (with_ack c n) (acked_known h p n c known)) ∙ ap (λ es. reverse (due_answers p (Acked p n ∷ h)) ++ es) is
+      happened ∙ (λ i. answers_of (offered acts are i) left ++ is i) ∙ answers_then cluster p (Acked p n) h ties.lawful (at_ack p n h) left has
+
+  pub ack_counted : (acts : List Act) → acts ≡ due_acts p (with_ack c n) → (after : ℕ → ℕ) → ((k : ℕ) → after k ≡ left_after (offered_in acts) left k) → HasLeft None (with_answers p (Acked p n ∷ h)) after
+  ack_counted acts are after is = counts_then cluster p (Acked p n) h ties.lawful (at_ack p n h) left has after (λ k. is k ∙ ap (λ es. left_after es left k) (offered acts are))
 
   pub noted_after : (roots : ℕ → Option TaskId) (bans : List (FinMap task_id_cmp ℕ)) (cores : List Cancellations) (listings : BTreeSet Listing)
       → Cancelling cluster (λ t. waiting_for t h) h tables roots bans cores listings → p.node ≤ cluster.nodes
       → (core : Cancellations) → slice_get cores (p.node - 1) ≡ Some core
       → Cancelling cluster (λ t. waiting_for t (with_answers p (Acked p n ∷ h))) (with_answers p (Acked p n ∷ h)) tables roots bans (slice_set cores (p.node - 1) (with_entry core p (rest_of (with_ack c n)))) listings
   noted_after roots bans cores listings cancels high core on =
-      answers_noted cluster p (Acked p n ∷ h) tables roots bans _ listings tied_now.lawful (noted_ack h p n cluster tables roots bans cores listings cancels high core on c known)
+      answers_noted cluster p (Acked p n ∷ h) tables roots bans _ listings (noted_ack h p n cluster tables roots bans cores listings ties.lawful cancels high core on c known)
 
   pub delivers_ack : Delivers cluster h nth (with_answers p (Acked p n ∷ h))
   delivers_ack = (Ack p n, Acked p n, ack_here cluster corpus script h tasks tables flight ties nth p n here, (refl, refl), refl)
 
   -- where only a part has come
-  module _ (past new : List Event) (acts : List Act) (is : past ≡ Acked p n ∷ h) (are : acts ≡ due_acts p (with_ack c n)) (part : IsPartOf past new (answers_in acts ++ past)) where
+  module _ (past new : List Event) (acts : List Act) (is : past ≡ Acked p n ∷ h) (are : acts ≡ due_acts p (with_ack c n)) (part : IsPartOf past new (answers_in acts left ++ past)) where
     part_of : IsPartOf h new (with_answers p (Acked p n ∷ h))
     part_of = later_part (Acked p n) h new _ (subst (λ x. IsPartOf x new (with_answers p (Acked p n ∷ h))) is (subst (IsPartOf past new) (ack_happened past _ acts is are refl) part))
 

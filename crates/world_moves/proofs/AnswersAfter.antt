@@ -39,7 +39,7 @@ use Rattle.node_parts.specs.Running.{running_with_answer}
 use Rattle.world_moves.specs.Facts.{facts_of, awaited_by, requested_by}
 use Rattle.world_moves.specs.Flights.{event_at, message_of, reply_in}
 use Rattle.world_moves.specs.Moves.{Delivers}
-use Rattle.command_roots.specs.Roots.{root_request}
+use Rattle.command_roots.specs.Roots.{root_request, root_headers}
 use Rattle.world_moves.specs.Ties.{Ties, Runs, WorksFor, IsGood}
 use Rattle.world_moves.specs.Good.{IsGoodReply}
 use Rattle.world_moves.proofs.AllKinds.{kind_laws}
@@ -127,7 +127,7 @@ module _ (cluster : Cluster) (corpus : Corpus) (script : Script) (h : List Event
       delivers = (Answer t receipt.ask reply, Answered t receipt.ask, arrives, (refl, refl), refl)
 
       module _ (r : Running) (here : tasks t ≡ Some r) where
-        runs : Runs cluster corpus t (facts_of (root_request script) t h) r
+        runs : Runs cluster corpus t (facts_of (root_request script) (root_headers script) t h) r
         runs = kept_running cluster corpus script h tasks tables flight ties t asker_live r here
 
         pub own : Answers receipt r.track
@@ -144,13 +144,14 @@ module _ (cluster : Cluster) (corpus : Corpus) (script : Script) (h : List Event
             subst (λ k. WorksFor cluster corpus t (map (asked_with_answer k (answer_of t receipt.ask h)) (asked_by t h)) (requested_by t h) (slice_set (awaited_by t h) (receipt.ask - 1) None) (turns_of t h) (request_of (root_request script) t h) (work_with_answer r.work k reply)) (sym number_is)
             (takes_it.after (answer_of t receipt.ask h) answered_with)
 
-        runs_after : Runs cluster corpus t (record (facts_of (root_request script) t h) { awaited = slice_set (awaited_by t h) (receipt.ask - 1) None; asked = map (asked_with_answer receipt.ask (answer_of t receipt.ask h)) (asked_by t h) }) (running_with_answer r receipt.ask reply)
+        runs_after : Runs cluster corpus t (record (facts_of (root_request script) (root_headers script) t h) { awaited = slice_set (awaited_by t h) (receipt.ask - 1) None; asked = map (asked_with_answer receipt.ask (answer_of t receipt.ask h)) (asked_by t h) }) (running_with_answer r receipt.ask reply)
         runs_after = record {
           live = runs.live;
           id = runs.id;
           token = runs.token;
           track = ap (λ z. track_with_answer z receipt.ask) runs.track;
           new = runs.new;
+          headers = runs.headers;
           works = works_after;
         }
 
@@ -158,7 +159,7 @@ module _ (cluster : Cluster) (corpus : Corpus) (script : Script) (h : List Event
             → Ties cluster corpus script (Answered t receipt.ask ∷ h) after tables (remove flight nth)
         after_answer awaits after there others = record {
           lawful = (taken_away.0, ties.lawful, awaits);
-          kept = kept_after cluster corpus (root_request script) t (Answered t receipt.ask) h tasks after refl ties.kept (rw there (rw (at_answered (root_request script) t h receipt.ask) runs_after)) others;
+          kept = kept_after cluster corpus (root_request script) (root_headers script) t (Answered t receipt.ask) h tasks after refl ties.kept (rw there (rw (at_answered (root_request script) (root_headers script) t h receipt.ask) runs_after)) others;
           listed = λ place. listed_same cluster (Answered t receipt.ask) h (λ m. refl) refl place _ (ties.listed place);
           sent = rw taken_away.1 (all_stay (Answered t receipt.ask) h (remove flight nth) (remove (in_flight h) nth) (pairs_left (message_of h) flight (in_flight h) nth ties.sent));
           good = rw taken_away.1 (all_left (IsGood cluster corpus h) (in_flight h) nth ties.good);

@@ -4,6 +4,7 @@ use Rattle.std.specs.List.{AllByRecursion}
 use Rattle.std.proofs.lemmas.Bool.{cases_lt}
 use Rattle.std.proofs.lemmas.List.{map-append}
 use Rattle.task_ids.specs.declared.task_id.TaskId.{TaskId}
+use Rattle.task_ids.specs.declared.task_info.Headers.{Headers}
 use Rattle.task_ids.specs.declared.cluster.Cluster.{Cluster}
 use Rattle.task_ids.specs.declared.corpus.Corpus.{Corpus}
 use Rattle.child_track.specs.Token.{Token}
@@ -41,7 +42,7 @@ use Rattle.node_parts.specs.declared.running.Running.{Running}
 use Rattle.node_parts.specs.Running.{PlansToAsk, next_number, running_with_ask}
 use Rattle.world_moves.specs.Facts.{facts_of, awaited_by, requested_by}
 use Rattle.world_moves.specs.Flights.{message_of}
-use Rattle.command_roots.specs.Roots.{root_request}
+use Rattle.command_roots.specs.Roots.{root_request, root_headers}
 use Rattle.world_moves.specs.Ties.{Ties, Runs, WorksFor, IsGood}
 use Rattle.world_moves.specs.Good.{IsGoodReply}
 use Rattle.world_moves.proofs.FactsAfter.{at_ask}
@@ -96,7 +97,7 @@ module _ (cluster : Cluster) (corpus : Corpus) (script : Script) (h : List Event
   node_of_request = node_within cluster t request ((reach_facts cluster h ties.lawful).live_in t live)
 
   module _ (r : Running) (here : tasks t ≡ Some r) (planned : PlansToAsk (Some r) request) where
-    runs : Runs cluster corpus t (facts_of (root_request script) t h) r
+    runs : Runs cluster corpus t (facts_of (root_request script) (root_headers script) t h) r
     runs = kept_running cluster corpus script h tasks tables flight ties t live r here
 
     laws : KindLaws cluster corpus t (asked_by t h) (requested_by t h) (awaited_by t h) (turns_of t h) (request_of (root_request script) t h) r.work
@@ -130,30 +131,31 @@ module _ (cluster : Cluster) (corpus : Corpus) (script : Script) (h : List Event
         subst (λ k. WorksFor cluster corpus t (asked_by t h ++ record { ask = k; answer = None } ∷ []) (requested_by t h ++ request ∷ []) (awaited_by t h ++ Some n ∷ []) (turns_of t h) (request_of (root_request script) t h) (work_with_ask r.work (next_number r))) counted
         (subst (λ k. WorksFor cluster corpus t (asked_by t h ++ record { ask = length (awaited_by t h) + 1; answer = None } ∷ []) (requested_by t h ++ request ∷ []) (awaited_by t h ++ Some n ∷ []) (turns_of t h) (request_of (root_request script) t h) (work_with_ask r.work k)) number (asks_it.after n))
 
-    pub after_ask : (after : TaskId → Option Running) (n : ℕ) (token : Token) → AwaitsNoMark h → mark_of t h ≡ None → is_new t h ≡ false → n ≡ node_for cluster t request → token ≡ record { parent = t; ask = last_ask t h + 1 }
+    pub after_ask : (after : TaskId → Option Running) (n : ℕ) (token : Token) (headers : Headers) → AwaitsNoMark h → mark_of t h ≡ None → is_new t h ≡ false → n ≡ node_for cluster t request → token ≡ record { parent = t; ask = last_ask t h + 1 }
         → after t ≡ Some (running_with_ask r n) → ((q : TaskId) → same_task t q ≡ false → after q ≡ tasks q)
-        → Ties cluster corpus script (Ask t (last_ask t h + 1) n request ∷ h) after tables (flight ++ sent.Request token n (length h) ∷ [])
-    after_ask after n token awaits unmarked passed node is there others = record {
+        → Ties cluster corpus script (Ask t (last_ask t h + 1) n request ∷ h) after tables (flight ++ sent.Request token n (length h) headers ∷ [])
+    after_ask after n token headers awaits unmarked passed node is there others = record {
       lawful = (record { goes_on = record { live = live; passed = passed }; unmarked = unmarked; next = refl; low = rw node node_of_request.0; high = rw node node_of_request.1 }, ties.lawful, awaits);
-      kept = kept_after cluster corpus (root_request script) t (Ask t (last_ask t h + 1) n request) h tasks after refl ties.kept (rw there (rw (at_ask (root_request script) t h (last_ask t h + 1) n request) asked_on)) others;
+      kept = kept_after cluster corpus (root_request script) (root_headers script) t (Ask t (last_ask t h + 1) n request) h tasks after refl ties.kept (rw there (rw (at_ask (root_request script) (root_headers script) t h (last_ask t h + 1) n request) asked_on)) others;
       listed = λ place. listed_same cluster (Ask t (last_ask t h + 1) n request) h (λ m. refl) refl place _ (ties.listed place);
       sent =
-          map-append (message_of (Ask t (last_ask t h + 1) n request ∷ h)) flight (sent.Request token n (length h) ∷ [])
+          map-append (message_of (Ask t (last_ask t h + 1) n request ∷ h)) flight (sent.Request token n (length h) headers ∷ [])
           ∙ (λ i. all_stay (Ask t (last_ask t h + 1) n request) h flight (in_flight h) ties.sent i ++ newest i ∷ [])
           ∙ sym (map-append Some (in_flight h) (a_request t (last_ask t h + 1) n request ∷ []));
       good = all_push (IsGood cluster corpus (Ask t (last_ask t h + 1) n request ∷ h)) (in_flight h) (a_request t (last_ask t h + 1) n request) (good_on cluster corpus t (last_ask t h + 1) n request h ties.lawful (omega arith) (in_flight h) (told cluster h ties.lawful) ties.good) tt;
       plain = ties.plain;
     }
       where
-        newest : message_of (Ask t (last_ask t h + 1) n request ∷ h) (sent.Request token n (length h)) ≡ Some (a_request t (last_ask t h + 1) n request)
+        newest : message_of (Ask t (last_ask t h + 1) n request ∷ h) (sent.Request token n (length h) headers) ≡ Some (a_request t (last_ask t h + 1) n request)
         newest = rw is (rw (event_newest (Ask t (last_ask t h + 1) n request) h) refl)
 
-        asked_on : Runs cluster corpus t (record (facts_of (root_request script) t h) { awaited = awaited_by t h ++ Some n ∷ []; requests = requested_by t h ++ request ∷ []; asked = asked_by t h ++ record { ask = last_ask t h + 1; answer = None } ∷ [] }) (running_with_ask r n)
+        asked_on : Runs cluster corpus t (record (facts_of (root_request script) (root_headers script) t h) { awaited = awaited_by t h ++ Some n ∷ []; requests = requested_by t h ++ request ∷ []; asked = asked_by t h ++ record { ask = last_ask t h + 1; answer = None } ∷ [] }) (running_with_ask r n)
         asked_on = record {
           live = runs.live;
           id = runs.id;
           token = runs.token;
           track = ap (λ z. with_ask z n) runs.track;
           new = runs.new;
+          headers = runs.headers;
           works = works_on n;
         }

@@ -11,12 +11,8 @@ use Rattle.task_events.specs.Bans.{bans_are_placed}
 use Rattle.task_events.specs.Cancels.{is_named, waits, found_none, is_answered_placed, is_answered_done}
 use Rattle.task_events.specs.Allowed.{IsDue}
 use Rattle.task_events.specs.Lawful.{AwaitsNoMark, Lawful}
-use Rattle.world_moves.specs.Cancels.{is_answered, answer_to, waits_for_end}
+use Rattle.world_moves.specs.Cancels.{is_answered, answer_by, answer_to, waits_for_end}
 use Rattle.world_moves.proofs.NamedCancels.{is_in, AllDiffer}
-
--- the answer to a cancel, by whether it waits for the end
-abbrev pub answer_by : Bool → ℕ → Event
-answer_by waits_end c = cond waits_end (AnswerDone c) (AnswerPlaced c)
 
 -- the past after the answers to these cancels, of which the first comes first; an earlier past says which of them wait for the end
 abbrev pub after_answers : List Event → List ℕ → List Event → List Event

@@ -1,6 +1,6 @@
 -- An event changes what the past says of the cancellation of one task at most.
-use Rattle.std.proofs.Common.{◌≡◌, ℕ, Bool, false, List, [], ◌∷◌, map, filter, Option, Some, None, refl, ap, subst, arith}
-use Rattle.std.specs.Prelude.{◌==◌, ◌&&◌, not, is_some}
+use Rattle.std.proofs.Common.{◌≡◌, ℕ, Bool, false, List, [], ◌∷◌, map, filter, Option, Some, None, refl, ap, subst, ◌∙◌, arith}
+use Rattle.std.specs.Prelude.{◌==◌, ◌&&◌, not, is_some, true, ⊤}
 use Rattle.std.specs.List.{list_all}
 use Rattle.std.specs.Option.{option_map_or}
 use Rattle.std.specs.FinMap.{get}
@@ -14,10 +14,11 @@ use Rattle.task_events.specs.Same.{same_task}
 use Rattle.task_events.specs.Bans.{mark_of, banned_nodes, is_acked, bans_are_placed}
 use Rattle.task_events.specs.Tasks.{has_ended}
 use Rattle.task_laws.proofs.Same.{same_tests}
+use Rattle.world_moves.specs.Cancels.{waits_for_end}
 use Rattle.world_moves.specs.Cancelling.{cancel_facts, IsEntryBy, IsEntryOf, HasCoreAt, waiter_of}
 use Rattle.world_moves.proofs.NamedCancels.{is_in}
 
--- the task whose cancellation an event is about, and the cancel that it is of
+-- the task whose cancellation an event is about
 abbrev pub about_cancellation : Event → Option TaskId
 about_cancellation (Refuse t c) = Some t
 about_cancellation (Mark t c) = Some t
@@ -25,21 +26,26 @@ about_cancellation (Acked p n) = Some p
 about_cancellation (End t r) = Some t
 about_cancellation _ = None
 
-abbrev pub cancel_in : Event → Option ℕ
-cancel_in (Cancel c t wait) = Some c
-cancel_in _ = None
+-- a cancel that is among these names one task more in the way in which it named the others
+abbrev pub NamesAlike : List ℕ → Event → List Event → Type 0
+NamesAlike waiting (Cancel c t wait) h = is_in c waiting ≡ true → waits_for_end c h ≡ wait
+NamesAlike waiting _ h = ⊤
 
--- the waiters that are another cancel's stay as they were
-pub waiters_same : (c : ℕ) (t : TaskId) (wait : Bool) (h : List Event) (ks : List ℕ) → is_in c ks ≡ false → map (waiter_of h) ks ≡ map (waiter_of (Cancel c t wait ∷ h)) ks
+-- the waiters stay as they were then
+pub waiters_same : (c : ℕ) (t : TaskId) (wait : Bool) (h : List Event) (ks : List ℕ) → (is_in c ks ≡ true → waits_for_end c h ≡ wait) → map (waiter_of h) ks ≡ map (waiter_of (Cancel c t wait ∷ h)) ks
 waiters_same c t wait h [] e = refl
-waiters_same c t wait h (k ∷ ks) e =
-    let apart : (k == c) ≡ false = grind (arith, same_tests) in
-    let rest = waiters_same c t wait h ks (grind (arith, same_tests)) in
-    rw apart (ap (λ ws. waiter_of h k ∷ ws) rest)
+waiters_same c t wait h (k ∷ ks) e = by_number (k == c) refl (waiters_same c t wait h ks (λ i. e (grind (arith, same_tests, i))))
+  where
+    by_number : (b : Bool) → (k == c) ≡ b → map (waiter_of h) ks ≡ map (waiter_of (Cancel c t wait ∷ h)) ks → map (waiter_of h) (k ∷ ks) ≡ map (waiter_of (Cancel c t wait ∷ h)) (k ∷ ks)
+    by_number true n rest =
+        let same : k ≡ c = grind (arith, same_tests) in
+        let kind : waits_for_end k h ≡ wait = ap (λ j. waits_for_end j h) same ∙ e (grind (arith, same_tests, n)) in
+        rw n (λ i. record { cancel = k; wait = kind i } ∷ rest i)
+    by_number false n rest = rw n (ap (λ ws. waiter_of h k ∷ ws) rest)
 
 module _ (waiting : List ℕ) (u : TaskId) (h : List Event) where
-  -- an event about another task's, and of a cancel that does not wait for this one
-  pub frame : (e : Event) → option_map_or (same_task u) (about_cancellation e) false ≡ false → option_map_or (λ c. is_in c waiting) (cancel_in e) false ≡ false
+  -- an event about another task's
+  pub frame : (e : Event) → option_map_or (same_task u) (about_cancellation e) false ≡ false → NamesAlike waiting e h
       → cancel_facts waiting u h ≡ cancel_facts waiting u (e ∷ h)
   frame (Refuse t c) other apart = rw other refl
   frame (End t r) other apart = rw other refl
@@ -67,7 +73,7 @@ module _ (waiting : List ℕ) (u : TaskId) (h : List Event) where
   }
   frame _ other apart = refl
 
-  pub entry_frame : (e : Event) (o : Option Cancellation) → option_map_or (same_task u) (about_cancellation e) false ≡ false → option_map_or (λ c. is_in c waiting) (cancel_in e) false ≡ false
+  pub entry_frame : (e : Event) (o : Option Cancellation) → option_map_or (same_task u) (about_cancellation e) false ≡ false → NamesAlike waiting e h
       → IsEntryOf waiting u h o → IsEntryOf waiting u (e ∷ h) o
   entry_frame e o other apart entry = subst (λ facts. IsEntryBy facts o) (frame e other apart) entry
 

@@ -1,6 +1,6 @@
 -- The tables of cancellations fit the past after a task has left.
-use Rattle.std.proofs.Common.{◌≡◌, ◌⊎◌, ◌≢◌, ℕ, ◌-◌, ◌+◌, ◌≤◌, true, false, not, List, [], ◌∷◌, ◌++◌, filter, map, get_or, Option, Some, None, refl, sym, ap, subst, ◌∙◌, inl, inr, arith}
-use Rattle.std.specs.Prelude.{slice_get, slice_set, reverse}
+use Rattle.std.proofs.Common.{◌≡◌, ◌⊎◌, ◌≢◌, ℕ, ◌-◌, ◌+◌, ◌≤◌, true, false, cond, not, List, [], ◌∷◌, ◌++◌, filter, map, get_or, Option, Some, None, refl, sym, ap, subst, ◌∙◌, inl, inr, arith}
+use Rattle.std.specs.Prelude.{slice_get, slice_set}
 use Rattle.std.specs.BTreeSet.{BTreeSet}
 use Rattle.std.specs.FinMap.{FinMap, get}
 use Rattle.std.proofs.lemmas.List.Elements.{All-filter}
@@ -18,14 +18,21 @@ use Rattle.task_events.specs.declared.event.Event.TheVariants.{Refuse, End}
 use Rattle.task_events.specs.Same.{same_task}
 use Rattle.task_events.specs.Bans.{mark_of}
 use Rattle.task_events.specs.Tasks.{has_ended}
+use Rattle.task_events.specs.Lawful.{Lawful}
 use Rattle.task_laws.proofs.Same.{same_task_tells, same_tests}
 use Rattle.node_parts.specs.declared.listing.Listing.{Listing}
-use Rattle.world_moves.specs.Cancels.{waiting_for, is_due, answer_to, with_answers}
+use Rattle.world_moves.specs.Acts.{answers_of}
+use Rattle.world_moves.specs.Cancels.{waiting_for, is_through, answer_to, with_answers}
+use Rattle.world_moves.specs.Left.{HasLeft}
 use Rattle.world_moves.specs.Cancelling.{Cancelling, IsRowOf, HasRows, HasCoreAt, IsEntryOf, IsCancellationOf}
-use Rattle.world_moves.proofs.CancelAnswersAfter.{waiting_after, NameOneTask}
+use Rattle.world_moves.proofs.AtOneTask.{at_end, at_refusal}
+use Rattle.world_moves.proofs.CountsAfter.{IsAt, let_go, still_waiting, others_wait, answers_then}
+use Rattle.world_moves.proofs.NamedCancels.{is_in}
+use Rattle.world_moves.proofs.QuietCounts.{counts_at}
 use Rattle.world_moves.proofs.AtPlace.{at_node, set_at}
 use Rattle.world_moves.proofs.CancelFrame.{entry_frame}
 use Rattle.world_moves.proofs.CoresAfter.{cores_after}
+use Rattle.world_moves.proofs.DescriptionsAfter.{starts_or_ticks}
 use Rattle.world_moves.proofs.DueActs.{due_left}
 use Rattle.world_moves.proofs.TasksAfterLeave.{itself}
 
@@ -44,6 +51,11 @@ module _ (t : TaskId) (h : List Event) where
   ended_now (End u r) l = rw l (rw (itself t) refl)
   ended_now _ l = absurd l
 
+  pub starts_none : (e : Event) → Leaves t e → starts_or_ticks e ≡ false
+  starts_none (Refuse u c) l = refl
+  starts_none (End u r) l = refl
+  starts_none _ l = absurd l
+
   row_stays : (e : Event) → Leaves t e → (row : TaskInfo) → IsRowOf h row → IsRowOf (e ∷ h) row
   row_stays (Refuse u c) l row i = i
   row_stays (End u r) l row i = i
@@ -54,21 +66,16 @@ module _ (t : TaskId) (h : List Event) where
   mark_stays (End u r) l w = refl
   mark_stays _ l w = absurd l
 
-  pub waiting_stays : (e : Event) → Leaves t e → (w : TaskId) → waiting_for w (e ∷ h) ≡ waiting_for w h
-  waiting_stays (Refuse u c) l w = refl
-  waiting_stays (End u r) l w = refl
-  waiting_stays _ l w = absurd l
-
-  -- a cancel still names one task
-  pub one_task_left : (e : Event) → Leaves t e → NameOneTask h → NameOneTask (e ∷ h)
-  one_task_left (Refuse u c) l one = one
-  one_task_left (End u r) l one = one
-  one_task_left _ l one = absurd l
+  -- it lets cancels go on at the task alone
+  pub leaves_at : (e : Event) → Leaves t e → IsAt t e h
+  leaves_at (Refuse u c) l = subst (λ x. IsAt t (Refuse x c) h) (sym l) (at_refusal t c h)
+  leaves_at (End u r) l = subst (λ x. IsAt t (End x r) h) (sym l) (at_end t r h)
+  leaves_at _ l = absurd l
 
   -- the entry of another task
   entry_stays : (e : Event) → Leaves t e → (waiting : List ℕ) (w : TaskId) (o : Option Cancellation) → same_task t w ≡ false → IsEntryOf waiting w h o → IsEntryOf waiting w (e ∷ h) o
-  entry_stays (Refuse u c) l waiting w o differs i = entry_frame waiting w h (Refuse u c) o (turned_off u w l differs) refl i
-  entry_stays (End u r) l waiting w o differs i = entry_frame waiting w h (End u r) o (turned_off u w l differs) refl i
+  entry_stays (Refuse u c) l waiting w o differs i = entry_frame waiting w h (Refuse u c) o (turned_off u w l differs) tt i
+  entry_stays (End u r) l waiting w o differs i = entry_frame waiting w h (End u r) o (turned_off u w l differs) tt i
   entry_stays _ l waiting w o differs i = absurd l
 
   -- that of an unmarked task, which has none
@@ -81,7 +88,7 @@ module _ (t : TaskId) (h : List Event) where
   nobody_waits none waiting (Some x) i = absurd (let way = rw none at i.0 in cc)
 
   -- that of the task itself, with its receipt
-  pub known_ended : (e : Event) → Leaves t e → (x : Cancellation) (receipt : ReceiptParts) → IsCancellationOf (waiting_for t h) t h x → IsCancellationOf (waiting_for t (e ∷ h)) t (e ∷ h) (with_receipt x receipt)
+  pub known_ended : (e : Event) → Leaves t e → (x : Cancellation) (receipt : ReceiptParts) → IsCancellationOf (waiting_for t h) t h x → IsCancellationOf (waiting_for t h) t (e ∷ h) (with_receipt x receipt)
   known_ended (Refuse u c) l x receipt i = (i.0, i.1, i.2, i.3, sym (ended_now (Refuse u c) l))
   known_ended (End u r) l x receipt i = (i.0, i.1, i.2, i.3, sym (ended_now (End u r) l))
   known_ended _ l x receipt i = absurd l
@@ -92,9 +99,9 @@ module _ (t : TaskId) (h : List Event) where
       → Cancelling cluster waiting h tables roots bans cores listings → ((place : ℕ) → HasRows (e ∷ h) (slice_get after place)) → ((place : ℕ) → HasCoreAt cluster new place (e ∷ h) (slice_get known place))
       → Cancelling cluster new (e ∷ h) after roots bans known listings
   left_noted (Refuse u k) l cluster waiting new tables after roots bans cores known listings c rows entries =
-      record { rows_are = rows; roots_are = c.roots_are; bans_are = c.bans_are; cores_are = entries; listings_are = c.listings_are; one_task = c.one_task }
+      record { rows_are = rows; roots_are = c.roots_are; bans_are = c.bans_are; cores_are = entries; listings_are = c.listings_are }
   left_noted (End u r) l cluster waiting new tables after roots bans cores known listings c rows entries =
-      record { rows_are = rows; roots_are = c.roots_are; bans_are = c.bans_are; cores_are = entries; listings_are = c.listings_are; one_task = c.one_task }
+      record { rows_are = rows; roots_are = c.roots_are; bans_are = c.bans_are; cores_are = entries; listings_are = c.listings_are }
   left_noted _ l cluster waiting new tables after roots bans cores known listings c rows entries = absurd l
 
   rows_at : (e : Event) → Leaves t e → (o : Option Table) → HasRows h o → HasRows (e ∷ h) o
@@ -108,23 +115,31 @@ module _ (t : TaskId) (h : List Event) where
       (All-filter (λ row. not (has_number t.number row)) (IsRowOf (e ∷ h)) table.live (rows_at e l (Some table) (subst (λ o. HasRows h o) here (rows (t.node - 1)))))
       (λ place apart i. rows_at e l (slice_get tables place) i)
 
+  -- where nobody waits at it, nobody does then
+  nobody_then : (e : Event) → Leaves t e → (cluster : Cluster) → Lawful cluster h → mark_of t h ≡ None → waiting_for t h ≡ [] → waiting_for t (e ∷ h) ≡ []
+  nobody_then e l cluster lawful none nobody = sym (still_waiting cluster t e h lawful (leaves_at e l)) ∙ ap (filter (λ c. not (is_through (e ∷ h) c t))) nobody
+
   -- ---- where the task is not marked
 
-  cores_unmarked : (e : Event) → Leaves t e → mark_of t h ≡ None → (cluster : Cluster) (place : ℕ) (o : Option Cancellations) → HasCoreAt cluster (λ u. waiting_for u h) place h o → HasCoreAt cluster (λ u. waiting_for u (e ∷ h)) place (e ∷ h) o
-  cores_unmarked e l none cluster place None i = i
-  cores_unmarked e l none cluster place (Some core) i = λ w there. rw (waiting_stays e l w) (by_task w (i w there) (same_task_tells t w))
+  cores_unmarked : (e : Event) → Leaves t e → mark_of t h ≡ None → (cluster : Cluster) → Lawful cluster h → (place : ℕ) (o : Option Cancellations) → HasCoreAt cluster (λ u. waiting_for u h) place h o → HasCoreAt cluster (λ u. waiting_for u (e ∷ h)) place (e ∷ h) o
+  cores_unmarked e l none cluster lawful place None i = i
+  cores_unmarked e l none cluster lawful place (Some core) i = λ w there. by_task w (i w there) (same_task_tells t w)
     where
-      by_task : (w : TaskId) → IsEntryOf (waiting_for w h) w h (get core.entries w) → ((same_task t w ≡ true) × (t ≡ w)) ⊎ ((same_task t w ≡ false) × (t ≢ w)) → IsEntryOf (waiting_for w h) w (e ∷ h) (get core.entries w)
-      by_task w entry (inl (is_one, same)) =
-          subst (λ u. IsEntryOf (waiting_for u h) u h (get core.entries u) → IsEntryOf (waiting_for u h) u (e ∷ h) (get core.entries u)) same (entry_unmarked e l none (waiting_for t h) (get core.entries t)) entry
-      by_task w entry (inr (differs, apart)) = entry_stays e l (waiting_for w h) w (get core.entries w) differs entry
+      own : IsEntryOf (waiting_for t h) t h (get core.entries t) → IsEntryOf (waiting_for t (e ∷ h)) t (e ∷ h) (get core.entries t)
+      own entry =
+          let nobody = nobody_waits none (waiting_for t h) (get core.entries t) entry in
+          subst (λ ks. IsEntryOf ks t (e ∷ h) (get core.entries t)) (nobody ∙ sym (nobody_then e l cluster lawful none nobody)) (entry_unmarked e l none (waiting_for t h) (get core.entries t) entry)
 
-  pub noted_unmarked : (e : Event) → Leaves t e → mark_of t h ≡ None → (cluster : Cluster) (tables : List Table) (roots : ℕ → Option TaskId) (bans : List (FinMap task_id_cmp ℕ)) (cores : List Cancellations) (listings : BTreeSet Listing) (table : Table)
+      by_task : (w : TaskId) → IsEntryOf (waiting_for w h) w h (get core.entries w) → ((same_task t w ≡ true) × (t ≡ w)) ⊎ ((same_task t w ≡ false) × (t ≢ w)) → IsEntryOf (waiting_for w (e ∷ h)) w (e ∷ h) (get core.entries w)
+      by_task w entry (inl (is_one, same)) = subst (λ u. IsEntryOf (waiting_for u h) u h (get core.entries u) → IsEntryOf (waiting_for u (e ∷ h)) u (e ∷ h) (get core.entries u)) same own entry
+      by_task w entry (inr (differs, apart)) = rw (others_wait cluster t e h lawful (leaves_at e l) w differs) (entry_stays e l (waiting_for w h) w (get core.entries w) differs entry)
+
+  pub noted_unmarked : (e : Event) → Leaves t e → mark_of t h ≡ None → (cluster : Cluster) → Lawful cluster h → (tables : List Table) (roots : ℕ → Option TaskId) (bans : List (FinMap task_id_cmp ℕ)) (cores : List Cancellations) (listings : BTreeSet Listing) (table : Table)
       → slice_get tables (t.node - 1) ≡ Some table → Cancelling cluster (λ u. waiting_for u h) h tables roots bans cores listings
       → Cancelling cluster (λ u. waiting_for u (e ∷ h)) (e ∷ h) (slice_set tables (t.node - 1) (without_task table t.number)) roots bans cores listings
-  noted_unmarked e l none cluster tables roots bans cores listings table here c =
+  noted_unmarked e l none cluster lawful tables roots bans cores listings table here c =
       left_noted e l cluster _ _ tables _ roots bans cores cores listings c (rows_left e l tables table here c.rows_are)
-      (λ place. cores_unmarked e l none cluster place (slice_get cores place) (c.cores_are place))
+      (λ place. cores_unmarked e l none cluster lawful place (slice_get cores place) (c.cores_are place))
 
   -- ---- the core of its node
 
@@ -140,23 +155,31 @@ module _ (t : TaskId) (h : List Event) where
   core_there cluster tables roots bans cores listings c high =
       at_node cores cluster.nodes t.node (λ place beyond. subst (λ o. HasCoreAt cluster (λ u. waiting_for u h) place h o) beyond (c.cores_are place)) t.node_in_range.0 high
 
-  -- nothing is due where nobody waits
-  pub nothing_due : (e : Event) → Leaves t e → waiting_for t h ≡ [] → with_answers t (e ∷ h) ≡ e ∷ h
-  nothing_due e l none = ap (λ ws. reverse (map (answer_to (e ∷ h)) (filter (is_due t (e ∷ h)) ws)) ++ (e ∷ h)) (waiting_stays e l t ∙ none)
+  -- nothing is due where nobody waits, and the counts stay
+  pub nothing_due : (e : Event) → Leaves t e → (cluster : Cluster) → Lawful cluster h → (left : ℕ → ℕ) → HasLeft None h left → waiting_for t h ≡ [] → with_answers t (e ∷ h) ≡ e ∷ h
+  nothing_due e l cluster lawful left has none = sym (answers_then cluster t e h lawful (leaves_at e l) left has) ∙ ap (λ ws. answers_of (map (answer_to (e ∷ h)) (filter (λ c. is_through (e ∷ h) c t) ws)) left ++ (e ∷ h)) none
+
+  pub counts_unmarked : (e : Event) → Leaves t e → (cluster : Cluster) → Lawful cluster h → (left : ℕ → ℕ) → HasLeft None h left → waiting_for t h ≡ [] → HasLeft None (e ∷ h) left
+  counts_unmarked e l cluster lawful left has none =
+      counts_at cluster None t e h left left lawful (leaves_at e l) (λ c n. nobody c) (λ c. sym (ap (λ b. cond b (left c - 1) (left c)) (nobody c))) has
+    where
+      nobody : (c : ℕ) → is_in c (let_go t e h) ≡ false
+      nobody c = ap (λ ws. is_in c (filter (λ d. is_through (e ∷ h) d t) ws)) none
 
   -- ---- where a cancellation of it is under way
 
-  -- the entry of another task, once those that are due have been answered
-  entry_else : (e : Event) → Leaves t e → (w : TaskId) (o : Option Cancellation) → same_task t w ≡ false → IsEntryOf (waiting_for w h) w h o → IsEntryOf (waiting_after t (e ∷ h) w) w (e ∷ h) o
-  entry_else e l w o differs entry = rw differs (rw (waiting_stays e l w) (entry_stays e l (waiting_for w h) w o differs entry))
+  -- the entry of another task
+  entry_else : (e : Event) → Leaves t e → (cluster : Cluster) → Lawful cluster h → (w : TaskId) (o : Option Cancellation) → same_task t w ≡ false → IsEntryOf (waiting_for w h) w h o → IsEntryOf (waiting_for w (e ∷ h)) w (e ∷ h) o
+  entry_else e l cluster lawful w o differs entry = rw (others_wait cluster t e h lawful (leaves_at e l) w differs) (entry_stays e l (waiting_for w h) w o differs entry)
 
   -- that of the task itself then
-  own_entry : (e : Event) → Leaves t e → (x : Cancellation) (receipt : ReceiptParts) → IsCancellationOf (waiting_for t h) t h x → IsEntryOf (waiting_after t (e ∷ h) t) t (e ∷ h) (rest_of (with_receipt x receipt))
-  own_entry e l x receipt known = rw (itself t) (due_left t (e ∷ h) (with_receipt x receipt) (known_ended e l x receipt known))
+  own_entry : (e : Event) → Leaves t e → (cluster : Cluster) → Lawful cluster h → (x : Cancellation) (receipt : ReceiptParts) → IsCancellationOf (waiting_for t h) t h x → IsEntryOf (waiting_for t (e ∷ h)) t (e ∷ h) (rest_of (with_receipt x receipt))
+  own_entry e l cluster lawful x receipt known =
+      subst (λ ks. IsEntryOf ks t (e ∷ h) (rest_of (with_receipt x receipt))) (still_waiting cluster t e h lawful (leaves_at e l)) (due_left (waiting_for t h) t (e ∷ h) (with_receipt x receipt) (known_ended e l x receipt known))
 
-  pub noted_ended : (e : Event) → Leaves t e → (cluster : Cluster) (tables : List Table) (roots : ℕ → Option TaskId) (bans : List (FinMap task_id_cmp ℕ)) (cores : List Cancellations) (listings : BTreeSet Listing) (table : Table) (core : Cancellations) (x : Cancellation) (receipt : ReceiptParts)
+  pub noted_ended : (e : Event) → Leaves t e → (cluster : Cluster) → Lawful cluster h → (tables : List Table) (roots : ℕ → Option TaskId) (bans : List (FinMap task_id_cmp ℕ)) (cores : List Cancellations) (listings : BTreeSet Listing) (table : Table) (core : Cancellations) (x : Cancellation) (receipt : ReceiptParts)
       → slice_get tables (t.node - 1) ≡ Some table → slice_get cores (t.node - 1) ≡ Some core → IsCancellationOf (waiting_for t h) t h x → t.node ≤ cluster.nodes → Cancelling cluster (λ u. waiting_for u h) h tables roots bans cores listings
-      → Cancelling cluster (waiting_after t (e ∷ h)) (e ∷ h) (slice_set tables (t.node - 1) (without_task table t.number)) roots bans (slice_set cores (t.node - 1) (with_entry core t (rest_of (with_receipt x receipt)))) listings
-  noted_ended e l cluster tables roots bans cores listings table core x receipt its_table its_core known high c =
+      → Cancelling cluster (λ u. waiting_for u (e ∷ h)) (e ∷ h) (slice_set tables (t.node - 1) (without_task table t.number)) roots bans (slice_set cores (t.node - 1) (with_entry core t (rest_of (with_receipt x receipt)))) listings
+  noted_ended e l cluster lawful tables roots bans cores listings table core x receipt its_table its_core known high c =
       left_noted e l cluster _ _ tables _ roots bans cores _ listings c (rows_left e l tables table its_table c.rows_are)
-      (cores_after cluster (λ u. waiting_for u h) h cores c.cores_are t high core its_core (waiting_after t (e ∷ h)) (e ∷ h) (rest_of (with_receipt x receipt)) (own_entry e l x receipt known) (λ w differs o entry. entry_else e l w o differs entry))
+      (cores_after cluster (λ u. waiting_for u h) h cores c.cores_are t high core its_core (λ u. waiting_for u (e ∷ h)) (e ∷ h) (rest_of (with_receipt x receipt)) (own_entry e l cluster lawful x receipt known) (λ w differs o entry. entry_else e l cluster lawful w o differs entry))

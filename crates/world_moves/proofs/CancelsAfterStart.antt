@@ -12,6 +12,7 @@ use Rattle.task_ids.specs.declared.task_id.TaskId.{TaskId}
 use Rattle.task_ids.specs.declared.task_info.NewTask.{NewTask}
 use Rattle.task_ids.specs.declared.task_info.TaskInfo.{TaskInfo}
 use Rattle.task_ids.specs.declared.cluster.Cluster.{Cluster}
+use Rattle.task_ids.specs.Headers.{no_headers}
 use Rattle.task_ids.specs.TaskIdOrder.{task_id_cmp}
 use Rattle.task_table.specs.Rows.{row_for}
 use Rattle.task_table.specs.Table.{Table, with_task}
@@ -60,19 +61,19 @@ record IsStartFor (t : TaskId) (parent : Option TaskId) (e : Event) (h : List Ev
 
 module _ (cluster : Cluster) (t : TaskId) (h : List Event) (lawful : Lawful cluster h) (new : last_number t.node h < t.number) where
   not_live : is_live t h ≡ false
-  not_live = ap (λ f. f.live) (unborn cluster t (λ k. None) h lawful new)
+  not_live = ap (λ f. f.live) (unborn cluster t (λ k. None) (λ k. no_headers) h lawful new)
 
   no_mark : mark_of t h ≡ None
-  no_mark = ap (λ f. f.mark) (unborn cluster t (λ k. None) h lawful new)
+  no_mark = ap (λ f. f.mark) (unborn cluster t (λ k. None) (λ k. no_headers) h lawful new)
 
   no_parent : parent_of t h ≡ None
-  no_parent = ap (λ f. f.parent) (unborn cluster t (λ k. None) h lawful new)
+  no_parent = ap (λ f. f.parent) (unborn cluster t (λ k. None) (λ k. no_headers) h lawful new)
 
   -- each live task is another
   others_live : All (λ u. same_task t u ≡ false) (live_tasks h)
   others_live = none_passes (same_task t) (live_tasks h) ((living_facts cluster h lawful).once t ∙ ap (λ b. cond b 1 0) not_live)
 
-  rows_differ : (n : ℕ) (table : Table) → IsTableOf cluster n h table → All (λ (row : TaskInfo). same_task t row.id ≡ false) table.live
+  pub rows_differ : (n : ℕ) (table : Table) → IsTableOf cluster n h table → All (λ (row : TaskInfo). same_task t row.id ≡ false) table.live
   rows_differ n table i =
       let here : List TaskId = filter (λ u. n == u.node) (live_tasks h) in
       let differ = All-permutation (λ u. same_task t u ≡ false) here (reverse here) (IsPermutation-reverse here) (All-filter (λ u. n == u.node) (λ u. same_task t u ≡ false) (live_tasks h) others_live) in
@@ -94,7 +95,7 @@ module _ (cluster : Cluster) (t : TaskId) (h : List Event) (lawful : Lawful clus
 
 module _ (cluster : Cluster) (h : List Event) (tables : List Table) (listed : (place : ℕ) → IsTableAt cluster place h (slice_get tables place)) (n : ℕ) (low : 1 ≤ n) (high : n ≤ cluster.nodes)
     (t : TaskId) (task : NewTask) (after : List Table) (put : IsPutOn tables n t task after) (lawful : Lawful cluster h) where
-  is_new : last_number t.node h < t.number
+  pub is_new : last_number t.node h < t.number
   is_new = let next = (put_takes cluster h tables listed n low high t task after put lawful).next in omega arith
 
   put_rows : (parent : Option TaskId) (e : Event) → IsStartFor t parent e h → task.parent ≡ parent → ((place : ℕ) → HasRows h (slice_get tables place)) → (place : ℕ) → HasRows (e ∷ h) (slice_get after place)

@@ -12,13 +12,11 @@ use Rattle.cancel_core.specs.Cancellations.{Cancellations}
 use Rattle.task_events.specs.declared.event.Event.{Event}
 use Rattle.task_events.specs.declared.event.Event.TheVariants.{Root, Put, Refuse, Cancel, Mark, BanPut, Listed, Acked, BanGone, End}
 use Rattle.task_events.specs.Same.{same_task}
-use Rattle.task_events.specs.Cancels.{is_named}
 use Rattle.node_parts.specs.declared.listing.Listing.{Listing}
 use Rattle.world_moves.specs.Cancels.{root_of}
 use Rattle.world_moves.specs.Listings.{is_open}
 use Rattle.world_moves.specs.Cancelling.{Cancelling, HasRows, HasBansAt}
-use Rattle.world_moves.proofs.CancelFrame.{about_cancellation, cancel_in, entry_frame, cores_kept}
-use Rattle.world_moves.proofs.NamedCancels.{is_in}
+use Rattle.world_moves.proofs.CancelFrame.{about_cancellation, NamesAlike, entry_frame, cores_kept}
 
 -- the event marks or names a task, is of a ban, or ends a task
 abbrev pub cancels : Event → Bool
@@ -43,23 +41,19 @@ bans_stay cluster (BanGone n p) h a place o b = absurd (cc)
 bans_stay cluster _ h a place None b = b
 bans_stay cluster _ h a place (Some bans) b = b
 
--- it is about no task's cancellation, and of no cancel
-uninvolved : (e : Event) → cancels e ≡ false → (about_cancellation e ≡ None) × (cancel_in e ≡ None)
-uninvolved (Refuse u c) a = absurd (cc)
-uninvolved (Cancel c u wait) a = absurd (cc)
-uninvolved (Mark u c) a = absurd (cc)
-uninvolved (Acked p n) a = absurd (cc)
-uninvolved (End u r) a = absurd (cc)
-uninvolved _ a = (refl, refl)
+-- it is about no task's cancellation, and names no task
+uninvolved : (waiting : List ℕ) (e : Event) (h : List Event) → cancels e ≡ false → (about_cancellation e ≡ None) × NamesAlike waiting e h
+uninvolved waiting (Refuse u c) h a = absurd (cc)
+uninvolved waiting (Cancel c u wait) h a = absurd (cc)
+uninvolved waiting (Mark u c) h a = absurd (cc)
+uninvolved waiting (Acked p n) h a = absurd (cc)
+uninvolved waiting (End u r) h a = absurd (cc)
+uninvolved waiting _ h a = (refl, tt)
 
 opens_nothing : (e : Event) (h : List Event) (l : Listing) → cancels e ≡ false → is_open l (e ∷ h) ≡ is_open l h
 opens_nothing (BanPut n p c) h l a = absurd (cc)
 opens_nothing (Listed n p) h l a = absurd (cc)
 opens_nothing _ h l a = refl
-
-names_nothing : (e : Event) (h : List Event) (c : ℕ) (t : TaskId) → cancels e ≡ false → is_named c t (e ∷ h) ≡ is_named c t h
-names_nothing (Cancel d u wait) h c t a = absurd (cc)
-names_nothing _ h c t a = refl
 
 rows_stay : (e : Event) (h : List Event) → cancels e ≡ false → starts e ≡ false → (o : Option Table) → HasRows h o → HasRows (e ∷ h) o
 rows_stay (Mark u c) h a b o i = absurd (cc)
@@ -81,9 +75,8 @@ module _ (cluster : Cluster) (waiting : TaskId → List ℕ) (h : List Event) (t
     roots_are = starts_of;
     bans_are = λ place. bans_stay cluster e h a place _ (known.bans_are place);
     cores_are = λ place. cores_kept cluster waiting waiting h (e ∷ h)
-        (λ u o. let none = uninvolved e a in entry_frame (waiting u) u h e o (ap (λ o. option_map_or (same_task u) o false) none.0) (ap (λ o. option_map_or (λ c. is_in c (waiting u)) o false) none.1)) place _ (known.cores_are place);
+        (λ u o. let none = uninvolved (waiting u) e h a in entry_frame (waiting u) u h e o (ap (λ o. option_map_or (same_task u) o false) none.0) none.1) place _ (known.cores_are place);
     listings_are = λ l. known.listings_are l ∙ sym (opens_nothing e h l a);
-    one_task = λ c t u x y. known.one_task c t u (sym (names_nothing e h c t a) ∙ x) (sym (names_nothing e h c u a) ∙ y);
   }
 
   pub noted : (e : Event) → cancels e ≡ false → starts e ≡ false → Cancelling cluster waiting (e ∷ h) tables roots bans cores listings

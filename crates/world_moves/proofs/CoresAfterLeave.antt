@@ -1,6 +1,6 @@
 -- What the core of its node knows of a task that leaves, and what it then has to do.
 use Rattle.std.proofs.Common.{◌≡◌, ℕ, zero, suc, Bool, true, false, not, List, [], ◌∷◌, ◌++◌, ◌-◌, map, get_or, Option, Some, None, refl, sym, ap, subst, ◌∙◌}
-use Rattle.std.specs.Prelude.{is_some, ◌&&◌, unwrap_or, filter, slice_get, slice_set}
+use Rattle.std.specs.Prelude.{is_some, ◌&&◌, unwrap_or, slice_get, slice_set}
 use Rattle.std.specs.BTreeSet.{BTreeSet}
 use Rattle.std.specs.FinMap.{FinMap, get}
 use Rattle.std.proofs.lemmas.Option.{get_or_from_slice_get}
@@ -23,15 +23,17 @@ use Rattle.task_laws.proofs.Asks.{ask_facts}
 use Rattle.task_laws.proofs.Reach.{reach_facts}
 use Rattle.script_lang.specs.declared.command.Script.{Script}
 use Rattle.node_parts.specs.declared.listing.Listing.{Listing}
-use Rattle.world_moves.specs.Acts.{messages_in, answers_in}
-use Rattle.world_moves.specs.Cancels.{waiting_for, is_due, with_answers}
+use Rattle.world_moves.specs.Acts.{messages_in, offered_in, left_after, answers_of, answers_in}
+use Rattle.world_moves.specs.Cancels.{waiting_for, answer_to, with_answers}
+use Rattle.world_moves.specs.Left.{HasLeft}
 use Rattle.world_moves.specs.Cancelling.{Cancelling, IsEntryOf, IsCancellationOf}
 use Rattle.world_moves.specs.Flights.{message_of}
 use Rattle.world_moves.specs.Moves.{IsPartOf}
 use Rattle.world_moves.specs.Plain.{AnswersPlainly}
-use Rattle.world_moves.proofs.CancelAnswers.{answers_appended, answers_keep}
+use Rattle.world_moves.proofs.CancelAnswersAfter.{kept}
+use Rattle.world_moves.proofs.CountsAfter.{let_go, answers_then, counts_then}
 use Rattle.world_moves.proofs.DueActs.{due_answered, due_sent}
-use Rattle.world_moves.proofs.CancelsAfterLeave.{Leaves, known_ended, core_there, entry_there, nobody_waits}
+use Rattle.world_moves.proofs.CancelsAfterLeave.{Leaves, leaves_at, known_ended, core_there, entry_there, nobody_waits}
 
 -- what is written where it stands changes nothing
 pub set_again : {X : Type 0} (xs : List X) (k : ℕ) (x : X) → slice_get xs k ≡ Some x → slice_set xs k x ≡ xs
@@ -81,18 +83,22 @@ module _ (cluster : Cluster) (h : List Event) (tables : List Table) (roots : ℕ
   pub nobody_there : has_entry core t ≡ false → waiting_for t h ≡ []
   nobody_there none = nobody_waits t h (unmarked_there none) (waiting_for t h) (get core.entries t) entry
 
-module _ (t : TaskId) (e : Event) (h : List Event) (leaves : Leaves t e) (x : Cancellation) (receipt : ReceiptParts) (known : IsCancellationOf (waiting_for t h) t h x) (acts : List Act) (are : acts ≡ due_acts t (with_receipt x receipt)) where
-  pub answered_then : answers_in acts ++ (e ∷ h) ≡ with_answers t (e ∷ h)
-  answered_then = ap (λ xs. answers_in xs ++ (e ∷ h)) are ∙ ap (λ es. es ++ (e ∷ h)) (due_answered t (e ∷ h) (with_receipt x receipt) (known_ended t h e leaves x receipt known))
+module _ (cluster : Cluster) (t : TaskId) (e : Event) (h : List Event) (leaves : Leaves t e) (lawful : Lawful cluster h) (left : ℕ → ℕ) (has : HasLeft None h left) (x : Cancellation) (receipt : ReceiptParts) (known : IsCancellationOf (waiting_for t h) t h x) (acts : List Act) (are : acts ≡ due_acts t (with_receipt x receipt)) where
+  offered : offered_in acts ≡ map (answer_to (e ∷ h)) (let_go t e h)
+  offered = ap offered_in are ∙ due_answered (waiting_for t h) t (e ∷ h) (with_receipt x receipt) (known_ended t h e leaves x receipt known)
+
+  pub answered_then : answers_in acts left ++ (e ∷ h) ≡ with_answers t (e ∷ h)
+  answered_then = ap (λ es. answers_of es left ++ (e ∷ h)) offered ∙ answers_then cluster t e h lawful (leaves_at t h e leaves) left has
+
+  pub counted_then : (after : ℕ → ℕ) → ((c : ℕ) → after c ≡ left_after (offered_in acts) left c) → HasLeft None (with_answers t (e ∷ h)) after
+  counted_then after is = counts_then cluster t e h lawful (leaves_at t h e leaves) left has after (λ c. is c ∙ ap (λ es. left_after es left c) offered)
 
   pub sent_then : (node : ℕ) → map (message_of (e ∷ h)) (messages_in node acts) ≡ map Some (unbans_from t (e ∷ h))
-  sent_then node = ap (λ xs. map (message_of (e ∷ h)) (messages_in node xs)) are ∙ due_sent t (e ∷ h) (with_receipt x receipt) (known_ended t h e leaves x receipt known) node (e ∷ h)
+  sent_then node = ap (λ xs. map (message_of (e ∷ h)) (messages_in node xs)) are ∙ due_sent (waiting_for t h) t (e ∷ h) (with_receipt x receipt) (known_ended t h e leaves x receipt known) node (e ∷ h)
 
-  pub part_then : (past new : List Event) → past ≡ e ∷ h → IsPartOf past new (answers_in acts ++ past) → IsPartOf (e ∷ h) new (with_answers t (e ∷ h))
-  part_then past new is part = subst (λ whole. IsPartOf (e ∷ h) new whole) answered_then (subst (λ p. IsPartOf p new (answers_in acts ++ p)) is part)
+  pub part_then : (past new : List Event) → past ≡ e ∷ h → IsPartOf past new (answers_in acts left ++ past) → IsPartOf (e ∷ h) new (with_answers t (e ∷ h))
+  part_then past new is part = subst (λ whole. IsPartOf (e ∷ h) new whole) answered_then (subst (λ p. IsPartOf p new (answers_in acts left ++ p)) is part)
 
 -- the answers keep the replies plain
 pub answers_plain : (cluster : Cluster) (corpus : Corpus) (script : Script) (t : TaskId) (h : List Event) → AnswersPlainly cluster corpus script h → AnswersPlainly cluster corpus script (with_answers t h)
-answers_plain cluster corpus script t h plain =
-    let due = filter (is_due t h) (waiting_for t h) in
-    subst (AnswersPlainly cluster corpus script) (answers_appended h due h) (answers_keep (AnswersPlainly cluster corpus script) (λ c past p. p) (λ c past p. p) h due h plain)
+answers_plain cluster corpus script t h plain = kept (AnswersPlainly cluster corpus script) (λ c past p. p) (λ c past p. p) t h plain

@@ -13,8 +13,8 @@ use Rattle.task_events.specs.Bans.{banned_nodes, is_acked, bans_are_placed}
 use Rattle.task_events.specs.Messages.{unbans_from}
 use Rattle.task_events.specs.Messages.Message.{Unban}
 use Rattle.task_events.specs.Tasks.{has_ended}
-use Rattle.world_moves.specs.Acts.{message_in, messages_in, answer_in, answers_in}
-use Rattle.world_moves.specs.Cancels.{waiting_for, waits_for_end, is_due, due_answers, answer_to}
+use Rattle.world_moves.specs.Acts.{message_in, messages_in, answer_in, offered_in}
+use Rattle.world_moves.specs.Cancels.{waits_for_end, is_through, answer_to}
 use Rattle.world_moves.specs.Cancelling.{IsCancellationOf, IsEntryOf, waiter_of}
 use Rattle.world_moves.specs.Flights.{message_of}
 
@@ -105,17 +105,17 @@ module _ (t : TaskId) (h : List Event) where
   unbans node past [] = refl
   unbans node past (n ∷ ns) = ap (λ ms. Some (Unban t n) ∷ ms) (unbans node past ns)
 
--- where the core knows all that wait for the cancellation, also those that are due now
-module _ (t : TaskId) (h : List Event) (c : Cancellation) (known : IsCancellationOf (waiting_for t h) t h c) where
+-- where the core knows all that wait for the cancellation, also those that need not wait any more
+module _ (ks : List ℕ) (t : TaskId) (h : List Event) (c : Cancellation) (known : IsCancellationOf ks t h c) where
   -- the core knows whether the bans are placed
   pub knows_placed : is_placed c ≡ bans_are_placed t h
   knows_placed = rw (known.0, known.2) (none_left (λ n. is_acked n t h) (banned_nodes t h))
 
   acts_answer : (placed : Bool) (o : Option ReceiptParts) (ended : Bool) → is_placed c ≡ placed → bans_are_placed t h ≡ placed → c.receipt ≡ o → is_some o ≡ ended → has_ended t h ≡ ended
-      → filter_map answer_in (due_acts t c) ≡ map (answer_to h) (filter (λ k. bans_are_placed t h && (not (waits_for_end k h) || has_ended t h)) (waiting_for t h))
-  acts_answer false o ended p q r s e = rw (p, q) (sym (ap (map (answer_to h)) (none_pass (waiting_for t h))))
-  acts_answer true None ended p q r s e = let f = e ∙ sym s in rw (p, q, r, f, known.3) (answers_placed t h (waiting_for t h))
-  acts_answer true (Some receipt) ended p q r s e = let f = e ∙ sym s in rw (p, q, r, f, known.3) (of_all (waiting_for t h))
+      → filter_map answer_in (due_acts t c) ≡ map (answer_to h) (filter (λ k. bans_are_placed t h && (not (waits_for_end k h) || has_ended t h)) ks)
+  acts_answer false o ended p q r s e = rw (p, q) (sym (ap (map (answer_to h)) (none_pass ks)))
+  acts_answer true None ended p q r s e = let f = e ∙ sym s in rw (p, q, r, f, known.3) (answers_placed t h ks)
+  acts_answer true (Some receipt) ended p q r s e = let f = e ∙ sym s in rw (p, q, r, f, known.3) (of_all ks)
     where
       of_all : (ks : List ℕ) → filter_map answer_in (unban_acts t c.banned ++ map (answer_act t receipt) (map (waiter_of h) ks)) ≡ map (answer_to h) (filter (λ k. not (waits_for_end k h) || true) ks)
       of_all ks =
@@ -123,15 +123,15 @@ module _ (t : TaskId) (h : List Event) (c : Cancellation) (known : IsCancellatio
           ∙ ap (λ es. es ++ filter_map answer_in (map (answer_act t receipt) (map (waiter_of h) ks))) (no_answers t h c.banned)
           ∙ answers_done t h receipt ks ∙ sym (ap (map (answer_to h)) (all_due t h ks))
 
-  pub due_answered : answers_in (due_acts t c) ≡ reverse (due_answers t h)
-  due_answered = ap reverse (acts_answer (is_placed c) c.receipt _ refl (sym knows_placed) refl refl (sym known.4))
+  pub due_answered : offered_in (due_acts t c) ≡ map (answer_to h) (filter (λ k. is_through h k t) ks)
+  due_answered = acts_answer (is_placed c) c.receipt _ refl (sym knows_placed) refl refl (sym known.4)
 
   acts_send : (node : ℕ) (past : List Event) (placed : Bool) (o : Option ReceiptParts) (ended : Bool) → is_placed c ≡ placed → bans_are_placed t h ≡ placed → c.receipt ≡ o → is_some o ≡ ended → has_ended t h ≡ ended
       → map (message_of past) (messages_in node (due_acts t c)) ≡ map Some (unbans_from t h)
   acts_send node past false o true p q r s e = rw (p, q, e) refl
   acts_send node past false o false p q r s e = rw (p, q, e) refl
-  acts_send node past true None ended p q r s e = let f = e ∙ sym s in rw (p, q, r, f, known.3) (ap (map (message_of past)) (no_messages t h node (waiting_for t h)))
-  acts_send node past true (Some receipt) ended p q r s e = let f = e ∙ sym s in rw (p, q, r, f, known.3, known.1) (of_all (waiting_for t h) (banned_nodes t h))
+  acts_send node past true None ended p q r s e = let f = e ∙ sym s in rw (p, q, r, f, known.3) (ap (map (message_of past)) (no_messages t h node ks))
+  acts_send node past true (Some receipt) ended p q r s e = let f = e ∙ sym s in rw (p, q, r, f, known.3, known.1) (of_all ks (banned_nodes t h))
     where
       of_all : (ks ns : List ℕ) → map (message_of past) (messages_in node (unban_acts t ns ++ map (answer_act t receipt) (map (waiter_of h) ks))) ≡ map Some (map (Unban t) ns)
       of_all ks ns =
@@ -143,13 +143,13 @@ module _ (t : TaskId) (h : List Event) (c : Cancellation) (known : IsCancellatio
   due_sent node past = acts_send node past (is_placed c) c.receipt _ refl (sym knows_placed) refl refl (sym known.4)
 
   acts_leave : (placed : Bool) (o : Option ReceiptParts) (ended : Bool) → is_placed c ≡ placed → bans_are_placed t h ≡ placed → c.receipt ≡ o → is_some o ≡ ended → has_ended t h ≡ ended
-      → IsEntryOf (filter (λ k. not (is_due t h k)) (waiting_for t h)) t h (rest_of c)
-  acts_leave false o true p q r s e = rw (p, q, e) (rw known.0 refl, (known.0, known.1, known.2, known.3 ∙ ap (map (waiter_of h)) (sym (all_pass (waiting_for t h))), known.4 ∙ e))
-  acts_leave false o false p q r s e = rw (p, q, e) (rw known.0 refl, (known.0, known.1, known.2, known.3 ∙ ap (map (waiter_of h)) (sym (all_pass (waiting_for t h))), known.4 ∙ e))
+      → IsEntryOf (filter (λ k. not (is_through h k t)) ks) t h (rest_of c)
+  acts_leave false o true p q r s e = rw (p, q, e) (rw known.0 refl, (known.0, known.1, known.2, known.3 ∙ ap (map (waiter_of h)) (sym (all_pass ks)), known.4 ∙ e))
+  acts_leave false o false p q r s e = rw (p, q, e) (rw known.0 refl, (known.0, known.1, known.2, known.3 ∙ ap (map (waiter_of h)) (sym (all_pass ks)), known.4 ∙ e))
   acts_leave true None ended p q r s e =
       let f = e ∙ sym s in
-      rw (p, q, r, f) (rw known.0 refl, (known.0, known.1, known.2, ap (filter (λ w. w.wait)) known.3 ∙ still_placed t h (waiting_for t h), refl))
-  acts_leave true (Some receipt) ended p q r s e = let f = e ∙ sym s in rw (p, r, q, f) (rw known.0 refl, none_left_due t h (waiting_for t h))
+      rw (p, q, r, f) (rw known.0 refl, (known.0, known.1, known.2, ap (filter (λ w. w.wait)) known.3 ∙ still_placed t h ks, refl))
+  acts_leave true (Some receipt) ended p q r s e = let f = e ∙ sym s in rw (p, r, q, f) (rw known.0 refl, none_left_due t h ks)
 
-  pub due_left : IsEntryOf (filter (λ k. not (is_due t h k)) (waiting_for t h)) t h (rest_of c)
+  pub due_left : IsEntryOf (filter (λ k. not (is_through h k t)) ks) t h (rest_of c)
   due_left = acts_leave (is_placed c) c.receipt _ refl (sym knows_placed) refl refl (sym known.4)

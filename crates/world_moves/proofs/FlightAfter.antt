@@ -31,7 +31,7 @@ through f (Some a) p b e g = ap (option_map f) (g a refl) ∙ e
 
 pub message_stays : (e : Event) (h : List Event) (s : Sent) (m : Message) → message_of h s ≡ Some m → message_of (e ∷ h) s ≡ Some m
 message_stays e h (sent.Notice notice) m g = g
-message_stays e h (sent.Request token to at) m g = through _ _ _ m g (λ a f. found request_in at e h a (event_at at h) refl f)
+message_stays e h (sent.Request token to at headers) m g = through _ _ _ m g (λ a f. found request_in at e h a (event_at at h) refl f)
 message_stays e h (sent.Answer receipt at) m g = of_parent receipt.parent refl g
   where
     of_parent : (o : Option TaskId) → receipt.parent ≡ o → message_of h (sent.Answer receipt at) ≡ Some m → message_of (e ∷ h) (sent.Answer receipt at) ≡ Some m

@@ -1,9 +1,11 @@
 pub mod AcksAfter
 pub mod AllKinds
 pub mod AnswersAfter
+pub mod AnswersOf
 pub mod AsksAfter
 pub mod AsksCounted
 pub mod AsksFor
+pub mod AtOneTask
 pub mod AtPlace
 pub mod BansAfter
 pub mod BansInFlight
@@ -18,7 +20,10 @@ pub mod CancelsUntouched
 pub mod Children
 pub mod CoresAfter
 pub mod CoresAfterLeave
+pub mod CountsAfter
 pub mod CutShort
+pub mod DescriptionsAfter
+pub mod DescriptionsStart
 pub mod DueActs
 pub mod EndsAfter
 pub mod EndsListed
@@ -39,6 +44,7 @@ pub mod NodeTablesSame
 pub mod NodesAsked
 pub mod NoneAwaited
 pub mod Numbered
+pub mod OneChange
 pub mod OpenListings
 pub mod Outcomes
 pub mod Parts
@@ -46,6 +52,7 @@ pub mod PlainEnds
 pub mod PossibleHits
 pub mod PossibleTops
 pub mod QueryLaws
+pub mod QuietCounts
 pub mod RequestsAfter
 pub mod RequestsInFlight
 pub mod SameTies
@@ -56,5 +63,6 @@ pub mod ShardsTold
 pub mod StepsAfter
 pub mod Tables
 pub mod TasksAfterLeave
+pub mod TasksNamed
 pub mod TurnsAfter
 pub mod UnbornTasks

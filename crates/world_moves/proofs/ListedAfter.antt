@@ -29,7 +29,7 @@ use Rattle.world_moves.specs.Cancels.{waiting_for}
 use Rattle.world_moves.specs.Cancelling.{Cancelling, HasRows, HasBansAt, HasCoreAt}
 use Rattle.world_moves.specs.Listings.{listing_cmp}
 use Rattle.world_moves.specs.Flights.{message_of}
-use Rattle.command_roots.specs.Roots.{root_request}
+use Rattle.command_roots.specs.Roots.{root_request, root_headers}
 use Rattle.world_moves.specs.Ties.{Ties, IsGood}
 use Rattle.world_moves.proofs.AtPlace.{set_at}
 use Rattle.world_moves.proofs.ByPlace.{all_push}
@@ -44,7 +44,7 @@ module _ (cluster : Cluster) (h : List Event) (n : ℕ) (p : TaskId) where
       → Ties cluster corpus script (Listed n p ∷ h) tasks tables (flight ++ sent.Notice (notices.Ack p n) ∷ [])
   after_listed corpus script tasks tables flight ties awaits opened marked = record {
     lawful = (record { opened = opened; all_marked = marked }, ties.lawful, awaits);
-    kept = kept_same cluster corpus (root_request script) (Listed n p) h tasks refl ties.kept;
+    kept = kept_same cluster corpus (root_request script) (root_headers script) (Listed n p) h tasks refl ties.kept;
     listed = λ place. listed_same cluster (Listed n p) h (λ m. refl) refl place _ (ties.listed place);
     sent = map-append (message_of (Listed n p ∷ h)) flight (sent.Notice (notices.Ack p n) ∷ []) ∙ ap (λ ms. ms ++ Some (Ack p n) ∷ []) (all_stay (Listed n p) h flight (in_flight h) ties.sent)
         ∙ sym (map-append Some (in_flight h) (Ack p n ∷ []));
@@ -65,7 +65,6 @@ module _ (cluster : Cluster) (h : List Event) (n : ℕ) (p : TaskId) where
           (of_core (n - 1) (Some core) (subst (HasCoreAt cluster (λ u. waiting_for u h) (n - 1) h) here (known.cores_are (n - 1)))) (λ place apart has. of_core place (slice_get cores place) has);
       listings_are = λ l. removed l ∙ ap (λ b. cond b false (contains listing_cmp listings l)) (is_at_listing (record { node = n; parent = p }) l)
           ∙ ap (cond (same_pair l.parent l.node p n) false) (known.listings_are l);
-      one_task = known.one_task;
     }
       where
         of_rows : (o : Option Table) → HasRows h o → HasRows (Listed n p ∷ h) o

@@ -1,5 +1,5 @@
 -- The tables after a task was marked: it asks for nothing more, its bans are sent, and its cancellation is known.
-use Rattle.std.proofs.Common.{◌≡◌, ◌≢◌, ◌⊎◌, ◌<◌, ℕ, ◌+◌, ◌-◌, Bool, true, false, cond, not, List, [], ◌∷◌, ◌++◌, map, filter, reverse, get_or, Option, Some, None, refl, sym, ap, subst, ◌∙◌, inl, inr, arith}
+use Rattle.std.proofs.Common.{◌≡◌, ◌≢◌, ◌⊎◌, ◌<◌, ℕ, ◌+◌, ◌-◌, Bool, true, false, cond, not, List, [], ◌∷◌, ◌++◌, map, filter, get_or, Option, Some, None, refl, sym, ap, subst, ◌∙◌, inl, inr, arith}
 use Rattle.std.specs.Prelude.{◌==◌, ◌&&◌, ◌||◌, All, find, filter_map, slice_get, slice_set, is_some, unwrap_or, IfSome}
 use Rattle.std.specs.List.{list_all, AllByRecursion}
 use Rattle.std.specs.FinMap.{FinMap}
@@ -34,6 +34,7 @@ use Rattle.task_events.specs.Asks.{unanswered_nodes}
 use Rattle.task_events.specs.Bans.{mark_of, is_acked, bans_are_placed}
 use Rattle.task_events.specs.Messages.{in_flight}
 use Rattle.task_events.specs.Messages.Message.{Ban}
+use Rattle.task_events.specs.Allowed.{is_number}
 use Rattle.task_events.specs.Lawful.{Lawful}
 use Rattle.task_laws.proofs.Asks.{ask_facts}
 use Rattle.task_laws.proofs.Bans.{ban_facts}
@@ -43,15 +44,18 @@ use Rattle.task_laws.proofs.Same.{same_fields, same_task_tells, same_tests}
 use Rattle.world_moves.specs.declared.flight.Sent.{Sent}
 use Rattle.node_parts.specs.declared.listing.Listing.{Listing}
 use Rattle.node_parts.specs.declared.running.Running.{Running}
-use Rattle.world_moves.specs.Acts.{message_in, answer_in, messages_in, answers_in}
-use Rattle.world_moves.specs.Cancels.{waiting_for, waits_for_end, is_due, answer_to, due_answers, with_answers}
-use Rattle.world_moves.specs.Cancelling.{Cancelling, IsRowOf, HasRows, HasBansAt, IsEntryOf, IsCancellationOf, waiting_but, cancels_of}
+use Rattle.world_moves.specs.Acts.{message_in, answer_in, messages_in, offered_in, left_after}
+use Rattle.world_moves.specs.Cancels.{waiting_for, waits_for_end, is_through, answer_to}
+use Rattle.world_moves.specs.Left.{HasLeft}
+use Rattle.world_moves.specs.Cancelling.{Cancelling, IsRowOf, HasRows, HasBansAt, IsEntryOf, IsCancellationOf, waiting_but, cancels_of, naming_of}
 use Rattle.world_moves.specs.Facts.{facts_of}
 use Rattle.world_moves.specs.Flights.{message_of}
-use Rattle.world_moves.specs.Moves.{IsPartOf}
-use Rattle.command_roots.specs.Roots.{root_request}
+use Rattle.command_roots.specs.Roots.{root_request, root_headers}
 use Rattle.world_moves.specs.Ties.{Ties, Runs, IsTableAt, IsGood}
-use Rattle.world_moves.proofs.CancelAnswersAfter.{waiting_after}
+use Rattle.world_moves.proofs.AtOneTask.{at_mark as mark_at}
+use Rattle.world_moves.proofs.CountsAfter.{let_go, let_go_differ, still_waiting, others_wait, left_map}
+use Rattle.world_moves.proofs.NamedCancels.{is_in}
+use Rattle.world_moves.proofs.QuietCounts.{counts_at}
 use Rattle.world_moves.proofs.AtPlace.{set_at}
 use Rattle.world_moves.proofs.CancelFrame.{entry_frame}
 use Rattle.world_moves.proofs.CoresAfter.{cores_after}
@@ -124,10 +128,10 @@ module _ (cluster : Cluster) (t : TaskId) (c : ℕ) (h : List Event) (lawful : L
   placed : bans_are_placed t (Mark t c ∷ h) ≡ is_nil (unanswered_nodes t h)
   placed = rw itself (none_acked (unanswered_nodes t h))
 
-  -- ---- what is due to the first waiter
+  -- ---- what is given to the first waiter
 
-  due : (w : Waiter) → w.wait ≡ waits_for_end w.cancel h → is_due t (Mark t c ∷ h) w.cancel ≡ (is_nil (unanswered_nodes t h) && not w.wait)
-  due w kind =
+  through : (w : Waiter) → w.wait ≡ waits_for_end w.cancel h → is_through (Mark t c ∷ h) w.cancel t ≡ (is_nil (unanswered_nodes t h) && not w.wait)
+  through w kind =
       ap (λ b. b && (not (waits_for_end w.cancel h) || has_ended t h)) placed
       ∙ ap (λ b. is_nil (unanswered_nodes t h) && (not (waits_for_end w.cancel h) || b)) not_ended
       ∙ ap (λ b. is_nil (unanswered_nodes t h) && b) (or-false (not (waits_for_end w.cancel h)))
@@ -139,17 +143,39 @@ module _ (cluster : Cluster) (t : TaskId) (c : ℕ) (h : List Event) (lawful : L
   first_answer w kind false e = refl
 
   first_answers : (waiter : Option Waiter) → waiting_for t h ≡ cancels_of waiter → IfSome waiter (λ w. (w.wait ≡ waits_for_end w.cancel h) × IsCancel w.cancel)
-      → filter_map answer_in (first_acts t c (unanswered_nodes t h) waiter) ≡ due_answers t (Mark t c ∷ h)
-  first_answers None e k = sym (ap (λ ws. map (answer_to (Mark t c ∷ h)) (filter (is_due t (Mark t c ∷ h)) ws)) e)
+      → filter_map answer_in (first_acts t c (unanswered_nodes t h) waiter) ≡ map (answer_to (Mark t c ∷ h)) (let_go t (Mark t c) h)
+  first_answers None e k = sym (ap (λ ws. map (answer_to (Mark t c ∷ h)) (filter (λ j. is_through (Mark t c ∷ h) j t) ws)) e)
   first_answers (Some w) e k =
-      first_answer w k.0 _ refl ∙ sym (ap (λ ws. map (answer_to (Mark t c ∷ h)) (filter (is_due t (Mark t c ∷ h)) ws)) e
-      ∙ ap (λ b. map (answer_to (Mark t c ∷ h)) (cond b (w.cancel ∷ []) [])) (due w k.0))
+      first_answer w k.0 _ refl ∙ sym (ap (λ ws. map (answer_to (Mark t c ∷ h)) (filter (λ j. is_through (Mark t c ∷ h) j t) ws)) e
+      ∙ ap (λ b. map (answer_to (Mark t c ∷ h)) (cond b (w.cancel ∷ []) [])) (through w k.0))
 
-  mark_answers : (waiter : Option Waiter) → waiting_for t h ≡ cancels_of waiter → IfSome waiter (λ w. (w.wait ≡ waits_for_end w.cancel h) × IsCancel w.cancel)
-      → answers_in (ban_acts t c (unanswered_nodes t h) ++ first_acts t c (unanswered_nodes t h) waiter) ≡ reverse (due_answers t (Mark t c ∷ h))
-  mark_answers waiter e k =
-      ap reverse (filter_map-append answer_in (ban_acts t c (unanswered_nodes t h)) (first_acts t c (unanswered_nodes t h) waiter)
-      ∙ ap (λ es. es ++ filter_map answer_in (first_acts t c (unanswered_nodes t h) waiter)) (no_answers t c (unanswered_nodes t h)) ∙ first_answers waiter e k)
+  mark_offered : (waiter : Option Waiter) → waiting_for t h ≡ cancels_of waiter → IfSome waiter (λ w. (w.wait ≡ waits_for_end w.cancel h) × IsCancel w.cancel)
+      → offered_in (ban_acts t c (unanswered_nodes t h) ++ first_acts t c (unanswered_nodes t h) waiter) ≡ map (answer_to (Mark t c ∷ h)) (let_go t (Mark t c) h)
+  mark_offered waiter e k =
+      filter_map-append answer_in (ban_acts t c (unanswered_nodes t h)) (first_acts t c (unanswered_nodes t h) waiter)
+      ∙ ap (λ es. es ++ filter_map answer_in (first_acts t c (unanswered_nodes t h) waiter)) (no_answers t c (unanswered_nodes t h)) ∙ first_answers waiter e k
+
+  -- only the cancel that has just named the task goes on
+  nobody_else : (waiter : Option Waiter) → waiting_for t h ≡ cancels_of waiter → (k : ℕ) → is_number k (naming_of waiter) ≡ false → is_in k (let_go t (Mark t c) h) ≡ false
+  nobody_else waiter e k n = ap (λ ws. is_in k (filter (λ j. is_through (Mark t c ∷ h) j t) ws)) e ∙ by_waiter waiter n
+    where
+      by_waiter : (w : Option Waiter) → is_number k (naming_of w) ≡ false → is_in k (filter (λ j. is_through (Mark t c ∷ h) j t) (cancels_of w)) ≡ false
+      by_waiter None n = refl
+      by_waiter (Some w) n = by_test (is_through (Mark t c ∷ h) w.cancel t)
+        where
+          by_test : (b : Bool) → is_in k (cond b (w.cancel ∷ []) []) ≡ false
+          by_test true = rw n refl
+          by_test false = refl
+
+  pub mark_counted : (nodes : List ℕ) (done : List Act) (waiter : Option Waiter) (left after : ℕ → ℕ) → nodes ≡ unanswered_nodes t h → done ≡ ban_acts t c nodes ++ first_acts t c nodes waiter
+      → waiting_for t h ≡ cancels_of waiter → IfSome waiter (λ w. (w.wait ≡ waits_for_end w.cancel h) × IsCancel w.cancel)
+      → ((k : ℕ) → after k ≡ left_after (offered_in done) left k) → HasLeft (naming_of waiter) h left → HasLeft (naming_of waiter) (Mark t c ∷ h) after
+  mark_counted nodes done waiter left after its_nodes its_acts e k is has =
+      counts_at cluster (naming_of waiter) t (Mark t c) h left after lawful.1 (mark_at t c h lawful.0.unmarked) (nobody_else waiter e)
+      (λ j. is j ∙ ap (λ es. left_after es left j) offered ∙ left_map (Mark t c ∷ h) (let_go t (Mark t c) h) left j (let_go_differ cluster t (Mark t c) h lawful.1 (mark_at t c h lawful.0.unmarked))) has
+    where
+      offered : offered_in done ≡ map (answer_to (Mark t c ∷ h)) (let_go t (Mark t c) h)
+      offered = ap offered_in (its_acts ∙ ap (λ ns. ban_acts t c ns ++ first_acts t c ns waiter) its_nodes) ∙ mark_offered waiter e k
 
   mark_sent : (node : ℕ) (past : List Event) (waiter : Option Waiter)
       → map (message_of past) (messages_in node (ban_acts t c (unanswered_nodes t h) ++ first_acts t c (unanswered_nodes t h) waiter)) ≡ map Some (map (Ban t c) (unanswered_nodes t h))
@@ -166,34 +192,31 @@ module _ (cluster : Cluster) (t : TaskId) (c : ℕ) (h : List Event) (lawful : L
   left_waiting w kind false = rw itself (refl, refl, sym (all_open (unanswered_nodes t h)), (λ i. record { cancel = w.cancel; wait = kind i } ∷ []), sym not_ended)
 
   first_known : (waiter : Option Waiter) → waiting_for t h ≡ cancels_of waiter → IfSome waiter (λ w. (w.wait ≡ waits_for_end w.cancel h) × IsCancel w.cancel)
-      → IsCancellationOf (filter (λ k. not (is_due t (Mark t c ∷ h) k)) (waiting_for t h)) t (Mark t c ∷ h) (begun c (unanswered_nodes t h) waiter)
+      → IsCancellationOf (filter (λ k. not (is_through (Mark t c ∷ h) k t)) (waiting_for t h)) t (Mark t c ∷ h) (begun c (unanswered_nodes t h) waiter)
   first_known None e k = rw e (rw itself (refl, refl, sym (all_open (unanswered_nodes t h)), refl, sym not_ended))
   first_known (Some w) e k =
       subst (λ ws. IsCancellationOf ws t (Mark t c ∷ h) (begun c (unanswered_nodes t h) (Some w)))
-      (sym (ap (filter (λ k. not (is_due t (Mark t c ∷ h) k))) e ∙ ap (λ b. cond (not b) (w.cancel ∷ []) []) (due w k.0)))
+      (sym (ap (filter (λ k. not (is_through (Mark t c ∷ h) k t))) e ∙ ap (λ b. cond (not b) (w.cancel ∷ []) []) (through w k.0)))
       (left_waiting w k.0 (is_nil (unanswered_nodes t h) && not w.wait))
 
-  own_waiting : waiting_after t (Mark t c ∷ h) t ≡ filter (λ k. not (is_due t (Mark t c ∷ h) k)) (waiting_for t h)
-  own_waiting = ap (λ b. cond b (filter (λ k. not (is_due t (Mark t c ∷ h) k)) (waiting_for t h)) (waiting_for t h)) itself
+  own_waiting : waiting_for t (Mark t c ∷ h) ≡ filter (λ k. not (is_through (Mark t c ∷ h) k t)) (waiting_for t h)
+  own_waiting = sym (still_waiting cluster t (Mark t c) h lawful.1 (mark_at t c h lawful.0.unmarked))
 
   own_entry : (waiter : Option Waiter) → waiting_for t h ≡ cancels_of waiter → IfSome waiter (λ w. (w.wait ≡ waits_for_end w.cancel h) × IsCancel w.cancel)
-      → IsEntryOf (waiting_after t (Mark t c ∷ h) t) t (Mark t c ∷ h) (Some (begun c (unanswered_nodes t h) waiter))
+      → IsEntryOf (waiting_for t (Mark t c ∷ h)) t (Mark t c ∷ h) (Some (begun c (unanswered_nodes t h) waiter))
   own_entry waiter e k =
       (under_way, subst (λ ws. IsCancellationOf ws t (Mark t c ∷ h) (begun c (unanswered_nodes t h) waiter)) (sym own_waiting) (first_known waiter e k))
     where
       under_way : (is_some (mark_of t (Mark t c ∷ h)) && not (has_ended t h && bans_are_placed t (Mark t c ∷ h))) ≡ true
       under_way = rw (itself, not_ended) refl
 
-  other_entry : (u : TaskId) → same_task t u ≡ false → (o : Option Cancellation) → IsEntryOf (waiting_but t h u) u h o → IsEntryOf (waiting_after t (Mark t c ∷ h) u) u (Mark t c ∷ h) o
+  other_entry : (u : TaskId) → same_task t u ≡ false → (o : Option Cancellation) → IsEntryOf (waiting_but t h u) u h o → IsEntryOf (waiting_for u (Mark t c ∷ h)) u (Mark t c ∷ h) o
   other_entry u differs o i =
       let turned : same_task u t ≡ false = grind (arith, same_tests) in
-      subst (λ ws. IsEntryOf ws u (Mark t c ∷ h) o) after (entry_frame (waiting_for u h) u h (Mark t c) o turned refl (subst (λ ws. IsEntryOf ws u h o) before i))
+      subst (λ ws. IsEntryOf ws u (Mark t c ∷ h) o) (sym (others_wait cluster t (Mark t c) h lawful.1 (mark_at t c h lawful.0.unmarked) u differs)) (entry_frame (waiting_for u h) u h (Mark t c) o turned tt (subst (λ ws. IsEntryOf ws u h o) before i))
     where
       before : waiting_but t h u ≡ waiting_for u h
       before = ap (λ b. cond b [] (waiting_for u h)) differs
-
-      after : waiting_for u h ≡ waiting_after t (Mark t c ∷ h) u
-      after = sym (ap (λ b. cond b (filter (λ k. not (is_due t (Mark t c ∷ h) k)) (waiting_for t h)) (waiting_for u h)) differs)
 
   -- ---- the rows tell the mark
 
@@ -254,8 +277,8 @@ module _ (cluster : Cluster) (t : TaskId) (c : ℕ) (h : List Event) (lawful : L
       → Ties cluster corpus script (Mark t c ∷ h) after (slice_set tables (t.node - 1) (with_mark table t.number c)) (flight ++ queue)
   after_mark corpus script tasks after tables table flight queue r ties was here others its_table its_queue number = record {
     lawful = lawful;
-    kept = kept_after cluster corpus (root_request script) t (Mark t c) h tasks after refl ties.kept
-        (rw here (rw (at_mark (root_request script) t h c) (closed (kept_running cluster corpus script h tasks tables flight ties t lawful.0.live r was)))) others;
+    kept = kept_after cluster corpus (root_request script) (root_headers script) t (Mark t c) h tasks after refl ties.kept
+        (rw here (rw (at_mark (root_request script) (root_headers script) t h c) (closed (kept_running cluster corpus script h tasks tables flight ties t lawful.0.live r was)))) others;
     listed = set_at (λ place. IsTableAt cluster place h) (λ place. IsTableAt cluster place (Mark t c ∷ h)) tables (t.node - 1) table (with_mark table t.number c) its_table ties.listed
         (listed_here (subst (IsTableAt cluster (t.node - 1) h) its_table (ties.listed (t.node - 1)))) (λ place apart fits. listed_there place (slice_get tables place) fits);
     sent = map-append (message_of (Mark t c ∷ h)) flight queue ∙ ap (λ ms. ms ++ map (message_of (Mark t c ∷ h)) queue) (all_stay (Mark t c) h flight (in_flight h) ties.sent)
@@ -264,13 +287,14 @@ module _ (cluster : Cluster) (t : TaskId) (c : ℕ) (h : List Event) (lawful : L
     plain = ties.plain;
   }
     where
-      closed : Runs cluster corpus t (facts_of (root_request script) t h) r → Runs cluster corpus t (record (facts_of (root_request script) t h) { mark = Some c }) (record r { track = with_close r.track c })
+      closed : Runs cluster corpus t (facts_of (root_request script) (root_headers script) t h) r → Runs cluster corpus t (record (facts_of (root_request script) (root_headers script) t h) { mark = Some c }) (record r { track = with_close r.track c })
       closed x = record {
         live = x.live;
         id = x.id;
         token = x.token;
-        track = ap (λ track. with_close track c) x.track ∙ ap (λ o. record { task = t; asks = (facts_of (root_request script) t h).awaited; closed = Some (unwrap_or o c) }) lawful.0.unmarked;
+        track = ap (λ track. with_close track c) x.track ∙ ap (λ o. record { task = t; asks = (facts_of (root_request script) (root_headers script) t h).awaited; closed = Some (unwrap_or o c) }) lawful.0.unmarked;
         new = x.new;
+        headers = x.headers;
         works = x.works;
       }
 
@@ -290,16 +314,15 @@ module _ (cluster : Cluster) (t : TaskId) (c : ℕ) (h : List Event) (lawful : L
       → Cancelling cluster (waiting_but t h) h tables roots bans cores listings → ((place : ℕ) → IsTableAt cluster place h (slice_get tables place))
       → slice_get tables (t.node - 1) ≡ Some table → slice_get cores (t.node - 1) ≡ Some core
       → waiting_for t h ≡ cancels_of waiter → IfSome waiter (λ w. (w.wait ≡ waits_for_end w.cancel h) × IsCancel w.cancel)
-      → Cancelling cluster (waiting_after t (Mark t c ∷ h)) (Mark t c ∷ h) (slice_set tables (t.node - 1) (with_mark table t.number c)) roots bans
+      → Cancelling cluster (λ u. waiting_for u (Mark t c ∷ h)) (Mark t c ∷ h) (slice_set tables (t.node - 1) (with_mark table t.number c)) roots bans
       (slice_set cores (t.node - 1) (with_entry core t (Some (begun c (unanswered_nodes t h) waiter)))) listings
   cancels_after_mark tables table roots bans cores core listings waiter known listed its_table its_core e k = record {
     rows_are = set_at Fits (λ place. HasRows (Mark t c ∷ h)) tables (t.node - 1) table (with_mark table t.number c) its_table (λ place. (listed place, known.rows_are place))
         (rows_marked (t.node - 1) table node_place (subst (Fits (t.node - 1)) its_table (listed (t.node - 1), known.rows_are (t.node - 1)))) (λ place apart fits. rows_elsewhere place (slice_get tables place) apart fits);
     roots_are = known.roots_are;
     bans_are = λ place. same_bans place (slice_get bans place) (known.bans_are place);
-    cores_are = cores_after cluster (waiting_but t h) h cores known.cores_are t ((reach_facts cluster h lawful.1).live_in t lawful.0.live) core its_core (waiting_after t (Mark t c ∷ h)) (Mark t c ∷ h) (Some (begun c (unanswered_nodes t h) waiter)) (own_entry waiter e k) other_entry;
+    cores_are = cores_after cluster (waiting_but t h) h cores known.cores_are t ((reach_facts cluster h lawful.1).live_in t lawful.0.live) core its_core (λ u. waiting_for u (Mark t c ∷ h)) (Mark t c ∷ h) (Some (begun c (unanswered_nodes t h) waiter)) (own_entry waiter e k) other_entry;
     listings_are = known.listings_are;
-    one_task = known.one_task;
   }
     where
       same_bans : (place : ℕ) (o : Option (FinMap task_id_cmp ℕ)) → HasBansAt cluster place h o → HasBansAt cluster place (Mark t c ∷ h) o
@@ -308,22 +331,7 @@ module _ (cluster : Cluster) (t : TaskId) (c : ℕ) (h : List Event) (lawful : L
 
   -- ---- the events together
 
-  -- the past after the acts of the core
-  pub mark_happened : (nodes : List ℕ) (done : List Act) (past new : List Event) (waiter : Option Waiter) → nodes ≡ unanswered_nodes t h → done ≡ ban_acts t c nodes ++ first_acts t c nodes waiter → past ≡ Mark t c ∷ h
-      → new ≡ answers_in done ++ past → waiting_for t h ≡ cancels_of waiter → IfSome waiter (λ w. (w.wait ≡ waits_for_end w.cancel h) × IsCancel w.cancel) → new ≡ with_answers t (Mark t c ∷ h)
-  mark_happened nodes done past new waiter its_nodes its_acts its_past is_new e k =
-      is_new ∙ ap (λ p. answers_in done ++ p) its_past ∙ ap (λ xs. answers_in xs ++ Mark t c ∷ h) (its_acts ∙ ap (λ ns. ban_acts t c ns ++ first_acts t c ns waiter) its_nodes)
-      ∙ ap (λ es. es ++ Mark t c ∷ h) (mark_answers waiter e k)
-
   pub mark_queue : (nodes : List ℕ) (done : List Act) (node : ℕ) (waiter : Option Waiter) → nodes ≡ unanswered_nodes t h → done ≡ ban_acts t c nodes ++ first_acts t c nodes waiter
       → map (message_of (Mark t c ∷ h)) (messages_in node done) ≡ map Some (map (Ban t c) (unanswered_nodes t h))
   mark_queue nodes done node waiter its_nodes its_acts =
       ap (λ xs. map (message_of (Mark t c ∷ h)) (messages_in node xs)) (its_acts ∙ ap (λ ns. ban_acts t c ns ++ first_acts t c ns waiter) its_nodes) ∙ mark_sent node (Mark t c ∷ h) waiter
-
--- what a move has appended in two parts
-pub two_parts : (es : List Event) (e : Event) (h : List Event) → es ++ e ∷ h ≡ (es ++ e ∷ []) ++ h
-two_parts es e h = sym (append_assoc es (e ∷ []) h)
-
--- nothing of it has come yet
-pub nothing_yet : (es : List Event) (e : Event) (h new : List Event) → new ≡ h → IsPartOf h new (es ++ e ∷ h)
-nothing_yet es e h new same = subst (λ past. IsPartOf h past (es ++ e ∷ h)) (sym same) (es ++ e ∷ [], [], two_parts es e h, refl)

@@ -58,7 +58,6 @@ left_out cluster t h tables roots bans cores listings unmarked high known = reco
   bans_are = known.bans_are;
   cores_are = λ place. cores_kept cluster (λ u. waiting_for u h) (waiting_but t h) h h (λ u o i. subst (λ ws. IsEntryOf ws u h o) (same u) i) place (slice_get cores place) (known.cores_are place);
   listings_are = known.listings_are;
-  one_task = known.one_task;
 }
   where
     none : waiting_for t h ≡ []
@@ -70,7 +69,3 @@ left_out cluster t h tables roots bans cores listings unmarked high known = reco
         by_task : ((same_task t u ≡ true) × (t ≡ u)) ⊎ ((same_task t u ≡ false) × (t ≢ u)) → waiting_for u h ≡ waiting_but t h u
         by_task (inl (is_one, one)) = rw is_one (ap (λ x. waiting_for x h) (sym one) ∙ none)
         by_task (inr (differs, apart)) = rw differs refl
-
--- where nobody waits, nothing is answered after a mark
-pub no_answers_due : (t : TaskId) (c : ℕ) (h : List Event) → waiting_for t h ≡ [] → with_answers t (Mark t c ∷ h) ≡ Mark t c ∷ h
-no_answers_due t c h none = ap (λ ks. reverse (map (answer_to (Mark t c ∷ h)) (filter (is_due t (Mark t c ∷ h)) ks)) ++ Mark t c ∷ h) none

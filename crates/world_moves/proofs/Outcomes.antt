@@ -1,6 +1,6 @@
 -- The early ends of what is done.
 use Rattle.std.proofs.Common.{◌≡◌, ℕ, List, ap, refl}
-use Rattle.std.specs.Prelude.{Result, Ok, Err, IfErr}
+use Rattle.std.specs.Prelude.{Result, Ok, Err, IfErr, OnOk}
 use Rattle.task_ids.specs.declared.cluster.Cluster.{Cluster}
 use Rattle.task_events.specs.declared.event.Event.{Event}
 use Rattle.task_events.specs.declared.stop.Stop.{Stop}
@@ -35,3 +35,8 @@ stops (Err stop) IsPart Lacks new full numbers = stops_so stop IsPart Lacks new 
 -- where a move needs no number
 pub move_stops : (Moves : List Event → List Event → Type 0) (h new : List Event) (stop : Stop) → (stop ≡ HistoryFull → IsCutShort (IsPartly Moves h) new) → (stop ≡ NumbersSpent → ⊥) → StopsMove Moves h new stop
 move_stops Moves h new stop full numbers = stops_so stop (IsPartly Moves h) ⊥ new full numbers
+
+-- three things that are so where a call succeeds
+pub all_ok : {T E : Type 0} (r : Result T E) (P Q R S : Type 0) → OnOk r P → OnOk r Q → OnOk r R → (P → Q → R → S) → OnOk r S
+all_ok (Ok x) P Q R S p q s f = f p q s
+all_ok (Err e) P Q R S p q s f = tt

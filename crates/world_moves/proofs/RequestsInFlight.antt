@@ -2,6 +2,7 @@
 use Rattle.std.proofs.Common.{◌≡◌, ◌<◌, ◌≤◌, ℕ, List, Option, Some, None, refl, sym, ◌∙◌}
 use Rattle.std.specs.Prelude.{slice_get, remove, option_map, option_and_then}
 use Rattle.task_ids.specs.declared.task_id.TaskId.{TaskId}
+use Rattle.task_ids.specs.declared.task_info.Headers.{Headers}
 use Rattle.task_ids.specs.declared.cluster.Cluster.{Cluster}
 use Rattle.task_ids.specs.declared.corpus.Corpus.{Corpus}
 use Rattle.child_track.specs.Token.{Token}
@@ -44,9 +45,9 @@ message_is token to None m e = absurd (cc)
 message_is token to (Some r) m e = (r, refl, sym e)
 
 module _ (cluster : Cluster) (corpus : Corpus) (script : Script) (h : List Event) (tasks : TaskId → Option Running) (tables : List Table) (flight : List Sent) (ties : Ties cluster corpus script h tasks tables flight) where
-  pub arrives : (nth : ℕ) (token : Token) (to at : ℕ) → slice_get flight nth ≡ Some (sent.Request token to at) → Arrives cluster h nth token to at
-  arrives nth token to at e =
-      let p = pair_at (message_of h) flight (in_flight h) nth (sent.Request token to at) ties.sent e in
+  pub arrives : (nth : ℕ) (token : Token) (to at : ℕ) (headers : Headers) → slice_get flight nth ≡ Some (sent.Request token to at headers) → Arrives cluster h nth token to at
+  arrives nth token to at headers e =
+      let p = pair_at (message_of h) flight (in_flight h) nth (sent.Request token to at headers) ties.sent e in
       let m = message_is token to (option_and_then request_in (event_at at h)) p.0 p.2 in
       let stands_here = p.1 ∙ m.2 in
       let once = (once_each h (ask_facts cluster h ties.lawful) (ban_facts cluster h ties.lawful)).request token.parent token.ask in

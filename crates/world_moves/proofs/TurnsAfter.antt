@@ -22,7 +22,7 @@ use Rattle.script_lang.specs.declared.command.Script.{Script}
 use Rattle.world_moves.specs.declared.flight.Sent.{Sent}
 use Rattle.node_parts.specs.declared.running.Running.{Running}
 use Rattle.world_moves.specs.Facts.{facts_of}
-use Rattle.command_roots.specs.Roots.{root_request}
+use Rattle.command_roots.specs.Roots.{root_request, root_headers}
 use Rattle.world_moves.specs.Ties.{Ties, Runs, WorksFor, looked_at}
 use Rattle.world_moves.proofs.AllKinds.{kind_laws}
 use Rattle.world_moves.proofs.KindLaws.{stored_of}
@@ -44,19 +44,20 @@ module _ (cluster : Cluster) (corpus : Corpus) (script : Script) (h : List Event
       → Ties cluster corpus script (worked t ∷ h) after tables flight
   after_turn t r w after awaits l n unmarked e next turn on here others = record {
     lawful = (record { goes_on = record { live = l; passed = n }; unmarked = unmarked }, ties.lawful, awaits);
-    kept = kept_after cluster corpus (root_request script) t (worked t) h tasks after refl ties.kept (rw here (rw (at_work (root_request script) t h) (further (kept_running cluster corpus script h tasks tables flight ties t l r e)))) others;
+    kept = kept_after cluster corpus (root_request script) (root_headers script) t (worked t) h tasks after refl ties.kept (rw here (rw (at_work (root_request script) (root_headers script) t h) (further (kept_running cluster corpus script h tasks tables flight ties t l r e)))) others;
     listed = λ place. listed_same cluster (worked t) h (λ n. refl) refl place _ (ties.listed place);
     sent = all_stay (worked t) h flight _ ties.sent;
     good = ties.good;
     plain = ties.plain;
   }
     where
-      further : Runs cluster corpus t (facts_of (root_request script) t h) r → Runs cluster corpus t (record (facts_of (root_request script) t h) { turns = 1 + turns_of t h }) (record r { work = w })
+      further : Runs cluster corpus t (facts_of (root_request script) (root_headers script) t h) r → Runs cluster corpus t (record (facts_of (root_request script) (root_headers script) t h) { turns = 1 + turns_of t h }) (record r { work = w })
       further x = record {
         live = x.live;
         id = x.id;
         token = x.token;
         track = x.track;
         new = x.new;
+        headers = x.headers;
         works = rw turn ((kind_laws cluster corpus t _ _ _ _ _ r.work x.works).turned next (subst (λ v. IsWorkOn v (looked_at (stored_of cluster corpus) r.work)) turn on));
       }

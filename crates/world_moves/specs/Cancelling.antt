@@ -1,5 +1,5 @@
 -- What the world's tables of bans and cancellations say of the past.
-use Rattle.std.specs.Prelude.{◌≡◌, ℕ, ◌+◌, ◌≤◌, true, false, Bool, ◌&&◌, not, List, [], ◌∷◌, Option, Some, None, is_some, map, filter, slice_get, All, ⊤, if◌then◌else◌}
+use Rattle.std.specs.Prelude.{◌≡◌, ℕ, ◌+◌, ◌≤◌, true, false, Bool, ◌&&◌, not, List, [], ◌∷◌, Option, Some, None, is_some, option_map, map, filter, slice_get, All, ⊤, if◌then◌else◌}
 use Rattle.std.specs.BTreeSet.{BTreeSet, contains}
 use Rattle.std.specs.FinMap.{FinMap, get}
 use Rattle.task_ids.specs.declared.task_id.TaskId.{TaskId}
@@ -14,7 +14,6 @@ use Rattle.task_events.specs.declared.event.Event.{Event}
 use Rattle.task_events.specs.Same.{same_task}
 use Rattle.task_events.specs.Tasks.{has_ended, parent_of}
 use Rattle.task_events.specs.Bans.{mark_of, banned_nodes, is_acked, bans_are_placed, standing_ban, unbans_are_sent}
-use Rattle.task_events.specs.Cancels.{is_named}
 use Rattle.node_parts.specs.declared.listing.Listing.{Listing}
 use Rattle.world_moves.specs.Cancels.{root_of, waiting_for, waits_for_end}
 use Rattle.world_moves.specs.Listings.{listing_cmp, is_open}
@@ -89,8 +88,6 @@ pub record Cancelling (cluster : Cluster) (waiting : TaskId → List ℕ) (h : L
   pub bans_are : (place : ℕ) → HasBansAt cluster place h (slice_get bans place)
   pub cores_are : (place : ℕ) → HasCoreAt cluster waiting place h (slice_get cores place)
   pub listings_are : (l : Listing) → contains listing_cmp listings l ≡ is_open l h
-  -- a cancel names one task
-  pub one_task : (c : ℕ) (t u : TaskId) → is_named c t h ≡ true → is_named c u h ≡ true → same_task t u ≡ true
 
 -- those that wait for a task, and none for one that is to be left out
 abbrev pub waiting_but : TaskId → List Event → TaskId → List ℕ
@@ -100,3 +97,6 @@ waiting_but t h u = if same_task t u then [] else waiting_for u h
 abbrev pub cancels_of : Option Waiter → List ℕ
 cancels_of None = []
 cancels_of (Some w) = w.cancel ∷ []
+
+abbrev pub naming_of : Option Waiter → Option ℕ
+naming_of waiter = option_map (λ w. w.cancel) waiter

@@ -1,5 +1,5 @@
 -- Which cancels wait for their answers, and what a cancel makes happen.
-use Rattle.std.specs.Prelude.{◌≡◌, ℕ, ◌++◌, Bool, true, false, ◌&&◌, ◌||◌, not, ◌==◌, List, [], ◌∷◌, Option, Some, None, is_some, map, filter, reverse, count_by, unwrap_or, if◌then◌else◌}
+use Rattle.std.specs.Prelude.{◌≡◌, ℕ, ◌++◌, Bool, true, false, ◌&&◌, ◌||◌, not, ◌==◌, List, [], ◌∷◌, Option, Some, None, is_some, map, filter, reverse, length, unwrap_or, if◌then◌else◌}
 use Rattle.std.specs.List.{list_all}
 use Rattle.task_ids.specs.declared.task_id.TaskId.{TaskId}
 use Rattle.task_ids.specs.declared.cluster.Cluster.{Cluster}
@@ -51,7 +51,7 @@ waiting_for t h = filter (λ c. not (is_through h c t)) (named_by t h)
 
 -- at how many of the tasks that it named a cancel waits
 abbrev pub left_of : ℕ → List Event → ℕ
-left_of c h = count_by (λ t. not (is_through h c t)) (tasks_named c h)
+left_of c h = length (filter (λ t. not (is_through h c t)) (tasks_named c h))
 
 -- It is to be answered now: it has nothing more to wait for at any task that it named.
 abbrev pub is_due : List Event → ℕ → Bool

@@ -3,6 +3,7 @@ use Rattle.std.specs.Prelude.{ℕ, ◌-◌, Bool, false, List, [], ◌∷◌, �
 use Rattle.std.specs.List.{list_all}
 use Rattle.std.specs.Option.{option_map_or}
 use Rattle.task_ids.specs.declared.task_id.TaskId.{TaskId}
+use Rattle.task_ids.specs.declared.task_info.Headers.{Headers}
 use Rattle.child_track.specs.Token.{Token}
 use Rattle.child_track.specs.Track.{Track}
 use Rattle.task_events.specs.declared.request.Request.{Request}
@@ -13,6 +14,7 @@ use Rattle.task_events.specs.Same.{same_task}
 use Rattle.task_events.specs.Tasks.{is_live, is_new, parent_of, ask_of}
 use Rattle.task_events.specs.Bans.{mark_of}
 use Rattle.task_events.specs.Steps.{request_of, asked_by, turns_of}
+use Rattle.task_events.specs.TaskRows.{headers_of}
 
 -- of each ask of a task in order, the node that is still to answer it
 abbrev pub awaited_by : TaskId → List Event → List (Option ℕ)
@@ -43,10 +45,11 @@ pub record Facts : Type 0 where
   pub request : Option Request
   pub asked : List Asked
   pub turns : ℕ
+  pub headers : Headers
 
--- what the past says of a task, given what each command's root is asked to do
-abbrev pub facts_of : (ℕ → Option Request) → TaskId → List Event → Facts
-facts_of roots t h = record {
+-- what the past says of a task, given what each command's root is asked to do and what its request carries
+abbrev pub facts_of : (ℕ → Option Request) → (ℕ → Headers) → TaskId → List Event → Facts
+facts_of roots given t h = record {
   live = is_live t h;
   new = is_new t h;
   parent = parent_of t h;
@@ -57,6 +60,7 @@ facts_of roots t h = record {
   request = request_of roots t h;
   asked = asked_by t h;
   turns = turns_of t h;
+  headers = headers_of given t h;
 }
 
 -- the task that an event is about

@@ -40,7 +40,7 @@ message_of_notice (notices.Unban parent to) = Unban parent to
 
 -- the message of an entry: what a request or an answer says stands at its place in the past
 abbrev pub message_of : List Event → Sent → Option Message
-message_of h (sent.Request token to at) = option_map (λ r. Request token.parent token.ask to r) (option_and_then request_in (event_at at h))
+message_of h (sent.Request token to at headers) = option_map (λ r. Request token.parent token.ask to r) (option_and_then request_in (event_at at h))
 message_of h (sent.Answer receipt at) = option_and_then (λ p. option_map (λ r. Answer p receipt.ask r) (option_and_then reply_in (event_at at h))) receipt.parent
 message_of h (sent.Notice notice) = Some (message_of_notice notice)
 
@@ -51,7 +51,7 @@ notice_at _ = None
 
 -- an entry of the queue that is a request, and one that is an answer
 abbrev pub is_request_entry : Option Sent → Bool
-is_request_entry (Some (sent.Request token to at)) = true
+is_request_entry (Some (sent.Request token to at headers)) = true
 is_request_entry _ = false
 
 abbrev pub is_answer_entry : Option Sent → Bool

@@ -1,10 +1,12 @@
 pub mod Acts
 pub mod Cancelling
 pub mod Cancels
+pub mod Describing
 pub mod Facts
 pub mod FetchRuns
 pub mod Flights
 pub mod Good
+pub mod Left
 pub mod Listings
 pub mod Moves
 pub mod Plain

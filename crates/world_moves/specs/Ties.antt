@@ -26,7 +26,7 @@ use Rattle.task_events.specs.Messages.Message.{Answer, Ban}
 use Rattle.task_events.specs.Lawful.{AwaitsNoMark, Lawful}
 use Rattle.node_parts.specs.declared.running.Running.{Running}
 use Rattle.world_moves.specs.declared.state.State.{State}
-use Rattle.command_roots.specs.Roots.{root_request}
+use Rattle.command_roots.specs.Roots.{root_request, root_headers}
 use Rattle.world_moves.specs.declared.flight.Sent.{Sent}
 use Rattle.world_moves.specs.FetchRuns.{RunsFetch}
 use Rattle.world_moves.specs.Good.{IsGoodReply}
@@ -37,6 +37,8 @@ use Rattle.world_moves.specs.Flights.{message_of}
 use Rattle.world_moves.specs.Plain.{AnswersPlainly}
 use Rattle.world_moves.specs.Cancels.{waiting_for}
 use Rattle.world_moves.specs.Cancelling.{Cancelling}
+use Rattle.world_moves.specs.Describing.{Describing}
+use Rattle.world_moves.specs.Left.{HasLeft, left_in}
 
 -- the work of a task is as far as the past says, for what it was asked to do
 abbrev pub WorksFor : Cluster → Corpus → TaskId → List Asked → List Request → List (Option ℕ) → ℕ → Option Request → Work → Type 0
@@ -52,6 +54,7 @@ pub record Runs (cluster : Cluster) (corpus : Corpus) (t : TaskId) (facts : Fact
   pub token : running.ticket.token ≡ token_from facts
   pub track : running.track ≡ track_from t facts
   pub new : running.is_new ≡ facts.new
+  pub headers : running.headers ≡ facts.headers
   pub works : WorksFor cluster corpus t facts.asked facts.requests facts.awaited facts.turns facts.request running.work
 
 -- a task is kept exactly where it is live
@@ -83,7 +86,7 @@ IsGood cluster corpus h _ = ⊤
 
 pub record Ties (cluster : Cluster) (corpus : Corpus) (script : Script) (h : List Event) (tasks : TaskId → Option Running) (tables : List Table) (flight : List Sent) : Type 0 where
   pub lawful : Lawful cluster h
-  pub kept : (t : TaskId) → IsKept cluster corpus t (facts_of (root_request script) t h) (tasks t)
+  pub kept : (t : TaskId) → IsKept cluster corpus t (facts_of (root_request script) (root_headers script) t h) (tasks t)
   pub listed : (place : ℕ) → IsTableAt cluster place h (slice_get tables place)
   pub sent : map (message_of h) flight ≡ map Some (in_flight h)
   pub good : AllByRecursion (IsGood cluster corpus h) (in_flight h)
@@ -101,18 +104,29 @@ HasTies s = Ties s.cluster s.corpus.now s.script.now s.history (task_at s.tasks)
 abbrev pub HasCancels : (TaskId → List ℕ) → State → Type 0
 HasCancels waiting s = Cancelling s.cluster waiting s.history s.tables.items (get nat_cmp s.roots) s.bans.items s.cores.items s.listings
 
--- all tables say of the past what they should
-pub record IsTied (s : State) : Type 0 where
+-- and what task lists show
+abbrev pub HasDescriptions : State → Type 0
+HasDescriptions s = Describing s.script.now s.history s.tables.items s.flight s.clock
+
+-- All tables say of the past what they should, while one cancel, perhaps, is still naming tasks.
+pub record IsTiedWhile (naming : Option ℕ) (s : State) : Type 0 where
   pub ties : HasTies s
   pub cancels : HasCancels (λ t. waiting_for t s.history) s
+  pub counts : HasLeft naming s.history (left_in s.left)
+  pub tells : HasDescriptions s
   pub awaits : AwaitsNoMark s.history
 
--- the cluster, the documents and the script stay
+-- and while none is
+abbrev pub IsTied : State → Type 0
+IsTied s = IsTiedWhile None s
+
+-- the cluster, the documents, the script and the clock stay
 pub record Keeps (old new : State) : Type 0 where
   pub cluster : new.cluster ≡ old.cluster
   pub corpus : new.corpus.now ≡ old.corpus.now
   pub shards : new.shards ≡ old.shards
   pub script : new.script.now ≡ old.script.now
+  pub clock : new.clock ≡ old.clock
 
 -- The shards are those of the corpus.
 pub record HasShards (s : State) : Type 0 where

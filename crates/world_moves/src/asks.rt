@@ -41,15 +41,26 @@ pub fn ask(state: &mut State<'_>, task: TaskId, request: Request) -> Result<(), 
     let Some(running) = state.tasks.get_mut(&task) else {
         unreachable!()
     };
+    let Ok(headers) = running.headers.copy() else {
+        drop(request);
+        return Err(Stop::Memory);
+    };
     let token = match running.ask(to) {
         Ok(token) => token,
         Err(stop) => {
+            drop(headers);
             drop(request);
             return Err(stop);
         }
     };
     let number = token.ask();
-    match send(&mut state.flight, Sent::Request { token, to, at }) {
+    let sent = Sent::Request {
+        token,
+        to,
+        at,
+        headers,
+    };
+    match send(&mut state.flight, sent) {
         Ok(()) => {}
         Err(stop) => {
             drop(request);

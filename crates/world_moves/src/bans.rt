@@ -79,6 +79,7 @@ fn deliver_ack(state: &mut State<'_>, nth: usize, parent: TaskId, node: u32) -> 
     perform(
         &mut state.flight,
         &mut state.history,
+        &mut state.left,
         parent.node,
         acts.as_slice(),
     )

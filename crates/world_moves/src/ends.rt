@@ -124,6 +124,7 @@ fn leave(state: &mut State<'_>, task: TaskId, event: Event) -> Result<(), Stop>
     perform(
         &mut state.flight,
         &mut state.history,
+        &mut state.left,
         task.node,
         acts.as_slice(),
     )

@@ -8,13 +8,19 @@ use node_parts::notice::Notice;
 use std::alloc::{AllocFailed, Global};
 use std::collections::VecDeque;
 use std::marker::Model;
+use task_ids::Headers;
 
 /// A message that was sent. What a request or an answer says stands in the history, at the place of the event that sent
 /// it.
 pub enum Sent {
     /// The request of an ask, with the right to answer it, to a node (`to`). The ask stands at this place of the history (`at`,
-    /// counted from 0).
-    Request { token: AskToken, to: u32, at: usize },
+    /// counted from 0), and the request carries what that of the asking task carried.
+    Request {
+        token: AskToken,
+        to: u32,
+        at: usize,
+        headers: Headers,
+    },
     /// The answer to an ask, with the receipt of the child that ended or of the rejection, which stands at this place of the
     /// history (`at`, counted from 0).
     Answer { receipt: Receipt, at: usize },
@@ -23,13 +29,18 @@ pub enum Sent {
 }
 
 impl Sent {
-    /// The right to answer a request, its node, and the place in the history of its ask.
-    pub(crate) fn into_request(self) -> (AskToken, u32, usize)
+    /// The right to answer a request, its node, the place in the history of its ask, and what it carries.
+    pub(crate) fn into_request(self) -> (AskToken, u32, usize, Headers)
         requires { is_request_entry (Some self) ≡ true }
-        ensures { self ≡ Sent.Request result.0 result.1 result.2 }
+        ensures { self ≡ Sent.Request result.0 result.1 result.2 result.3 }
     {
         match self {
-            Sent::Request { token, to, at } => (token, to, at),
+            Sent::Request {
+                token,
+                to,
+                at,
+                headers,
+            } => (token, to, at, headers),
             Sent::Answer { .. } | Sent::Notice(..) => unreachable!(),
         }
     }
@@ -54,7 +65,9 @@ impl Drop for Sent {
                 token,
                 to: _,
                 at: _,
+                headers,
             } => {
+                drop(headers);
                 let _receipt = token.reject();
             }
             Sent::Answer { receipt: _, at: _ } => {}

@@ -1,23 +1,24 @@
 //! Marks.
 
-ghost use Rattle.std.specs.Prelude.{◌≡◌, ◌∷◌, ◌≤◌, length, Err, Some, IfSome, OnOk, OnErr};
+ghost use Rattle.std.specs.Prelude.{◌≡◌, ◌∷◌, ◌≤◌, length, Err, IfSome, OnOk, OnErr};
 ghost use Rattle.task_ids.specs.Limits.{IsCancel};
 ghost use Rattle.task_events.specs.declared.history.TheConstants.{MAX_EVENTS};
 ghost use Rattle.task_events.specs.Lawful.{Lawful};
-ghost use Rattle.world_moves.specs.Cancels.{waiting_for, waits_for_end, with_answers};
-ghost use Rattle.world_moves.specs.Cancelling.{waiting_but, cancels_of};
-ghost use Rattle.world_moves.specs.Moves.{IsPartOf, IsCutShort};
-ghost use Rattle.world_moves.specs.Ties.{HasTies, HasCancels, IsTied, Keeps, KeepsLaws};
+ghost use Rattle.world_moves.specs.Cancels.{waiting_for, waits_for_end};
+ghost use Rattle.world_moves.specs.Cancelling.{waiting_but, cancels_of, naming_of};
+ghost use Rattle.world_moves.specs.Left.{HasLeft, left_in};
+ghost use Rattle.world_moves.specs.Moves.{IsPartOf};
+ghost use Rattle.world_moves.specs.Ties.{HasTies, HasCancels, HasDescriptions, IsTiedWhile, Keeps, KeepsLaws};
 
 use crate::append::append;
-use crate::performing::perform;
+use crate::performing::{count_down, send_all};
 use crate::state::State;
 use cancel_core::Waiter;
 use task_events::{Event, Stop};
 use task_ids::TaskId;
 
-/// Marks a live task that has no mark, for the cancel that waits or for a listing: the task asks for nothing more, and bans
-/// of it go to the nodes of its unanswered asks. The answer follows where it is due.
+/// Marks a live task that has no mark, for the cancel that has just named it or for a listing: the task asks for nothing more, and
+/// bans of it go to the nodes of its unanswered asks. No cancel is answered by it: the one that named the task may be naming others.
 ///
 /// It fails where the history is full (`HistoryFull`, at 4,000,000 events) or memory runs out (`Memory`); the mark may have
 /// come then.
@@ -29,17 +30,19 @@ pub fn mark(
 ) -> Result<(), Stop>
     requires ties { HasTies state.old }
     requires cancels { HasCancels (waiting_but task state.old.history) state.old }
+    requires counts { HasLeft (naming_of waiter) state.old.history (left_in state.old.left) }
+    requires tells { HasDescriptions state.old }
     requires lawful { Lawful state.old.cluster (Event.Mark task cancel ∷ state.old.history) }
     requires number { IsCancel cancel }
     requires waiting { waiting_for task state.old.history ≡ cancels_of waiter }
     requires wait { IfSome waiter (λ w. (w.wait ≡ waits_for_end w.cancel state.old.history) × IsCancel w.cancel) }
-    ensures happened { OnOk result (state.new.history ≡ with_answers task (Event.Mark task cancel ∷ state.old.history)) }
-    ensures tied { OnOk result (IsTied state.new) }
+    ensures happened { OnOk result (state.new.history ≡ Event.Mark task cancel ∷ state.old.history) }
+    ensures tied { OnOk result (IsTiedWhile (naming_of waiter) state.new) }
     ensures keeps { Keeps state.old state.new }
     ensures room { OnOk result (length state.new.history ≤ MAX_EVENTS) }
-    ensures part { OnErr result (IsPartOf state.old.history state.new.history (with_answers task (Event.Mark task cancel ∷ state.old.history))) }
+    ensures part { OnErr result (IsPartOf state.old.history state.new.history (Event.Mark task cancel ∷ state.old.history)) }
     ensures laws { OnErr result (KeepsLaws state.new) }
-    ensures full { result ≡ Err Stop.HistoryFull → IsCutShort (λ past. IsPartOf state.old.history past (with_answers task (Event.Mark task cancel ∷ state.old.history))) state.new.history }
+    ensures full { result ≡ Err Stop.HistoryFull → (length state.old.history ≡ MAX_EVENTS) × (state.new.history ≡ state.old.history) }
     ensures numbers { result ≡ Err Stop.NumbersSpent → ⊥ }
 {
     let place = task.node as usize - 1;
@@ -52,10 +55,11 @@ pub fn mark(
         return Err(Stop::Memory);
     };
     append(&mut state.history, Event::Mark { task, cancel })?;
-    perform(
-        &mut state.flight,
-        &mut state.history,
-        task.node,
-        acts.as_slice(),
-    )
+    let done = acts.as_slice();
+    match send_all(&mut state.flight, task.node, done) {
+        Ok(()) => {}
+        Err(stop) => return Err(stop),
+    }
+    count_down(&mut state.left, done);
+    Ok(())
 }

@@ -1,7 +1,9 @@
 //! Requests reach their nodes.
 
-ghost use Rattle.std.specs.Prelude.{◌≡◌, ◌∷◌, ◌++◌, [], ◌≤◌, true, length, remove, slice_get, option_and_then, Err, Some, None, IsSome, OnOk, OnErr};
+ghost use Rattle.std.specs.Prelude.{◌≡◌, ◌∷◌, ◌++◌, [], ◌≤◌, true, length, remove, slice_get, option_and_then, Err, Some, None, IsSome, IfOk, OnOk, OnErr};
 ghost use Rattle.task_events.specs.declared.history.TheConstants.{MAX_EVENTS};
+ghost use Rattle.node_parts.specs.Starting.{task_for};
+ghost use Rattle.task_events.specs.declared.request.Request.{Request};
 ghost use Rattle.world_moves.specs.Flights.{event_at, request_in, is_request_entry};
 ghost use Rattle.world_moves.specs.Moves.{Delivers, DeliveryLacksNumber, IsPartly, IsCutShort};
 ghost use Rattle.world_moves.specs.Ties.{IsTied, Keeps};
@@ -13,13 +15,15 @@ use crate::starting::{keep_started, put_on, spend};
 use crate::state::State;
 use child_track::AskToken;
 use node_parts::starting::{new_task, with_work};
+use std::alloc::AllocError;
 use task_events::{Event, History, Request, Stop};
+use task_ids::{Headers, NewTask, TaskId};
 use task_table::PutError;
 
-/// Takes a request out of the flight: the right to answer it, its node, and where it stands in the history.
-fn take_request(flight: &mut Flight, nth: usize) -> (AskToken, u32, usize)
+/// Takes a request out of the flight: the right to answer it, its node, where it stands in the history, and what it carries.
+fn take_request(flight: &mut Flight, nth: usize) -> (AskToken, u32, usize, Headers)
     requires { is_request_entry (slice_get flight.old nth) ≡ true }
-    ensures taken { slice_get flight.old nth ≡ Some (Sent.Request result.0 result.1 result.2) }
+    ensures taken { slice_get flight.old nth ≡ Some (Sent.Request result.0 result.1 result.2 result.3) }
     ensures rest { flight.new ≡ remove flight.old nth }
 {
     match flight.take(nth) {
@@ -40,6 +44,26 @@ fn request_at(history: &History, at: usize) -> &Request
         Event::Ask { request, .. } => request,
         _ => unreachable!(),
     }
+}
+
+/// The task that the request of the ask at a place of the history starts now.
+fn child_of(
+    state: &State<'_>,
+    at: usize,
+    parent: TaskId,
+    headers: &Headers,
+) -> Result<NewTask, AllocError>
+    requires { IsSome (option_and_then request_in (event_at at state.now.history)) }
+    ensures { IfOk result (λ task. (request : Request) → option_and_then request_in (event_at at state.now.history) ≡ Some request
+        → task ≡ task_for request (Some parent) state.now.clock headers.now) }
+{
+    new_task(
+        state.alloc,
+        request_at(&state.history, at),
+        Some(parent),
+        state.clock,
+        headers,
+    )
 }
 
 /// Rejects a request, since its node has no free slot. The task that asked is answered.
@@ -86,27 +110,41 @@ pub fn deliver_request(state: &mut State<'_>, nth: usize) -> Result<(), Stop>
         → DeliveryLacksNumber state.old.cluster state.old.history nth }
     ensures room { OnOk result (length state.new.history ≤ MAX_EVENTS) }
 {
-    let (token, to, at) = take_request(&mut state.flight, nth);
+    let (token, to, at, headers) = take_request(&mut state.flight, nth);
     let parent = token.parent();
     let ask = token.ask();
-    let child = new_task(state.alloc, request_at(&state.history, at), Some(parent));
+    let Ok(child) = child_of(state, at, parent, &headers) else {
+        drop(headers);
+        spend(Some(token));
+        return Err(Stop::Memory);
+    };
     match put_on(&mut state.tables, to, child, Some(token)) {
         Ok(ticket) => {
             let task = ticket.id();
             let request = request_at(&state.history, at);
-            let running = with_work(state.alloc, ticket, request, &state.cluster, true)?;
+            let running = with_work(
+                state.alloc,
+                ticket,
+                request,
+                &state.cluster,
+                true,
+                headers,
+            )?;
             let event = Event::Put { task, parent, ask };
             keep_started(&mut state.history, &mut state.tasks, running, event)
         }
         Err(PutError::Full(token)) => {
+            drop(headers);
             let Some(token) = token else { unreachable!() };
             reject(&mut state.history, &mut state.flight, to, token)
         }
         Err(PutError::NumbersSpent(token)) => {
+            drop(headers);
             spend(token);
             Err(Stop::NumbersSpent)
         }
         Err(PutError::Memory(token)) => {
+            drop(headers);
             spend(token);
             Err(Stop::Memory)
         }

@@ -25,6 +25,8 @@ pub struct State<'a> {
     pub script: &'a Script,
     /// What has happened.
     pub history: History,
+    /// The clock, in milliseconds.
+    pub clock: u64,
     /// The live tasks.
     pub tasks: BTreeMap<TaskId, Running>,
     /// The table of each node, from the first on.
@@ -37,6 +39,8 @@ pub struct State<'a> {
     pub bans: Vec<BanTable>,
     /// The cancellations of each node's tasks, from the first on.
     pub cores: Vec<CancelCore>,
+    /// At how many of the tasks that it named each cancel waits.
+    pub left: BTreeMap<u32, usize>,
     /// The open listings.
     pub listings: BTreeSet<Listing>,
 }

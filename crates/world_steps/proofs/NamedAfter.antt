@@ -28,7 +28,7 @@ use Rattle.node_parts.specs.declared.listing.Listing.{Listing}
 use Rattle.node_parts.specs.declared.running.Running.{Running}
 use Rattle.world_moves.specs.Cancels.{waiting_for, waits_for_end, named_by, is_answered, after_cancel_of}
 use Rattle.world_moves.specs.Cancelling.{Cancelling, HasRows, HasBansAt, IsEntryOf, is_under_way, waiting_but}
-use Rattle.command_roots.specs.Roots.{root_request}
+use Rattle.command_roots.specs.Roots.{root_request, root_headers}
 use Rattle.world_moves.specs.Ties.{Ties}
 use Rattle.world_moves.proofs.CancelFrame.{entry_frame, cores_kept}
 use Rattle.world_moves.proofs.FlightAfter.{all_stay}
@@ -68,7 +68,7 @@ module _ (cluster : Cluster) (h : List Event) (c : ℕ) (t : TaskId) (wait : Boo
       → Ties cluster corpus script (Cancel c t wait ∷ h) tasks tables flight
   ties_after_cancel corpus script tasks tables flight ties = record {
     lawful = cancel_lawful;
-    kept = kept_same cluster corpus (root_request script) (Cancel c t wait) h tasks refl ties.kept;
+    kept = kept_same cluster corpus (root_request script) (root_headers script) (Cancel c t wait) h tasks refl ties.kept;
     listed = λ place. listed_same cluster (Cancel c t wait) h (λ n. refl) refl place _ (ties.listed place);
     sent = all_stay (Cancel c t wait) h flight _ ties.sent;
     good = ties.good;
@@ -150,7 +150,7 @@ pub ties_after_missing : (cluster : Cluster) (corpus : Corpus) (script : Script)
     → Ties cluster corpus script h tasks tables flight → AwaitsNoMark h → beginning h ≡ Some c → Ties cluster corpus script (NotFound c ∷ h) tasks tables flight
 ties_after_missing cluster corpus script h tasks tables flight c ties awaits begun = record {
   lawful = (begun, ties.lawful, awaits);
-  kept = kept_same cluster corpus (root_request script) (NotFound c) h tasks refl ties.kept;
+  kept = kept_same cluster corpus (root_request script) (root_headers script) (NotFound c) h tasks refl ties.kept;
   listed = λ place. listed_same cluster (NotFound c) h (λ n. refl) refl place _ (ties.listed place);
   sent = all_stay (NotFound c) h flight _ ties.sent;
   good = ties.good;

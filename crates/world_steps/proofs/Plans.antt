@@ -21,7 +21,7 @@ use Rattle.script_lang.specs.declared.command.Script.{Script}
 use Rattle.world_moves.specs.declared.flight.Sent.{Sent}
 use Rattle.node_parts.specs.declared.running.Running.{Running}
 use Rattle.world_moves.specs.Facts.{facts_of, awaited_by, requested_by, none_awaited}
-use Rattle.command_roots.specs.Roots.{root_request}
+use Rattle.command_roots.specs.Roots.{root_request, root_headers}
 use Rattle.world_steps.specs.Runs as runs
 use Rattle.world_moves.specs.Ties.{Ties, Runs}
 use Rattle.world_moves.specs.Good.{own_writes}
@@ -68,7 +68,7 @@ module _ (cluster : Cluster) (corpus : Corpus) (script : Script) (h : List Event
   pub acts_kept : (t : TaskId) → is_live t h ≡ true → (r : Running) → tasks t ≡ Some r → (is_live t h && is_some (runs.next_of cluster corpus script t h)) ≡ can_act r (writes_at t)
   acts_kept t l r e = rw l (by_new (is_new t h) refl)
     where
-      kept : Runs cluster corpus t (facts_of (root_request script) t h) r
+      kept : Runs cluster corpus t (facts_of (root_request script) (root_headers script) t h) r
       kept = kept_running cluster corpus script h tasks tables flight ties t l r e
 
       by_mark : is_new t h ≡ false → (o : Option ℕ) → mark_of t h ≡ o → is_some (runs.next_of cluster corpus script t h) ≡ can_act r (writes_at t)

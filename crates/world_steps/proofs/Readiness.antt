@@ -22,7 +22,7 @@ use Rattle.script_lang.specs.declared.command.Script.{Script}
 use Rattle.task_work.specs.Works.{does_wait}
 use Rattle.world_moves.specs.Facts.{Facts, facts_of, about, is_about, awaited_by, none_awaited}
 use Rattle.world_moves.specs.Flights.{event_at}
-use Rattle.command_roots.specs.Roots.{root_request}
+use Rattle.command_roots.specs.Roots.{root_request, root_headers}
 use Rattle.world_steps.specs.Runs.{next_of}
 use Rattle.world_moves.specs.Ties.{Keeps}
 use Rattle.world_steps.specs.World.{HasReady, HadReady, is_ready, past_of}
@@ -109,13 +109,13 @@ module _ (cluster : Cluster) (corpus : Corpus) (script : Script) where
   one_event t h (Finish reply) = refl
 
   by_request : (t : TaskId) (h : List Event) (o : Option Request)
-      → is_some (option_and_then (event_of cluster t h) (option_map (λ r. planned_step cluster corpus t r h) o)) ≡ option_map_or (λ r. not (does_wait (plan_from cluster corpus t (facts_of (root_request script) t h) r))) o false
+      → is_some (option_and_then (event_of cluster t h) (option_map (λ r. planned_step cluster corpus t r h) o)) ≡ option_map_or (λ r. not (does_wait (plan_from cluster corpus t (facts_of (root_request script) (root_headers script) t h) r))) o false
   by_request t h None = refl
   by_request t h (Some r) = one_event t h (planned_step cluster corpus t r h)
 
   -- the facts of the task
   abbrev facts_at : TaskId → List Event → Facts
-  facts_at t h = facts_of (root_request script) t h
+  facts_at t h = facts_of (root_request script) (root_headers script) t h
 
   by_mark : (t : TaskId) (h : List Event) → Lawful cluster h → is_new t h ≡ false → (o : Option ℕ) → mark_of t h ≡ o
       → is_some (next_of cluster corpus script t h) ≡ cond (is_some (mark_of t h)) (none_awaited (awaited_by t h)) (works_from cluster corpus t (facts_at t h))
@@ -132,7 +132,7 @@ module _ (cluster : Cluster) (corpus : Corpus) (script : Script) where
 
   -- an event changes this of no task but that which it is about
   pub acts_same : (t : TaskId) (e : Event) (h : List Event) → Lawful cluster (e ∷ h) → is_about t e ≡ false → is_ready cluster corpus script (e ∷ h) t ≡ is_ready cluster corpus script h t
-  acts_same t e h l apart = acts_by_facts t (e ∷ h) l ∙ ap (acts_from cluster corpus t) (frame (root_request script) t e h apart) ∙ sym (acts_by_facts t h l.1)
+  acts_same t e h l apart = acts_by_facts t (e ∷ h) l ∙ ap (acts_from cluster corpus t) (frame (root_request script) (root_headers script) t e h apart) ∙ sym (acts_by_facts t h l.1)
 
   -- nor do some events that are about others
   unmet : (q : TaskId) (n : ℕ) (h : List Event) → Lawful cluster h → list_any (is_about q) (take n h) ≡ false → is_ready cluster corpus script (drop n h) q ≡ is_ready cluster corpus script h q

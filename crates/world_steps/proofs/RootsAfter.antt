@@ -20,7 +20,7 @@ use Rattle.world_moves.specs.declared.flight.Sent.{Sent}
 use Rattle.node_parts.specs.declared.running.Running.{Running}
 use Rattle.world_moves.specs.Facts.{Facts, facts_of}
 use Rattle.world_moves.specs.Moves.{IsStart}
-use Rattle.command_roots.specs.Roots.{root_request}
+use Rattle.command_roots.specs.Roots.{root_request, root_headers}
 use Rattle.world_moves.specs.Ties.{Ties}
 use Rattle.world_moves.proofs.FactsAfter.{at_root}
 use Rattle.world_moves.proofs.FlightAfter.{all_stay}
@@ -34,7 +34,7 @@ module _ (cluster : Cluster) (corpus : Corpus) (script : Script) (h : List Event
   pub after_begin : last_command h + 1 ≡ command → Ties cluster corpus script (Begin command ∷ h) tasks tables flight
   after_begin next = record {
     lawful = (sym next, ties.lawful, awaits);
-    kept = kept_same cluster corpus (root_request script) (Begin command) h tasks refl ties.kept;
+    kept = kept_same cluster corpus (root_request script) (root_headers script) (Begin command) h tasks refl ties.kept;
     listed = λ place. listed_same cluster (Begin command) h (λ n. refl) refl place _ (ties.listed place);
     sent = all_stay (Begin command) h flight _ ties.sent;
     good = ties.good;
@@ -46,7 +46,7 @@ module _ (cluster : Cluster) (corpus : Corpus) (script : Script) (h : List Event
     pub after_root_rejected : cluster.slots ≤ live_on node h → Ties cluster corpus script (RootRejected command node ∷ h) tasks tables flight
     after_root_rejected full = record {
       lawful = (record { begins = begun; low = low; high = high; full = full }, ties.lawful, awaits);
-      kept = kept_same cluster corpus (root_request script) (RootRejected command node) h tasks refl ties.kept;
+      kept = kept_same cluster corpus (root_request script) (root_headers script) (RootRejected command node) h tasks refl ties.kept;
       listed = λ place. listed_same cluster (RootRejected command node) h (λ n. refl) refl place _ (ties.listed place);
       sent = all_stay (RootRejected command node) h flight _ ties.sent;
       good = ties.good;
@@ -69,14 +69,14 @@ module _ (cluster : Cluster) (corpus : Corpus) (script : Script) (h : List Event
           → Ties cluster corpus script (Root command t ∷ h) kept after flight
       after_root request running kept asked is on here others = record {
         lawful = (record { begins = begun; in_cluster = rw node_is high; takes = takes }, ties.lawful, awaits);
-        kept = kept_after cluster corpus (root_request script) t (Root command t) h tasks kept refl ties.kept (rw here (runs_first cluster corpus t None false request _ running facts is on)) others;
+        kept = kept_after cluster corpus (root_request script) (root_headers script) t (Root command t) h tasks kept refl ties.kept (rw here (runs_first cluster corpus t None false request _ running facts is on)) others;
         listed = put_listed cluster h tables ties.listed node low high t task after put (Root command t) (record { last = λ n. refl; live = refl });
         sent = all_stay (Root command t) h flight _ ties.sent;
         good = ties.good;
         plain = ties.plain;
       }
         where
-          facts : facts_of (root_request script) t (Root command t ∷ h) ≡ started None false request
+          facts : facts_of (root_request script) (root_headers script) t (Root command t ∷ h) ≡ started None false request
           facts =
-              let none = unborn cluster t (root_request script) h ties.lawful (let next = takes.next in omega arith) in
-              at_root (root_request script) t h command ∙ ap (λ (f : Facts). record f { live = true; request = root_request script command }) none ∙ ap (λ (o : Option Request). record blank { live = true; request = o }) asked
+              let none = unborn cluster t (root_request script) (root_headers script) h ties.lawful (let next = takes.next in omega arith) in
+              at_root (root_request script) (root_headers script) t h command ∙ ap (λ (f : Facts). record f { live = true; request = root_request script command }) none ∙ ap (λ (o : Option Request). record blank { live = true; request = o }) asked

@@ -1,4 +1,4 @@
-use Rattle.std.proofs.Common.{◌∙◌, ◌∷◌, Some, refl, sym, ap, subst}
+use Rattle.std.proofs.Common.{◌∙◌, ◌∷◌, Some, refl, sym, ap, subst, None}
 use Rattle.std.specs.Option.{option_copied_mut}
 use Rattle.task_events.specs.declared.event.Event.TheVariants.{Answered}
 use Rattle.task_events.specs.Lawful.{AwaitsNoMark}
@@ -12,6 +12,8 @@ use Rattle.world_moves.proofs.SameTies.{same_ties, same_cancels}
 use Rattle.world_moves.proofs.CancelsUntouched.{noted}
 use Rattle.world_moves.proofs.CutShort.{cut_only}
 use Rattle.corpus_shards.proofs.Cases.{some_of, then_ok, of_err}
+use Rattle.world_moves.proofs.DescriptionsAfter.{quiet_sent, carry_taken}
+use Rattle.world_moves.proofs.QuietCounts.{still_counts}
 use Rattle.world_moves.proofs.answers.deliver_answer.Goals as goal
 
 pub unreachable-requires : goal.unreachable-requires
@@ -62,6 +64,8 @@ returns-clause-tied c =
           (after_answer s.cluster s.corpus.now s.script.now s.history _ _ _ c.requires.tied.ties c.args.nth c.take_answer-receipt.result.0 c.take_answer-receipt.result.1 c.take_answer-receipt.ensures.taken c.in-Some.parent (sym c.parent.ensures ∙ c.in-Some.is) c.in_ok-reply.reply c.in_ok-reply.ensures.reply c.in-Some-get_mut.running.now was c.requires.tied.awaits _ here others);
       cancels = same_cancels s.cluster _ _ _ _ _ _ _ _ happened refl
           (noted s.cluster (λ t. waiting_for t s.history) s.history _ _ _ _ _ c.requires.tied.cancels (Answered c.in-Some.parent c.take_answer-receipt.result.0.ask) refl refl);
+      counts = rw happened (still_counts None (Answered c.in-Some.parent c.take_answer-receipt.result.0.ask) s.history _ refl c.requires.tied.counts);
+      tells = rw (happened, c.take_answer-receipt.ensures.rest) (quiet_sent s.script.now s.history _ s.flight _ (Answered c.in-Some.parent c.take_answer-receipt.result.0.ask) _ refl (carry_taken s.script.now s.history s.flight c.args.nth c.requires.tied.tells.carried) c.requires.tied.tells);
       awaits = subst AwaitsNoMark (sym happened) tt;
     }))
 

@@ -1,4 +1,4 @@
-use Rattle.std.proofs.Common.{◌≡◌, rules, length, ◌∙◌, ◌∷◌, [], ◌++◌, Some, sym, ap, subst, arith}
+use Rattle.std.proofs.Common.{◌≡◌, rules, length, ◌∙◌, ◌∷◌, [], ◌++◌, map, Some, refl, sym, ap, subst, arith}
 use Rattle.std.specs.Prelude.{Contains, remove, reverse, unwrap_or}
 use Rattle.std.proofs.lemmas.Option.{get_or_from_slice_get}
 use Rattle.cancel_core.specs.Acts.{due_acts}
@@ -7,12 +7,15 @@ use Rattle.cancel_core.specs.Cancellations.{with_entry}
 use Rattle.task_events.specs.declared.event.Event.TheVariants.{Acked}
 use Rattle.task_events.specs.declared.history.TheConstants.{MAX_EVENTS}
 use Rattle.world_moves.specs.Acts.{messages_in, answers_in}
-use Rattle.world_moves.specs.Cancels.{waiting_for, due_answers}
+use Rattle.world_moves.specs.Cancels.{waiting_for, answer_to, due_for}
+use Rattle.world_moves.specs.Left.{left_in}
 use Rattle.world_moves.specs.Moves.{Delivers, IsPartOf, IsPartly}
-use Rattle.world_moves.proofs.AcksAfter.{ack_high, ack_core, ack_entry, ack_awaited, tied_after, noted_after, ack_happened, delivers_ack, partly_ack, part_laws}
-use Rattle.world_moves.proofs.CancelAnswersAfter.{answers_await}
+use Rattle.world_moves.proofs.AcksAfter.{ack_high, ack_core, ack_entry, ack_awaited, tied_after, noted_after, ack_happened, ack_counted, delivers_ack, partly_ack, part_laws}
+use Rattle.world_moves.proofs.CancelAnswersAfter.{answers_await, answers_described}
+use Rattle.world_moves.proofs.DescriptionsAfter.{quiet_sent, carry_both, carry_taken, acts_carry}
 use Rattle.world_moves.proofs.CoresAfter.{has_core}
-use Rattle.corpus_shards.proofs.Cases.{then_ok, both_ok, then_err}
+use Rattle.corpus_shards.proofs.Cases.{then_ok, then_err}
+use Rattle.world_moves.proofs.Outcomes.{all_ok}
 use Rattle.world_moves.proofs.CutShort.{cut_as, cut_first, cut_move}
 use Rattle.world_moves.proofs.bans.deliver_ack.Goals as goal
 
@@ -42,7 +45,7 @@ returns-clause-part c =
     let entry = ap (λ o. unwrap_or o (opened 0 [])) e.1 in
     let acts = c.as_slice.ensures.value ∙ c.in-Ok.ensures.acts ∙ ap (λ k. due_acts c.args.parent (with_ack k c.args.node)) entry in
     then_err c.perform.result _ _ c.perform.ensures.part (λ performed.
-    partly_ack s.cluster s.corpus.now s.script.now s.history _ _ s.flight c.requires.tied.ties c.requires.tied.awaits c.args.nth c.args.parent c.args.node c.requires.there e.0 e.2 c.requires.tied.cancels.one_task
+    partly_ack s.cluster s.corpus.now s.script.now s.history _ _ s.flight c.requires.tied.ties c.requires.tied.awaits c.args.nth c.args.parent c.args.node c.requires.there e.0 e.2 _ c.requires.tied.counts
     c.append.new.history c.perform.new.history _ c.in_ok-append.ensures.ok acts performed)
 
 pub returns-clause-laws : goal.returns-clause-laws
@@ -53,7 +56,7 @@ returns-clause-laws c =
     let e = ack_entry s.cluster s.corpus.now s.script.now s.history _ _ s.flight c.requires.tied.ties c.requires.tied.awaits c.args.nth c.args.parent c.args.node c.requires.there s.cores.items c.requires.tied.cancels.cores_are c.index_mut.result.now (on.1 ∙ ap Some (sym is)) in
     let entry = ap (λ o. unwrap_or o (opened 0 [])) e.1 in
     let acts = c.as_slice.ensures.value ∙ c.in-Ok.ensures.acts ∙ ap (λ k. due_acts c.args.parent (with_ack k c.args.node)) entry in
-    then_err c.perform.result _ _ c.perform.ensures.part (λ performed. (let laws = part_laws s.cluster s.corpus.now s.script.now s.history _ _ s.flight c.requires.tied.ties c.requires.tied.awaits c.args.nth c.args.parent c.args.node c.requires.there e.0 e.2 c.requires.tied.cancels.one_task
+    then_err c.perform.result _ _ c.perform.ensures.part (λ performed. (let laws = part_laws s.cluster s.corpus.now s.script.now s.history _ _ s.flight c.requires.tied.ties c.requires.tied.awaits c.args.nth c.args.parent c.args.node c.requires.there e.0 e.2 _ c.requires.tied.counts
     c.append.new.history c.perform.new.history _ c.in_ok-append.ensures.ok acts performed in
     record { lawful = laws.0; plain = laws.1 }))
 
@@ -65,10 +68,10 @@ returns-clause-delivered c =
     let e = ack_entry s.cluster s.corpus.now s.script.now s.history _ _ s.flight c.requires.tied.ties c.requires.tied.awaits c.args.nth c.args.parent c.args.node c.requires.there s.cores.items c.requires.tied.cancels.cores_are c.index_mut.result.now (on.1 ∙ ap Some (sym is)) in
     let entry = ap (λ o. unwrap_or o (opened 0 [])) e.1 in
     let acts = c.as_slice.ensures.value ∙ c.in-Ok.ensures.acts ∙ ap (λ k. due_acts c.args.parent (with_ack k c.args.node)) entry in
-    then_ok c.perform.result _ _ c.perform.ensures.answered (λ answered. (let happened = ack_happened s.cluster s.corpus.now s.script.now s.history _ _ s.flight c.requires.tied.ties c.requires.tied.awaits c.args.nth c.args.parent c.args.node c.requires.there e.0 e.2 c.requires.tied.cancels.one_task
+    then_ok c.perform.result _ _ c.perform.ensures.answered (λ answered. (let happened = ack_happened s.cluster s.corpus.now s.script.now s.history _ _ s.flight c.requires.tied.ties c.requires.tied.awaits c.args.nth c.args.parent c.args.node c.requires.there e.0 e.2 _ c.requires.tied.counts
     c.append.new.history c.perform.new.history _ c.in_ok-append.ensures.ok acts answered in
     subst (λ h. Delivers s.cluster s.history c.args.nth h) (sym happened)
-    (delivers_ack s.cluster s.corpus.now s.script.now s.history _ _ s.flight c.requires.tied.ties c.requires.tied.awaits c.args.nth c.args.parent c.args.node c.requires.there e.0 e.2 c.requires.tied.cancels.one_task)))
+    (delivers_ack s.cluster s.corpus.now s.script.now s.history _ _ s.flight c.requires.tied.ties c.requires.tied.awaits c.args.nth c.args.parent c.args.node c.requires.there e.0 e.2 _ c.requires.tied.counts)))
 
 pub returns-clause-tied : goal.returns-clause-tied
 returns-clause-tied c =
@@ -84,13 +87,18 @@ returns-clause-tied c =
     let acts = c.as_slice.ensures.value ∙ c.in-Ok.ensures.acts ∙ ap (λ k. due_acts p (with_ack k n)) entry in
     let rest = rw (c.take-ack.ensures.taken ∙ c.requires.there) at c.take-ack.ensures.rest in
     let core = c.in-Ok.ensures.acked ∙ ap (λ k. with_entry c.index_mut.result.now p (rest_of (with_ack k n))) entry in
-    both_ok c.perform.result _ _ _ c.perform.ensures.answered c.perform.ensures.sent (λ answered queued. (let happened = ack_happened s.cluster s.corpus.now s.script.now s.history _ _ s.flight c.requires.tied.ties c.requires.tied.awaits c.args.nth c.args.parent c.args.node c.requires.there e.0 e.2 c.requires.tied.cancels.one_task
+    all_ok c.perform.result _ _ _ _ c.perform.ensures.answered c.perform.ensures.sent c.perform.ensures.counted (λ answered queued counted. (let happened = ack_happened s.cluster s.corpus.now s.script.now s.history _ _ s.flight c.requires.tied.ties c.requires.tied.awaits c.args.nth c.args.parent c.args.node c.requires.there e.0 e.2 _ c.requires.tied.counts
     c.append.new.history c.perform.new.history _ c.in_ok-append.ensures.ok acts answered in
     let sent = queued ∙ ap (λ queue. queue ++ messages_in p.node c.as_slice.result.now) rest ∙ ap (λ xs. remove s.flight c.args.nth ++ messages_in p.node xs) acts in
     record {
-      ties = rw (happened, sent) (tied_after s.cluster s.corpus.now s.script.now s.history _ _ s.flight c.requires.tied.ties c.requires.tied.awaits c.args.nth c.args.parent c.args.node c.requires.there e.0 e.2 c.requires.tied.cancels.one_task);
-      cancels = rw (happened, core) (noted_after s.cluster s.corpus.now s.script.now s.history _ _ s.flight c.requires.tied.ties c.requires.tied.awaits c.args.nth c.args.parent c.args.node c.requires.there e.0 e.2 c.requires.tied.cancels.one_task
+      ties = rw (happened, sent) (tied_after s.cluster s.corpus.now s.script.now s.history _ _ s.flight c.requires.tied.ties c.requires.tied.awaits c.args.nth c.args.parent c.args.node c.requires.there e.0 e.2 _ c.requires.tied.counts);
+      cancels = rw (happened, core) (noted_after s.cluster s.corpus.now s.script.now s.history _ _ s.flight c.requires.tied.ties c.requires.tied.awaits c.args.nth c.args.parent c.args.node c.requires.there e.0 e.2 _ c.requires.tied.counts
           _ _ s.cores.items _ c.requires.tied.cancels high c.index_mut.result.now here);
+      counts = rw happened (ack_counted s.cluster s.corpus.now s.script.now s.history _ _ s.flight c.requires.tied.ties c.requires.tied.awaits c.args.nth c.args.parent c.args.node c.requires.there e.0 e.2 _ c.requires.tied.counts
+          c.as_slice.result.now acts _ counted);
+      tells = rw (happened, queued ∙ ap (λ queue. queue ++ messages_in p.node c.as_slice.result.now) rest) (answers_described s.cluster p (Acked p n ∷ s.history) s.script.now _ _ _
+          (quiet_sent s.script.now s.history _ s.flight _ (Acked p n) _ refl
+          (carry_both s.script.now s.history _ _ (carry_taken s.script.now s.history s.flight c.args.nth c.requires.tied.tells.carried) (acts_carry s.script.now s.history p.node c.as_slice.result.now)) c.requires.tied.tells));
       awaits = rw happened (answers_await s.cluster p (Acked p n ∷ s.history) tt);
     }))
 
@@ -102,8 +110,8 @@ returns-clause-full c = λ failed.
     let e = ack_entry s.cluster s.corpus.now s.script.now s.history _ _ s.flight c.requires.tied.ties c.requires.tied.awaits c.args.nth c.args.parent c.args.node c.requires.there s.cores.items c.requires.tied.cancels.cores_are c.index_mut.result.now (on.1 ∙ ap Some (sym is)) in
     let entry = ap (λ o. unwrap_or o (opened 0 [])) e.1 in
     let acts = c.as_slice.ensures.value ∙ c.in-Ok.ensures.acts ∙ ap (λ k. due_acts c.args.parent (with_ack k c.args.node)) entry in
-    cut_as (λ past. IsPartOf c.append.new.history past (answers_in c.as_slice.result.now ++ c.append.new.history)) (IsPartly (λ x y. Delivers s.cluster x c.args.nth y) s.history) c.perform.new.history (λ past performed.
-    partly_ack s.cluster s.corpus.now s.script.now s.history _ _ s.flight c.requires.tied.ties c.requires.tied.awaits c.args.nth c.args.parent c.args.node c.requires.there e.0 e.2 c.requires.tied.cancels.one_task
+    cut_as (λ past. IsPartOf c.append.new.history past (answers_in c.as_slice.result.now (left_in s.left) ++ c.append.new.history)) (IsPartly (λ x y. Delivers s.cluster x c.args.nth y) s.history) c.perform.new.history (λ past performed.
+    partly_ack s.cluster s.corpus.now s.script.now s.history _ _ s.flight c.requires.tied.ties c.requires.tied.awaits c.args.nth c.args.parent c.args.node c.requires.there e.0 e.2 _ c.requires.tied.counts
     c.append.new.history past _ c.in_ok-append.ensures.ok acts performed) (c.perform.ensures.full failed)
 
 pub returns-in_err-append-clause-full : goal.returns-in_err-append-clause-full
@@ -113,5 +121,5 @@ returns-in_err-append-clause-full c = λ failed.
     let on = ack_core s.cluster s.corpus.now s.script.now s.history _ _ s.flight c.requires.tied.ties c.requires.tied.awaits c.args.nth c.args.parent c.args.node c.requires.there s.cores.items c.requires.tied.cancels.cores_are in
     let is = c.index_mut.ensures.value ∙ get_or_from_slice_get s.cores.items _ on.0 _ on.1 in
     let e = ack_entry s.cluster s.corpus.now s.script.now s.history _ _ s.flight c.requires.tied.ties c.requires.tied.awaits c.args.nth c.args.parent c.args.node c.requires.there s.cores.items c.requires.tied.cancels.cores_are c.index_mut.result.now (on.1 ∙ ap Some (sym is)) in
-    cut_move (λ x y. Delivers s.cluster x c.args.nth y) s.history c.append.new.history _ (delivers_ack s.cluster s.corpus.now s.script.now s.history _ _ s.flight c.requires.tied.ties c.requires.tied.awaits c.args.nth c.args.parent c.args.node c.requires.there e.0 e.2 c.requires.tied.cancels.one_task)
-    (cut_first s.history c.append.new.history (reverse (due_answers c.args.parent (Acked c.args.parent c.args.node ∷ s.history))) (Acked c.args.parent c.args.node) full c.in_err-append.ensures.err)
+    cut_move (λ x y. Delivers s.cluster x c.args.nth y) s.history c.append.new.history _ (delivers_ack s.cluster s.corpus.now s.script.now s.history _ _ s.flight c.requires.tied.ties c.requires.tied.awaits c.args.nth c.args.parent c.args.node c.requires.there e.0 e.2 _ c.requires.tied.counts)
+    (cut_first s.history c.append.new.history (reverse (map (answer_to (Acked c.args.parent c.args.node ∷ s.history)) (due_for c.args.parent (Acked c.args.parent c.args.node ∷ s.history)))) (Acked c.args.parent c.args.node) full c.in_err-append.ensures.err)

@@ -1,4 +1,4 @@
-use Rattle.std.proofs.Common.{◌∙◌, Some, refl, sym, ap, arith}
+use Rattle.std.proofs.Common.{◌∙◌, Some, refl, sym, ap, arith, None}
 use Rattle.std.proofs.lemmas.Option.{get_or_from_slice_get}
 use Rattle.task_events.specs.declared.event.Event.TheVariants.{BanGone}
 use Rattle.task_events.specs.Messages.Message.{Unban}
@@ -7,6 +7,8 @@ use Rattle.world_moves.proofs.BansAfter.{bans_on, has_bans, tied_gone, noted_gon
 use Rattle.world_moves.proofs.BansInFlight.{unban_here, unban_in}
 use Rattle.corpus_shards.proofs.Cases.{then_ok, of_err}
 use Rattle.world_moves.proofs.CutShort.{cut_only}
+use Rattle.world_moves.proofs.DescriptionsAfter.{quiet_sent, carry_taken}
+use Rattle.world_moves.proofs.QuietCounts.{still_counts}
 use Rattle.world_moves.proofs.bans.deliver_unban.Goals as goal
 
 pub overflow_sub-node : goal.overflow_sub-node
@@ -38,6 +40,8 @@ returns-clause-tied c =
     then_ok c.append.result _ _ c.append.ensures.ok (λ happened. record {
       ties = rw (happened, rest) (tied_gone s.cluster s.corpus.now s.script.now s.history _ _ s.flight c.requires.tied.ties c.requires.tied.awaits c.args.nth c.args.parent c.args.node c.requires.there);
       cancels = rw (happened, c.remove-stood.ensures.removed) (noted_gone s.cluster s.history _ _ s.bans.items _ _ c.requires.tied.cancels c.args.node node.0 node.1 c.args.parent c.index_mut.result.now here);
+      counts = rw happened (still_counts None (BanGone c.args.node c.args.parent) s.history _ refl c.requires.tied.counts);
+      tells = rw (happened, rest) (quiet_sent s.script.now s.history _ s.flight _ (BanGone c.args.node c.args.parent) _ refl (carry_taken s.script.now s.history s.flight c.args.nth c.requires.tied.tells.carried) c.requires.tied.tells);
       awaits = rw happened tt;
     })
 

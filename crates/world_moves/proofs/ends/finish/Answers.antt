@@ -8,7 +8,10 @@ use Rattle.world_moves.proofs.KeptTasks.{at_changed, off_changed}
 use Rattle.world_moves.proofs.SameTies.{same_ties}
 use Rattle.world_moves.proofs.StepsAfter.{is_kept}
 use Rattle.world_moves.proofs.EndsAfter.{after_finish, all_come}
-use Rattle.world_moves.proofs.CancelsAfterLeave.{noted_unmarked}
+use Rattle.task_laws.proofs.Reach.{reach_facts}
+use Rattle.world_moves.proofs.CancelsAfterLeave.{noted_unmarked, counts_unmarked}
+use Rattle.world_moves.proofs.DescriptionsAfter.{described_with, rows_left, carry_both, told_carries}
+use Rattle.world_moves.proofs.NodeTables.{nobody_waits}
 use Rattle.world_moves.proofs.TasksAfterLeave.{nothing_open, own_track, has_table, table_is, stands, runs}
 use Rattle.corpus_shards.proofs.Cases.{then_ok}
 use Rattle.world_moves.proofs.ends.finish.Goals as goal
@@ -56,6 +59,8 @@ returns-clause-tied c =
     let its = table_is s.cluster s.corpus.now s.script.now s.history _ _ _ c.requires.tied.ties c.args.task c.requires.live c.index_mut.result.now c.index_mut.ensures.value in
     let changed = c.remove.ensures.updates.0 in
     let row = c.end_in-receipt.ensures.row ∙ ap (λ id. without_task c.index_mut.result.now id.number) (runs s.cluster s.corpus.now s.script.now s.history _ _ _ c.requires.tied.ties c.args.task c.requires.live r was).id in
+    let sent = c.in-Ok.ensures.ok ∙ ap (λ at. s.flight ++ told_parent c.end_in-receipt.result at) c.len-at.ensures in
+    let high = (reach_facts s.cluster s.history c.requires.tied.ties.lawful).live_in c.args.task c.requires.live in
     then_ok c.append.result _ _ c.append.ensures.ok (λ happened. record {
       ties =
           same_ties s.cluster s.corpus.now s.script.now _ _ _ _ _ _ _ happened (ap (slice_set s.tables.items (c.args.task.node - 1)) row)
@@ -63,7 +68,14 @@ returns-clause-tied c =
           (after_finish s.cluster s.corpus.now s.script.now s.history _ _ _ c.requires.tied.ties c.requires.shards.few c.args.task r c.args.reply c.requires.live c.requires.passed c.requires.unmarked was next c.requires.tied.awaits
           c.index_mut.result.now c.end_in-receipt.result _ its c.end_in-receipt.ensures.receipt (at_changed c.args.task None (task_at s.tasks) _ changed) (off_changed c.args.task None (task_at s.tasks) _ changed));
       cancels =
-          rw (happened, row) (noted_unmarked c.args.task s.history (End c.args.task c.args.reply) refl c.requires.unmarked s.cluster s.tables.items _ s.bans.items s.cores.items s.listings
+          rw (happened, row) (noted_unmarked c.args.task s.history (End c.args.task c.args.reply) refl c.requires.unmarked s.cluster c.requires.tied.ties.lawful s.tables.items _ s.bans.items s.cores.items s.listings
           c.index_mut.result.now its c.requires.tied.cancels);
+      counts =
+          rw happened (counts_unmarked c.args.task s.history (End c.args.task c.args.reply) refl s.cluster c.requires.tied.ties.lawful _ c.requires.tied.counts
+          (nobody_waits s.cluster _ s.history _ _ s.bans.items s.cores.items _ c.requires.tied.cancels c.args.task c.requires.unmarked high));
+      tells =
+          rw (happened, row, sent) (described_with s.script.now s.history s.tables.items s.flight _ (End c.args.task c.args.reply) _ _ refl
+          (rows_left s.script.now s.history s.tables.items (c.args.task.node - 1) c.args.task.number c.index_mut.result.now its c.requires.tied.tells.rows_are)
+          (carry_both s.script.now s.history s.flight _ c.requires.tied.tells.carried (told_carries s.script.now s.history c.end_in-receipt.result _)) c.requires.tied.tells);
       awaits = rw happened tt;
     })

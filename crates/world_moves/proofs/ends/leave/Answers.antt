@@ -1,11 +1,12 @@
-use Rattle.std.proofs.Common.{◌≡◌, rules, length, ◌∙◌, ◌∷◌, ◌++◌, ◌-◌, reverse, None, Some, refl, ap, sym, subst, arith}
+use Rattle.std.proofs.Common.{◌≡◌, rules, length, ◌∙◌, ◌∷◌, ◌++◌, ◌-◌, map, reverse, None, Some, refl, ap, sym, subst, arith}
 use Rattle.std.specs.Prelude.{slice_set}
 use Rattle.std.proofs.lemmas.Option.{slice_get_within}
 use Rattle.task_table.specs.Table.{without_task}
 use Rattle.cancel_core.specs.Cancellations.{entry_of}
 use Rattle.task_events.specs.declared.history.TheConstants.{MAX_EVENTS}
 use Rattle.world_moves.specs.Acts.{messages_in, answers_in}
-use Rattle.world_moves.specs.Cancels.{due_answers, with_answers}
+use Rattle.world_moves.specs.Cancels.{answer_to, due_for, with_answers}
+use Rattle.world_moves.specs.Left.{left_in}
 use Rattle.world_moves.specs.Flights.{told_parent}
 use Rattle.task_events.specs.Lawful.{Lawful}
 use Rattle.world_moves.specs.Moves.{IsPartOf}
@@ -14,13 +15,15 @@ use Rattle.world_moves.specs.Ties.{task_at}
 use Rattle.world_moves.proofs.KeptTasks.{at_changed, off_changed}
 use Rattle.world_moves.proofs.SameTies.{same_ties}
 use Rattle.world_moves.proofs.StepsAfter.{is_kept}
-use Rattle.world_moves.proofs.CancelAnswersAfter.{answers_lawful, answers_await, answers_tied, answers_noted}
+use Rattle.world_moves.proofs.CancelAnswersAfter.{answers_lawful, answers_await, answers_tied, answers_noted, answers_described}
+use Rattle.world_moves.proofs.DescriptionsAfter.{described_with, rows_left, carry_both, told_carries, acts_carry}
 use Rattle.world_moves.proofs.CancelledEnds.{leaves_so, leaver_lives, awaits_none, left_lawful, left_plain, none_part, first_part, leaver_open, after_cancelled, after_unmarked}
-use Rattle.world_moves.proofs.CoresAfterLeave.{core_is, known_there, no_receipt, unmarked_there, nobody_there, answered_then, sent_then, part_then, answers_plain, set_again}
+use Rattle.world_moves.proofs.CoresAfterLeave.{core_is, known_there, no_receipt, unmarked_there, nobody_there, answered_then, counted_then, sent_then, part_then, answers_plain, set_again}
 use Rattle.task_laws.proofs.Reach.{reach_facts}
-use Rattle.world_moves.proofs.CancelsAfterLeave.{noted_unmarked, noted_ended, nothing_due, core_there, one_task_left}
+use Rattle.world_moves.proofs.CancelsAfterLeave.{noted_unmarked, noted_ended, nothing_due, core_there, counts_unmarked, starts_none}
 use Rattle.world_moves.proofs.TasksAfterLeave.{own_track, has_table, in_cluster, table_is, stands, runs}
 use Rattle.corpus_shards.proofs.Cases.{then_ok, both_ok, then_err, on_err}
+use Rattle.world_moves.proofs.Outcomes.{all_ok}
 use Rattle.world_moves.proofs.Parts.{part_lawful, part_plain, later_part}
 use Rattle.world_moves.proofs.CutShort.{cut_as, cut_first}
 use Rattle.world_moves.proofs.ends.leave.Goals as goal
@@ -60,13 +63,13 @@ end_in-receipt-requires-clause-answered c =
 pub returns-in-Err-clause-part : goal.returns-in-Err-clause-part
 returns-in-Err-clause-part c =
     let h = c.args.state.now.history in
-    none_part h (reverse (due_answers c.args.task (c.args.event ∷ h))) c.args.event
+    none_part h (reverse (map (answer_to (c.args.event ∷ h)) (due_for c.args.task (c.args.event ∷ h)))) c.args.event
 
 pub returns-in_err-append-clause-part : goal.returns-in_err-append-clause-part
 returns-in_err-append-clause-part c =
     let h = c.args.state.now.history in
     on_err c.from_residual.result _
-    (rw c.in_err-append.ensures.err (none_part h (reverse (due_answers c.args.task (c.args.event ∷ h))) c.args.event))
+    (rw c.in_err-append.ensures.err (none_part h (reverse (map (answer_to (c.args.event ∷ h)) (due_for c.args.task (c.args.event ∷ h)))) c.args.event))
 
 pub index_mut-core-requires : goal.index_mut-core-requires
 index_mut-core-requires c =
@@ -84,7 +87,7 @@ returns-then-not-has-clause-happened c =
     let core = c.index_mut-core.result.now in
     let none = nobody_there s.cluster s.history s.tables.items _ s.bans.items s.cores.items s.listings c.requires.tied.cancels c.requires.tied.ties.lawful c.args.task live core c.index_mut-core.ensures.value
     (sym c.has.ensures ∙ c.if-not-has.true) in
-    c.in_ok-append.ensures.ok ∙ sym (nothing_due c.args.task s.history c.args.event (leaves_so c.args.task s.history c.args.event c.requires.leaves) none)
+    c.in_ok-append.ensures.ok ∙ sym (nothing_due c.args.task s.history c.args.event (leaves_so c.args.task s.history c.args.event c.requires.leaves) s.cluster c.requires.tied.ties.lawful _ c.requires.tied.counts none)
 
 pub returns-then-not-has-clause-tied : goal.returns-then-not-has-clause-tied
 returns-then-not-has-clause-tied c =
@@ -101,6 +104,9 @@ returns-then-not-has-clause-tied c =
     (sym c.has.ensures ∙ c.if-not-has.true) in
     let at_core = core_is s.cluster s.history s.tables.items _ s.bans.items s.cores.items s.listings c.requires.tied.cancels c.requires.tied.ties.lawful c.args.task live core c.index_mut-core.ensures.value in
     let row = c.end_in-receipt.ensures.row ∙ ap (λ id. without_task c.index_mut.result.now id.number) (runs s.cluster s.corpus.now s.script.now s.history _ _ _ c.requires.tied.ties c.args.task live r was).id in
+    let nobody = nobody_there s.cluster s.history s.tables.items _ s.bans.items s.cores.items s.listings c.requires.tied.cancels c.requires.tied.ties.lawful c.args.task live core c.index_mut-core.ensures.value
+    (sym c.has.ensures ∙ c.if-not-has.true) in
+    let sent = c.in-Ok.ensures.ok ∙ ap (λ at. s.flight ++ told_parent c.end_in-receipt.result at) c.len-at.ensures in
     record {
       ties =
           same_ties s.cluster s.corpus.now s.script.now _ _ _ _ _ _ _ c.in_ok-append.ensures.ok (ap (slice_set s.tables.items (c.args.task.node - 1)) row)
@@ -109,7 +115,12 @@ returns-then-not-has-clause-tied c =
           c.index_mut.result.now c.end_in-receipt.result _ its c.end_in-receipt.ensures.receipt (at_changed c.args.task None (task_at s.tasks) _ changed) (off_changed c.args.task None (task_at s.tasks) _ changed));
       cancels =
           rw (c.in_ok-append.ensures.ok, row, set_again s.cores.items (c.args.task.node - 1) core at_core)
-          (noted_unmarked c.args.task s.history e leaves unmarked s.cluster s.tables.items _ s.bans.items s.cores.items s.listings c.index_mut.result.now its c.requires.tied.cancels);
+          (noted_unmarked c.args.task s.history e leaves unmarked s.cluster c.requires.tied.ties.lawful s.tables.items _ s.bans.items s.cores.items s.listings c.index_mut.result.now its c.requires.tied.cancels);
+      counts = rw c.in_ok-append.ensures.ok (counts_unmarked c.args.task s.history e leaves s.cluster c.requires.tied.ties.lawful _ c.requires.tied.counts nobody);
+      tells =
+          rw (c.in_ok-append.ensures.ok, row, sent) (described_with s.script.now s.history s.tables.items s.flight _ e _ _ (starts_none c.args.task s.history e leaves)
+          (rows_left s.script.now s.history s.tables.items (c.args.task.node - 1) c.args.task.number c.index_mut.result.now its c.requires.tied.tells.rows_are)
+          (carry_both s.script.now s.history s.flight _ c.requires.tied.tells.carried (told_carries s.script.now s.history c.end_in-receipt.result _)) c.requires.tied.tells);
       awaits = rw c.in_ok-append.ensures.ok (awaits_none c.args.task s.history e c.requires.leaves);
     }
 
@@ -131,7 +142,7 @@ ended-requires-clause-own c =
 pub returns-in_default-ended-clause-part : goal.returns-in_default-ended-clause-part
 returns-in_default-ended-clause-part c =
     let h = c.args.state.now.history in
-    rw c.in_ok-append.ensures.ok (first_part h (reverse (due_answers c.args.task (c.args.event ∷ h))) c.args.event)
+    rw c.in_ok-append.ensures.ok (first_part h (reverse (map (answer_to (c.args.event ∷ h)) (due_for c.args.task (c.args.event ∷ h)))) c.args.event)
 
 pub returns-clause-part : goal.returns-clause-part
 returns-clause-part c =
@@ -140,7 +151,7 @@ returns-clause-part c =
     let core = c.index_mut-core.result.now in
     let known = known_there s.cluster s.history s.tables.items _ s.bans.items s.cores.items s.listings c.requires.tied.cancels c.requires.tied.ties.lawful c.args.task live core c.index_mut-core.ensures.value
     (sym c.has.ensures ∙ c.if-not-has.false) in
-    then_err c.perform.result _ _ c.perform.ensures.part (λ performed. (let part = part_then c.args.task c.args.event s.history (leaves_so c.args.task s.history c.args.event c.requires.leaves) (entry_of core c.args.task) c.end_in-receipt.result known c.as_slice.result.now
+    then_err c.perform.result _ _ c.perform.ensures.part (λ performed. (let part = part_then s.cluster c.args.task c.args.event s.history (leaves_so c.args.task s.history c.args.event c.requires.leaves) c.requires.tied.ties.lawful _ c.requires.tied.counts (entry_of core c.args.task) c.end_in-receipt.result known c.as_slice.result.now
     (c.as_slice.ensures.value ∙ c.in-Ok-ended.ensures.acts) c.append.new.history c.perform.new.history c.in_ok-append.ensures.ok performed in
     later_part c.args.event s.history c.perform.new.history _ part))
 
@@ -154,12 +165,11 @@ returns-clause-laws c =
     let leaves = leaves_so c.args.task s.history e m in
     let known = known_there s.cluster s.history s.tables.items _ s.bans.items s.cores.items s.listings c.requires.tied.cancels c.requires.tied.ties.lawful c.args.task live core c.index_mut-core.ensures.value
     (sym c.has.ensures ∙ c.if-not-has.false) in
-    then_err c.perform.result _ _ c.perform.ensures.part (λ performed. (let part = part_then c.args.task e s.history leaves (entry_of core c.args.task) c.end_in-receipt.result known c.as_slice.result.now
+    then_err c.perform.result _ _ c.perform.ensures.part (λ performed. (let part = part_then s.cluster c.args.task e s.history leaves c.requires.tied.ties.lawful _ c.requires.tied.counts (entry_of core c.args.task) c.end_in-receipt.result known c.as_slice.result.now
     (c.as_slice.ensures.value ∙ c.in-Ok-ended.ensures.acts) c.append.new.history c.perform.new.history c.in_ok-append.ensures.ok performed in
     record {
       lawful = part_lawful s.cluster s.corpus.now s.script.now (e ∷ s.history) c.perform.new.history _ part
-          (answers_lawful s.cluster c.args.task (e ∷ s.history) (left_lawful c.args.task s.history s.cluster c.requires.tied.ties.lawful c.requires.tied.awaits e m) (awaits_none c.args.task s.history e m)
-          (one_task_left c.args.task s.history e leaves c.requires.tied.cancels.one_task));
+          (answers_lawful s.cluster c.args.task (e ∷ s.history) (left_lawful c.args.task s.history s.cluster c.requires.tied.ties.lawful c.requires.tied.awaits e m) (awaits_none c.args.task s.history e m));
       plain = part_plain s.cluster s.corpus.now s.script.now (e ∷ s.history) c.perform.new.history _ part
           (answers_plain s.cluster s.corpus.now s.script.now c.args.task (e ∷ s.history) (left_plain c.args.task s.history s.cluster s.corpus.now s.script.now e m c.requires.tied.ties.plain));
     }))
@@ -171,8 +181,8 @@ returns-clause-happened c =
     let core = c.index_mut-core.result.now in
     let known = known_there s.cluster s.history s.tables.items _ s.bans.items s.cores.items s.listings c.requires.tied.cancels c.requires.tied.ties.lawful c.args.task live core c.index_mut-core.ensures.value
     (sym c.has.ensures ∙ c.if-not-has.false) in
-    then_ok c.perform.result _ _ c.perform.ensures.answered (λ answered. answered ∙ ap (λ past. answers_in c.as_slice.result.now ++ past) c.in_ok-append.ensures.ok
-    ∙ answered_then c.args.task c.args.event s.history (leaves_so c.args.task s.history c.args.event c.requires.leaves) (entry_of core c.args.task) c.end_in-receipt.result known c.as_slice.result.now
+    then_ok c.perform.result _ _ c.perform.ensures.answered (λ answered. answered ∙ ap (λ past. answers_in c.as_slice.result.now (left_in s.left) ++ past) c.in_ok-append.ensures.ok
+    ∙ answered_then s.cluster c.args.task c.args.event s.history (leaves_so c.args.task s.history c.args.event c.requires.leaves) c.requires.tied.ties.lawful _ c.requires.tied.counts (entry_of core c.args.task) c.end_in-receipt.result known c.as_slice.result.now
     (c.as_slice.ensures.value ∙ c.in-Ok-ended.ensures.acts))
 
 pub returns-clause-tied : goal.returns-clause-tied
@@ -194,36 +204,43 @@ returns-clause-tied c =
     (sym c.has.ensures ∙ c.if-not-has.false) in
     let at_core = core_is s.cluster s.history s.tables.items _ s.bans.items s.cores.items s.listings c.requires.tied.cancels c.requires.tied.ties.lawful c.args.task live core c.index_mut-core.ensures.value in
     let row = c.end_in-receipt.ensures.row ∙ ap (λ id. without_task c.index_mut.result.now id.number) (runs s.cluster s.corpus.now s.script.now s.history _ _ _ c.requires.tied.ties c.args.task live r was).id in
-    let sent = sent_then c.args.task e s.history leaves (entry_of core c.args.task) receipt known acts (c.as_slice.ensures.value ∙ c.in-Ok-ended.ensures.acts) c.args.task.node in
-    let one = one_task_left c.args.task s.history e leaves c.requires.tied.cancels.one_task in
-    both_ok c.perform.result _ _ _ (returns-clause-happened c) c.perform.ensures.sent (λ happened queued. record {
+    let sent = sent_then s.cluster c.args.task e s.history leaves c.requires.tied.ties.lawful _ c.requires.tied.counts (entry_of core c.args.task) receipt known acts (c.as_slice.ensures.value ∙ c.in-Ok-ended.ensures.acts) c.args.task.node in
+    all_ok c.perform.result _ _ _ _ (returns-clause-happened c) c.perform.ensures.sent c.perform.ensures.counted (λ happened queued counted. record {
       ties =
           same_ties s.cluster s.corpus.now s.script.now _ _ _ _ _ _ _ happened (ap (slice_set s.tables.items (c.args.task.node - 1)) row)
           (queued ∙ ap (λ queue. queue ++ messages_in c.args.task.node acts) (c.in-Ok.ensures.ok ∙ ap (λ at. s.flight ++ told_parent receipt at) c.len-at.ensures))
           (answers_tied s.cluster c.args.task (e ∷ s.history) s.corpus.now s.script.now _ _ _
           (after_cancelled s.cluster s.corpus.now s.script.now s.history _ _ _ c.requires.tied.ties c.args.task e m r was c.requires.tied.awaits
-          c.index_mut.result.now receipt _ (messages_in c.args.task.node acts) its c.end_in-receipt.ensures.receipt (at_changed c.args.task None (task_at s.tasks) _ changed) (off_changed c.args.task None (task_at s.tasks) _ changed) sent) awaits one);
+          c.index_mut.result.now receipt _ (messages_in c.args.task.node acts) its c.end_in-receipt.ensures.receipt (at_changed c.args.task None (task_at s.tasks) _ changed) (off_changed c.args.task None (task_at s.tasks) _ changed) sent) awaits);
       cancels =
           rw (happened, row, c.in-Ok-ended.ensures.ended)
-          (answers_noted s.cluster c.args.task (e ∷ s.history) _ _ _ _ _ (left_lawful c.args.task s.history s.cluster c.requires.tied.ties.lawful c.requires.tied.awaits e m)
-          (noted_ended c.args.task s.history e leaves s.cluster s.tables.items _ s.bans.items s.cores.items s.listings c.index_mut.result.now core (entry_of core c.args.task) receipt its at_core known ((reach_facts s.cluster s.history c.requires.tied.ties.lawful).live_in c.args.task live) c.requires.tied.cancels));
+          (answers_noted s.cluster c.args.task (e ∷ s.history) _ _ _ _ _
+          (noted_ended c.args.task s.history e leaves s.cluster c.requires.tied.ties.lawful s.tables.items _ s.bans.items s.cores.items s.listings c.index_mut.result.now core (entry_of core c.args.task) receipt its at_core known ((reach_facts s.cluster s.history c.requires.tied.ties.lawful).live_in c.args.task live) c.requires.tied.cancels));
+      counts =
+          rw happened (counted_then s.cluster c.args.task e s.history leaves c.requires.tied.ties.lawful _ c.requires.tied.counts (entry_of core c.args.task) receipt known acts (c.as_slice.ensures.value ∙ c.in-Ok-ended.ensures.acts) _ counted);
+      tells =
+          rw (happened, row, queued ∙ ap (λ queue. queue ++ messages_in c.args.task.node acts) (c.in-Ok.ensures.ok ∙ ap (λ at. s.flight ++ told_parent receipt at) c.len-at.ensures))
+          (answers_described s.cluster c.args.task (e ∷ s.history) s.script.now _ _ _
+          (described_with s.script.now s.history s.tables.items s.flight _ e _ _ (starts_none c.args.task s.history e leaves)
+          (rows_left s.script.now s.history s.tables.items (c.args.task.node - 1) c.args.task.number c.index_mut.result.now its c.requires.tied.tells.rows_are)
+          (carry_both s.script.now s.history _ _ (carry_both s.script.now s.history s.flight _ c.requires.tied.tells.carried (told_carries s.script.now s.history receipt _)) (acts_carry s.script.now s.history c.args.task.node acts)) c.requires.tied.tells));
       awaits = rw happened (answers_await s.cluster c.args.task (e ∷ s.history) awaits);
     })
 
 pub returns-clause-keeps : goal.returns-clause-keeps
-returns-clause-keeps c = record { cluster = refl; corpus = refl; shards = refl; script = refl }
+returns-clause-keeps c = record { cluster = refl; corpus = refl; shards = refl; script = refl; clock = refl }
 
 pub returns-then-not-has-clause-keeps : goal.returns-then-not-has-clause-keeps
-returns-then-not-has-clause-keeps c = record { cluster = refl; corpus = refl; shards = refl; script = refl }
+returns-then-not-has-clause-keeps c = record { cluster = refl; corpus = refl; shards = refl; script = refl; clock = refl }
 
 pub returns-in_default-ended-clause-keeps : goal.returns-in_default-ended-clause-keeps
-returns-in_default-ended-clause-keeps c = record { cluster = refl; corpus = refl; shards = refl; script = refl }
+returns-in_default-ended-clause-keeps c = record { cluster = refl; corpus = refl; shards = refl; script = refl; clock = refl }
 
 pub returns-in_err-append-clause-keeps : goal.returns-in_err-append-clause-keeps
-returns-in_err-append-clause-keeps c = record { cluster = refl; corpus = refl; shards = refl; script = refl }
+returns-in_err-append-clause-keeps c = record { cluster = refl; corpus = refl; shards = refl; script = refl; clock = refl }
 
 pub returns-in-Err-clause-keeps : goal.returns-in-Err-clause-keeps
-returns-in-Err-clause-keeps c = record { cluster = refl; corpus = refl; shards = refl; script = refl }
+returns-in-Err-clause-keeps c = record { cluster = refl; corpus = refl; shards = refl; script = refl; clock = refl }
 
 pub returns-in_default-ended-clause-laws : goal.returns-in_default-ended-clause-laws
 returns-in_default-ended-clause-laws c =
@@ -242,12 +259,12 @@ returns-clause-full c = λ failed.
     let core = c.index_mut-core.result.now in
     let known = known_there s.cluster s.history s.tables.items _ s.bans.items s.cores.items s.listings c.requires.tied.cancels c.requires.tied.ties.lawful c.args.task live core c.index_mut-core.ensures.value
     (sym c.has.ensures ∙ c.if-not-has.false) in
-    cut_as (λ past. IsPartOf c.append.new.history past (answers_in c.as_slice.result.now ++ c.append.new.history)) (λ past. IsPartOf s.history past (with_answers c.args.task (c.args.event ∷ s.history))) c.perform.new.history
-    (λ past performed. later_part c.args.event s.history past _ (part_then c.args.task c.args.event s.history (leaves_so c.args.task s.history c.args.event c.requires.leaves) (entry_of core c.args.task) c.end_in-receipt.result known c.as_slice.result.now
+    cut_as (λ past. IsPartOf c.append.new.history past (answers_in c.as_slice.result.now (left_in s.left) ++ c.append.new.history)) (λ past. IsPartOf s.history past (with_answers c.args.task (c.args.event ∷ s.history))) c.perform.new.history
+    (λ past performed. later_part c.args.event s.history past _ (part_then s.cluster c.args.task c.args.event s.history (leaves_so c.args.task s.history c.args.event c.requires.leaves) c.requires.tied.ties.lawful _ c.requires.tied.counts (entry_of core c.args.task) c.end_in-receipt.result known c.as_slice.result.now
     (c.as_slice.ensures.value ∙ c.in-Ok-ended.ensures.acts) c.append.new.history past c.in_ok-append.ensures.ok performed)) (c.perform.ensures.full failed)
 
 pub returns-in_err-append-clause-full : goal.returns-in_err-append-clause-full
 returns-in_err-append-clause-full c = λ failed.
     let s = c.args.state.now in
     let full : length s.history ≡ MAX_EVENTS = search rules in
-    cut_first s.history c.append.new.history (reverse (due_answers c.args.task (c.args.event ∷ s.history))) c.args.event full c.in_err-append.ensures.err
+    cut_first s.history c.append.new.history (reverse (map (answer_to (c.args.event ∷ s.history)) (due_for c.args.task (c.args.event ∷ s.history)))) c.args.event full c.in_err-append.ensures.err

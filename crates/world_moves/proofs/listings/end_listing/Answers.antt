@@ -1,4 +1,4 @@
-use Rattle.std.proofs.Common.{◌≡◌, ◌∙◌, ◌-◌, ◌∷◌, ◌++◌, [], refl, sym, ap, arith}
+use Rattle.std.proofs.Common.{◌≡◌, ◌∙◌, ◌-◌, ◌∷◌, ◌++◌, [], refl, sym, ap, arith, None}
 use Rattle.std.specs.Prelude.{slice_set}
 use Rattle.std.proofs.lemmas.Option.{slice_get_within}
 use Rattle.task_events.specs.declared.event.Event.TheVariants.{Listed}
@@ -10,6 +10,8 @@ use Rattle.world_moves.proofs.NextChild.{open_in}
 use Rattle.world_moves.proofs.NodeTables.{core_at, same_cancels}
 use Rattle.world_moves.proofs.SameTies.{same_ties}
 use Rattle.corpus_shards.proofs.Cases.{then_ok}
+use Rattle.world_moves.proofs.DescriptionsAfter.{quiet_sent, carry_both}
+use Rattle.world_moves.proofs.QuietCounts.{still_counts}
 use Rattle.world_moves.proofs.listings.end_listing.Goals as goal
 
 pub overflow_sub-listing : goal.overflow_sub-listing
@@ -41,5 +43,7 @@ returns-clause-tied c =
     then_ok c.append.result _ _ c.append.ensures.ok (λ listed. (let happened = listed ∙ ap (λ q. Listed n q ∷ s.history) parent in record {
       ties = same_ties s.cluster s.corpus.now s.script.now _ _ _ _ _ _ _ happened refl flight (after_listed s.cluster s.history n p s.corpus.now s.script.now _ _ s.flight c.requires.tied.ties c.requires.tied.awaits c.requires.opened c.requires.marked);
       cancels = same_cancels s.cluster _ _ _ _ _ _ _ _ _ happened refl cores (cancels_after_listed s.cluster s.history n p _ _ s.bans.items s.cores.items s.listings c.index_mut.result.now _ c.requires.tied.cancels here c.remove-was_open.ensures.updates.0);
+      counts = rw happened (still_counts None (Listed n p) s.history _ refl c.requires.tied.counts);
+      tells = rw (happened, flight) (quiet_sent s.script.now s.history _ s.flight _ (Listed n p) _ refl (carry_both s.script.now s.history s.flight _ c.requires.tied.tells.carried (tt, tt)) c.requires.tied.tells);
       awaits = rw happened tt;
     }))

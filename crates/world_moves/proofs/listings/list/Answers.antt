@@ -1,11 +1,11 @@
 use Rattle.std.proofs.Common.{◌∙◌, ◌∷◌, Err, inr, refl, ap, subst}
 use Rattle.task_events.specs.declared.event.Event.TheVariants.{Mark, Listed}
 use Rattle.task_laws.proofs.Reach.{reach_facts}
-use Rattle.world_moves.specs.Moves.{IsPartOf, IsPartly, IsCutShort}
+use Rattle.world_moves.specs.Moves.{IsPartly}
 use Rattle.world_moves.specs.Listings.{ListSteps}
 use Rattle.world_moves.proofs.NextChild.{listed_mark}
-use Rattle.world_moves.proofs.NodeTables.{left_out, nobody_waits, no_answers_due}
-use Rattle.world_moves.proofs.CutShort.{cut_move, cut_only}
+use Rattle.world_moves.proofs.NodeTables.{left_out, nobody_waits}
+use Rattle.world_moves.proofs.CutShort.{cut_only}
 use Rattle.world_moves.proofs.Outcomes.{stops_so}
 use Rattle.world_moves.proofs.listings.list.Goals as goal
 
@@ -33,30 +33,20 @@ pub returns-in-Ok-clause-stepped : goal.returns-in-Ok-clause-stepped
 returns-in-Ok-clause-stepped c =
     let s = c.args.state.now in
     let found = c.in-Some.ensures.child in
-    let high = (reach_facts s.cluster s.history c.requires.tied.ties.lawful).live_in c.in-Some.task found.0.live in
-    let none = nobody_waits s.cluster _ s.history _ _ s.bans.items s.cores.items _ c.requires.tied.cancels c.in-Some.task found.0.unmarked high in
-    (Mark c.in-Some.task c.in-Some.cancel, c.requires.opened, found, c.in-Ok.ensures.happened ∙ no_answers_due c.in-Some.task c.in-Some.cancel s.history none)
+    (Mark c.in-Some.task c.in-Some.cancel, c.requires.opened, found, c.in-Ok.ensures.happened)
 
 pub returns-in-Err-clause-part : goal.returns-in-Err-clause-part
 returns-in-Err-clause-part c =
     let s = c.args.state.now in
     let found = c.in-Some.ensures.child in
-    let high = (reach_facts s.cluster s.history c.requires.tied.ties.lawful).live_in c.in-Some.task found.0.live in
-    let none = nobody_waits s.cluster _ s.history _ _ s.bans.items s.cores.items _ c.requires.tied.cancels c.in-Some.task found.0.unmarked high in
-    let whole = no_answers_due c.in-Some.task c.in-Some.cancel s.history none in
-    let part = subst (λ w. IsPartOf s.history c.mark.new.state.history w) whole c.in-Err.ensures.part in
-    inr (Mark c.in-Some.task c.in-Some.cancel ∷ s.history, (Mark c.in-Some.task c.in-Some.cancel, c.requires.opened, found, refl), part)
+    inr (Mark c.in-Some.task c.in-Some.cancel ∷ s.history, (Mark c.in-Some.task c.in-Some.cancel, c.requires.opened, found, refl), c.in-Err.ensures.part)
 
 pub returns-in-Err-clause-stop : goal.returns-in-Err-clause-stop
 returns-in-Err-clause-stop c =
     let s = c.args.state.now in
     let found = c.in-Some.ensures.child in
-    let high = (reach_facts s.cluster s.history c.requires.tied.ties.lawful).live_in c.in-Some.task found.0.live in
-    let none = nobody_waits s.cluster _ s.history _ _ s.bans.items s.cores.items _ c.requires.tied.cancels c.in-Some.task found.0.unmarked high in
-    let whole = no_answers_due c.in-Some.task c.in-Some.cancel s.history none in
-    stops_so c.in-Err.stop (IsPartly (ListSteps c.args.listing) s.history) ⊥ c.mark.new.state.history (λ failed.
-    cut_move (ListSteps c.args.listing) s.history c.mark.new.state.history _ (Mark c.in-Some.task c.in-Some.cancel, c.requires.opened, found, refl)
-    (subst (λ w. IsCutShort (λ past. IsPartOf s.history past w) c.mark.new.state.history) whole (c.mark.ensures.full (c.in-Err.is ∙ ap Err failed)))) (λ spent. c.mark.ensures.numbers (c.in-Err.is ∙ ap Err spent))
+    stops_so c.in-Err.stop (IsPartly (ListSteps c.args.listing) s.history) ⊥ c.mark.new.state.history (λ failed. (let full = c.mark.ensures.full (c.in-Err.is ∙ ap Err failed) in
+    cut_only (ListSteps c.args.listing) s.history c.mark.new.state.history (Mark c.in-Some.task c.in-Some.cancel) (Mark c.in-Some.task c.in-Some.cancel, c.requires.opened, found, refl) full.0 full.1)) (λ spent. c.mark.ensures.numbers (c.in-Err.is ∙ ap Err spent))
 
 pub returns-in-Err-end_listing-clause-stop : goal.returns-in-Err-end_listing-clause-stop
 returns-in-Err-end_listing-clause-stop c =

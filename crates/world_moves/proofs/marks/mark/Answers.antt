@@ -1,32 +1,28 @@
-use Rattle.std.proofs.Common.{rules, length, ◌≡◌, ◌∙◌, ◌∷◌, ◌++◌, ◌-◌, ◌+◌, Some, refl, ap, sym, subst, arith}
-use Rattle.std.specs.Prelude.{slice_set, reverse}
+use Rattle.std.proofs.Common.{◌≡◌, ◌∙◌, ◌∷◌, [], ◌-◌, ◌+◌, Some, refl, ap, sym, subst, arith}
+use Rattle.std.specs.Prelude.{slice_set}
 use Rattle.std.specs.Option.{option_copied_mut}
 use Rattle.std.proofs.lemmas.Option.{slice_get_within}
 use Rattle.child_track.specs.NodeSet.{nodes_of}
 use Rattle.cancel_core.specs.Acts.{begun}
 use Rattle.cancel_core.specs.Cancellations.{with_entry}
 use Rattle.task_table.specs.Answer.{after_mark as table_after}
-use Rattle.task_events.specs.Lawful.{AwaitsNoMark}
+use Rattle.task_events.specs.Lawful.{AwaitsNoMark, Lawful}
+use Rattle.world_moves.specs.Plain.{AnswersPlainly}
 use Rattle.task_events.specs.declared.event.Event.TheVariants.{Mark}
 use Rattle.task_laws.proofs.Reach.{reach_facts}
-use Rattle.task_events.specs.declared.history.TheConstants.{MAX_EVENTS}
-use Rattle.world_moves.specs.Acts.{messages_in, answers_in}
-use Rattle.world_moves.specs.Cancels.{with_answers, due_answers}
-use Rattle.world_moves.specs.Moves.{IsPartOf}
+use Rattle.world_moves.specs.Acts.{messages_in}
 use Rattle.world_moves.specs.Cancelling.{HasRows}
 use Rattle.world_moves.specs.Ties.{task_at, IsTableAt}
-use Rattle.world_moves.proofs.CancelAnswersAfter.{answers_await, answers_tied, answers_noted}
+use Rattle.world_moves.proofs.DescriptionsAfter.{described_with, rows_marked, carry_both, acts_carry}
 use Rattle.world_moves.proofs.NodesAsked.{asked_nodes}
 use Rattle.world_moves.proofs.KeptTasks.{at_changed, off_changed}
 use Rattle.world_moves.proofs.LiveRows.{read_at}
-use Rattle.world_moves.proofs.MarksAfter.{marks_row, after_mark, cancels_after_mark, mark_happened, mark_queue, nothing_yet}
+use Rattle.world_moves.proofs.MarksAfter.{marks_row, after_mark, cancels_after_mark, mark_counted, mark_queue}
 use Rattle.world_moves.proofs.NodeTables.{core_at, fresh, same_cancels}
-use Rattle.corpus_shards.proofs.Cases.{some_of, then_ok, both_ok, then_err, on_err}
-use Rattle.world_moves.proofs.Parts.{part_lawful, part_plain, later_part}
+use Rattle.corpus_shards.proofs.Cases.{some_of, on_err}
 use Rattle.world_moves.proofs.SameTies.{same_ties}
 use Rattle.world_moves.proofs.StepsAfter.{is_kept, kept_running}
 use Rattle.world_moves.proofs.Tables.{table_of, node_has_table}
-use Rattle.world_moves.proofs.CutShort.{cut_as, cut_first}
 use Rattle.world_moves.proofs.marks.mark.Goals as goal
 
 pub unreachable-requires : goal.unreachable-requires
@@ -63,76 +59,23 @@ begin-requires-clause-fresh c =
     fresh s.cluster _ s.history _ _ _ _ _ c.requires.cancels t _ c.requires.lawful.0.unmarked (read_at s.cores.items (t.node - 1) c.index_mut-2.result.now within c.index_mut-2.ensures.value)
 
 pub returns-in_default-begin-clause-part : goal.returns-in_default-begin-clause-part
-returns-in_default-begin-clause-part c =
-    let s = c.args.state.now in
-    let t = c.args.task in
-    nothing_yet (reverse (due_answers t (Mark t c.args.cancel ∷ s.history))) (Mark t c.args.cancel) s.history s.history refl
+returns-in_default-begin-clause-part c = (Mark c.args.task c.args.cancel ∷ [], [], refl, refl)
 
 pub returns-in_err-append-clause-part : goal.returns-in_err-append-clause-part
 returns-in_err-append-clause-part c =
-    let s = c.args.state.now in
-    let t = c.args.task in
-    on_err c.from_residual.result _ (nothing_yet (reverse (due_answers t (Mark t c.args.cancel ∷ s.history))) (Mark t c.args.cancel) s.history c.append.new.history c.in_err-append.ensures.err)
+    let same = c.in_err-append.ensures.err in
+    on_err c.from_residual.result _ (Mark c.args.task c.args.cancel ∷ [], [], ap (λ h. Mark c.args.task c.args.cancel ∷ h) (sym same), same)
 
-pub returns-clause-part : goal.returns-clause-part
-returns-clause-part c =
-    let s = c.args.state.now in
-    let t = c.args.task in
-    let r = c.in-Some.running.now in
-    let was = sym c.get_mut.ensures.value ∙ ap option_copied_mut c.in-Some.is in
-    let track = (kept_running s.cluster s.corpus.now s.script.now s.history _ _ _ c.requires.ties t c.requires.lawful.0.live r was).track in
-    let nodes = asked_nodes s.cluster t s.history c.requires.ties.lawful c.close-asked.result r.track c.close-asked.ensures.nodes (ap (λ track. track.asks) track) in
-    let past = c.in_ok-append.ensures.ok in
-    let acts = c.as_slice.ensures.value ∙ c.in-Ok.ensures.acts in
-    let whole = mark_happened s.cluster t c.args.cancel s.history c.requires.lawful (nodes_of c.close-asked.result) c.as_slice.result.now c.append.new.history _ c.args.waiter nodes acts past refl c.requires.waiting c.requires.wait in
-    then_err c.perform.result _ _ c.perform.ensures.part (λ performed. (let part = subst (λ w. IsPartOf c.append.new.history c.perform.new.history w) whole performed in
-    let first = subst (λ p. IsPartOf p c.perform.new.history (with_answers t (Mark t c.args.cancel ∷ s.history))) past part in
-    later_part (Mark t c.args.cancel) s.history _ _ first))
+pub returns-in-Err-clause-part : goal.returns-in-Err-clause-part
+returns-in-Err-clause-part c = ([], Mark c.args.task c.args.cancel ∷ [], sym c.in_ok-append.ensures.ok, c.in_ok-append.ensures.ok)
 
-pub returns-clause-laws : goal.returns-clause-laws
-returns-clause-laws c =
+pub returns-in-Err-clause-laws : goal.returns-in-Err-clause-laws
+returns-in-Err-clause-laws c =
     let s = c.args.state.now in
-    let t = c.args.task in
-    let r = c.in-Some.running.now in
-    let was = sym c.get_mut.ensures.value ∙ ap option_copied_mut c.in-Some.is in
-    let track = (kept_running s.cluster s.corpus.now s.script.now s.history _ _ _ c.requires.ties t c.requires.lawful.0.live r was).track in
-    let nodes = asked_nodes s.cluster t s.history c.requires.ties.lawful c.close-asked.result r.track c.close-asked.ensures.nodes (ap (λ track. track.asks) track) in
-    let past = c.in_ok-append.ensures.ok in
-    let acts = c.as_slice.ensures.value ∙ c.in-Ok.ensures.acts in
-    let low = t.node_in_range.0 in
-    let high = (reach_facts s.cluster s.history c.requires.ties.lawful).live_in t c.requires.lawful.0.live in
-    let core = core_at s.cluster _ s.history _ _ _ _ _ c.requires.cancels t.node low high in
-    let within = slice_get_within s.cores.items (t.node - 1) core.0 core.1 in
-    let whole = mark_happened s.cluster t c.args.cancel s.history c.requires.lawful (nodes_of c.close-asked.result) c.as_slice.result.now c.append.new.history _ c.args.waiter nodes acts past refl c.requires.waiting c.requires.wait in
-    let h = Mark t c.args.cancel ∷ s.history in
-    let w = record r { track = c.close-asked.new.self } in
-    let changed = ((c.get_mut.follows.holds w).3 (some_of _ _ was)).0 in
-    let here = at_changed t (Some w) (task_at s.tasks) _ changed ∙ ap (λ track. Some (record r { track = track })) c.close-asked.ensures.closed in
-    let others = off_changed t (Some w) (task_at s.tasks) _ changed in
-    let its = table_of s.cluster s.history s.tables.items c.requires.ties.listed t.node low high in
-    let row = read_at s.tables.items (t.node - 1) c.index_mut.result.now (slice_get_within s.tables.items (t.node - 1) its.0 its.1) c.index_mut.ensures.value in
-    let queue = mark_queue s.cluster t c.args.cancel s.history c.requires.lawful (nodes_of c.close-asked.result) c.as_slice.result.now t.node c.args.waiter nodes acts in
-    let ties = after_mark s.cluster t c.args.cancel s.history c.requires.lawful s.corpus.now s.script.now (task_at s.tasks) _ s.tables.items c.index_mut.result.now s.flight (messages_in t.node c.as_slice.result.now) r
-    c.requires.ties was here others row queue c.requires.number in
-    let answered = answers_tied s.cluster t h s.corpus.now s.script.now _ _ _ ties tt c.requires.cancels.one_task in
-    then_err c.perform.result _ _ c.perform.ensures.part (λ performed. (let part = subst (λ w. IsPartOf c.append.new.history c.perform.new.history w) whole performed in
-    let first = subst (λ p. IsPartOf p c.perform.new.history (with_answers t (Mark t c.args.cancel ∷ s.history))) past part in
     record {
-      lawful = part_lawful s.cluster s.corpus.now s.script.now h _ _ first answered.lawful;
-      plain = part_plain s.cluster s.corpus.now s.script.now h _ _ first answered.plain;
-    }))
-
-pub returns-clause-happened : goal.returns-clause-happened
-returns-clause-happened c =
-    let s = c.args.state.now in
-    let t = c.args.task in
-    let r = c.in-Some.running.now in
-    let was = sym c.get_mut.ensures.value ∙ ap option_copied_mut c.in-Some.is in
-    let track = (kept_running s.cluster s.corpus.now s.script.now s.history _ _ _ c.requires.ties t c.requires.lawful.0.live r was).track in
-    let nodes = asked_nodes s.cluster t s.history c.requires.ties.lawful c.close-asked.result r.track c.close-asked.ensures.nodes (ap (λ track. track.asks) track) in
-    let past = c.in_ok-append.ensures.ok in
-    let acts = c.as_slice.ensures.value ∙ c.in-Ok.ensures.acts in
-    then_ok c.perform.result _ _ c.perform.ensures.answered (λ answered. mark_happened s.cluster t c.args.cancel s.history c.requires.lawful (nodes_of c.close-asked.result) c.as_slice.result.now c.append.new.history c.perform.new.history c.args.waiter nodes acts past answered c.requires.waiting c.requires.wait)
+      lawful = subst (Lawful s.cluster) (sym c.in_ok-append.ensures.ok) c.requires.lawful;
+      plain = subst (AnswersPlainly s.cluster s.corpus.now s.script.now) (sym c.in_ok-append.ensures.ok) c.requires.ties.plain;
+    }
 
 pub returns-clause-tied : goal.returns-clause-tied
 returns-clause-tied c =
@@ -143,22 +86,19 @@ returns-clause-tied c =
     let track = (kept_running s.cluster s.corpus.now s.script.now s.history _ _ _ c.requires.ties t c.requires.lawful.0.live r was).track in
     let nodes = asked_nodes s.cluster t s.history c.requires.ties.lawful c.close-asked.result r.track c.close-asked.ensures.nodes (ap (λ track. track.asks) track) in
     let past = c.in_ok-append.ensures.ok in
-    let acts = c.as_slice.ensures.value ∙ c.in-Ok.ensures.acts in
+    let done = c.as_slice-done.result.now in
+    let acts = c.as_slice-done.ensures.value ∙ c.in-Ok.ensures.acts in
     let low = t.node_in_range.0 in
     let high = (reach_facts s.cluster s.history c.requires.ties.lawful).live_in t c.requires.lawful.0.live in
     let core = core_at s.cluster _ s.history _ _ _ _ _ c.requires.cancels t.node low high in
     let within = slice_get_within s.cores.items (t.node - 1) core.0 core.1 in
-    let h = Mark t c.args.cancel ∷ s.history in
     let w = record r { track = c.close-asked.new.self } in
     let changed = ((c.get_mut.follows.holds w).3 (some_of _ _ was)).0 in
     let here = at_changed t (Some w) (task_at s.tasks) _ changed ∙ ap (λ track. Some (record r { track = track })) c.close-asked.ensures.closed in
     let others = off_changed t (Some w) (task_at s.tasks) _ changed in
     let its = table_of s.cluster s.history s.tables.items c.requires.ties.listed t.node low high in
     let row = read_at s.tables.items (t.node - 1) c.index_mut.result.now (slice_get_within s.tables.items (t.node - 1) its.0 its.1) c.index_mut.ensures.value in
-    let queue = mark_queue s.cluster t c.args.cancel s.history c.requires.lawful (nodes_of c.close-asked.result) c.as_slice.result.now t.node c.args.waiter nodes acts in
-    let ties = after_mark s.cluster t c.args.cancel s.history c.requires.lawful s.corpus.now s.script.now (task_at s.tasks) _ s.tables.items c.index_mut.result.now s.flight (messages_in t.node c.as_slice.result.now) r
-    c.requires.ties was here others row queue c.requires.number in
-    let answered = answers_tied s.cluster t h s.corpus.now s.script.now _ _ _ ties tt c.requires.cancels.one_task in
+    let queue = mark_queue s.cluster t c.args.cancel s.history c.requires.lawful (nodes_of c.close-asked.result) done t.node c.args.waiter nodes acts in
     let node : (t.node - 1) + 1 ≡ t.node = omega (arith, low) in
     let fits = subst (IsTableAt s.cluster (t.node - 1) s.history) row (c.requires.ties.listed (t.node - 1)) in
     let rows = subst (HasRows s.history) row (c.requires.cancels.rows_are (t.node - 1)) in
@@ -167,32 +107,17 @@ returns-clause-tied c =
     let tables = ap (slice_set s.tables.items (t.node - 1)) table in
     let its_core = read_at s.cores.items (t.node - 1) c.index_mut-2.result.now within c.index_mut-2.ensures.value in
     let cores = ap (slice_set s.cores.items (t.node - 1)) (c.in-Ok.ensures.begun ∙ ap (λ ns. with_entry c.index_mut-2.result.now t (Some (begun c.args.cancel ns c.args.waiter))) nodes) in
-    let noted = cancels_after_mark s.cluster t c.args.cancel s.history c.requires.lawful s.tables.items c.index_mut.result.now _ s.bans.items s.cores.items c.index_mut-2.result.now s.listings c.args.waiter
-    c.requires.cancels c.requires.ties.listed row its_core c.requires.waiting c.requires.wait in
-    both_ok c.perform.result _ _ _ c.perform.ensures.answered c.perform.ensures.sent (λ noted_answers sent. (let happened = mark_happened s.cluster t c.args.cancel s.history c.requires.lawful (nodes_of c.close-asked.result) c.as_slice.result.now c.append.new.history c.perform.new.history c.args.waiter nodes acts past noted_answers c.requires.waiting c.requires.wait in
+    let sent = c.in-Ok-send_all.ensures.sent in
     record {
-      ties = same_ties s.cluster s.corpus.now s.script.now _ _ _ _ _ _ _ happened tables sent answered;
-      cancels = same_cancels s.cluster _ _ _ _ _ _ _ _ _ happened tables cores (answers_noted s.cluster t h _ _ _ _ _ c.requires.lawful noted);
-      awaits = subst AwaitsNoMark (sym happened) (answers_await s.cluster t h tt);
-    }))
-
-pub returns-clause-full : goal.returns-clause-full
-returns-clause-full c = λ failed.
-    let s = c.args.state.now in
-    let t = c.args.task in
-    let r = c.in-Some.running.now in
-    let was = sym c.get_mut.ensures.value ∙ ap option_copied_mut c.in-Some.is in
-    let track = (kept_running s.cluster s.corpus.now s.script.now s.history _ _ _ c.requires.ties t c.requires.lawful.0.live r was).track in
-    let nodes = asked_nodes s.cluster t s.history c.requires.ties.lawful c.close-asked.result r.track c.close-asked.ensures.nodes (ap (λ track. track.asks) track) in
-    let past = c.in_ok-append.ensures.ok in
-    let acts = c.as_slice.ensures.value ∙ c.in-Ok.ensures.acts in
-    let whole = mark_happened s.cluster t c.args.cancel s.history c.requires.lawful (nodes_of c.close-asked.result) c.as_slice.result.now c.append.new.history _ c.args.waiter nodes acts past refl c.requires.waiting c.requires.wait in
-    let marked = with_answers t (Mark t c.args.cancel ∷ s.history) in
-    cut_as (λ x. IsPartOf c.append.new.history x (answers_in c.as_slice.result.now ++ c.append.new.history)) (λ x. IsPartOf s.history x marked) c.perform.new.history
-    (λ x performed. later_part (Mark t c.args.cancel) s.history x _ (subst (λ p. IsPartOf p x marked) past (subst (λ w. IsPartOf c.append.new.history x w) whole performed))) (c.perform.ensures.full failed)
-
-pub returns-in_err-append-clause-full : goal.returns-in_err-append-clause-full
-returns-in_err-append-clause-full c = λ failed.
-    let s = c.args.state.now in
-    let full : length s.history ≡ MAX_EVENTS = search rules in
-    cut_first s.history c.append.new.history (reverse (due_answers c.args.task ((Mark c.args.task c.args.cancel) ∷ s.history))) (Mark c.args.task c.args.cancel) full c.in_err-append.ensures.err
+      ties = same_ties s.cluster s.corpus.now s.script.now _ _ _ _ _ _ _ past tables sent
+          (after_mark s.cluster t c.args.cancel s.history c.requires.lawful s.corpus.now s.script.now (task_at s.tasks) _ s.tables.items c.index_mut.result.now s.flight (messages_in t.node done) r
+          c.requires.ties was here others row queue c.requires.number);
+      cancels = same_cancels s.cluster _ _ _ _ _ _ _ _ _ past tables cores
+          (cancels_after_mark s.cluster t c.args.cancel s.history c.requires.lawful s.tables.items c.index_mut.result.now _ s.bans.items s.cores.items c.index_mut-2.result.now s.listings c.args.waiter
+          c.requires.cancels c.requires.ties.listed row its_core c.requires.waiting c.requires.wait);
+      counts = rw past (mark_counted s.cluster t c.args.cancel s.history c.requires.lawful (nodes_of c.close-asked.result) done c.args.waiter _ _ nodes acts c.requires.waiting c.requires.wait c.count_down.ensures c.requires.counts);
+      tells = rw (past, tables, sent) (described_with s.script.now s.history s.tables.items s.flight _ (Mark t c.args.cancel) _ _ refl
+          (rows_marked s.script.now s.history s.tables.items (t.node - 1) t.number c.args.cancel c.index_mut.result.now row c.requires.tells.rows_are)
+          (carry_both s.script.now s.history s.flight _ c.requires.tells.carried (acts_carry s.script.now s.history t.node done)) c.requires.tells);
+      awaits = subst AwaitsNoMark (sym past) tt;
+    }

@@ -1,4 +1,4 @@
-use Rattle.std.proofs.Common.{◌≡◌, ◌∙◌, ◌∷◌, [], ◌++◌, List, Option, Some, Err, length, refl, ap, sym, subst, cond, true}
+use Rattle.std.proofs.Common.{◌≡◌, ◌∙◌, ◌∷◌, [], ◌++◌, List, Option, Some, None, Err, length, refl, ap, sym, subst, cond, true}
 use Rattle.std.specs.Prelude.{remove}
 use Rattle.std.specs.BTreeMap.{is_at}
 use Rattle.task_ids.specs.declared.task_id.TaskId.{TaskId}
@@ -13,6 +13,10 @@ use Rattle.node_parts.specs.declared.running.Running.{Running}
 use Rattle.world_moves.specs.Moves.{Delivers}
 use Rattle.task_events.specs.Lawful.{AwaitsNoMark}
 use Rattle.world_moves.specs.Cancels.{waiting_for}
+use Rattle.world_moves.specs.Describing.{Carries}
+use Rattle.node_parts.specs.Starting.{task_for}
+use Rattle.task_events.specs.TaskRows.{headers_of}
+use Rattle.command_roots.specs.Roots.{root_headers}
 use Rattle.world_moves.specs.Ties.{task_at}
 use Rattle.world_moves.proofs.RequestsInFlight.{arrives}
 use Rattle.world_moves.proofs.KeptTasks.{at_changed, off_changed}
@@ -23,62 +27,85 @@ use Rattle.world_moves.proofs.FirstRuns.{first}
 use Rattle.world_moves.proofs.CancelsAfterStart.{noted_put}
 use Rattle.world_moves.proofs.Tables.{IsPutOn, node_has_table, no_slot, no_number}
 use Rattle.world_moves.proofs.CancelsUntouched.{noted}
+use Rattle.world_moves.proofs.ByPlace.{all_here}
+use Rattle.world_moves.proofs.DescriptionsAfter.{quiet_sent, carry_both, carry_taken}
+use Rattle.world_moves.proofs.DescriptionsStart.{new_number, rows_put, carried_put}
+use Rattle.world_moves.proofs.QuietCounts.{still_counts}
 use Rattle.world_moves.proofs.CutShort.{cut_only}
 use Rattle.world_moves.proofs.requests.deliver_request.Goals as goal
 
-pub request_at-requires : goal.request_at-requires
-request_at-requires c =
+pub child_of-requires : goal.child_of-requires
+child_of-requires c =
     let s = c.args.state.now in
-    let a = arrives s.cluster s.corpus.now s.script.now s.history _ _ s.flight c.requires.tied.ties c.args.nth _ _ _ c.take_request-token.ensures.taken in
+    let a = arrives s.cluster s.corpus.now s.script.now s.history _ _ s.flight c.requires.tied.ties c.args.nth _ _ _ _ c.take_request-token.ensures.taken in
     some_of _ _ a.stands
 
 pub request_at-request-requires : goal.request_at-request-requires
 request_at-request-requires c =
     let s = c.args.state.now in
-    let a = arrives s.cluster s.corpus.now s.script.now s.history _ _ s.flight c.requires.tied.ties c.args.nth _ _ _ c.take_request-token.ensures.taken in
+    let a = arrives s.cluster s.corpus.now s.script.now s.history _ _ s.flight c.requires.tied.ties c.args.nth _ _ _ _ c.take_request-token.ensures.taken in
     some_of _ _ a.stands
 
 pub put_on-requires-clause-low : goal.put_on-requires-clause-low
 put_on-requires-clause-low c =
     let s = c.args.state.now in
-    (arrives s.cluster s.corpus.now s.script.now s.history _ _ s.flight c.requires.tied.ties c.args.nth _ _ _ c.take_request-token.ensures.taken).low
+    (arrives s.cluster s.corpus.now s.script.now s.history _ _ s.flight c.requires.tied.ties c.args.nth _ _ _ _ c.take_request-token.ensures.taken).low
 
 pub put_on-requires-clause-high : goal.put_on-requires-clause-high
 put_on-requires-clause-high c =
     let s = c.args.state.now in
-    let a = arrives s.cluster s.corpus.now s.script.now s.history _ _ s.flight c.requires.tied.ties c.args.nth _ _ _ c.take_request-token.ensures.taken in
+    let a = arrives s.cluster s.corpus.now s.script.now s.history _ _ s.flight c.requires.tied.ties c.args.nth _ _ _ _ c.take_request-token.ensures.taken in
     node_has_table s.cluster s.history s.tables.items c.requires.tied.ties.listed _ a.low a.high
 
-pub returns-in_ok-running-in-Ok-clause-delivered : goal.returns-in_ok-running-in-Ok-clause-delivered
-returns-in_ok-running-in-Ok-clause-delivered c =
+pub put_on-requires-clause-token : goal.put_on-requires-clause-token
+put_on-requires-clause-token c =
+    let s = c.args.state.now in
+    let a = arrives s.cluster s.corpus.now s.script.now s.history _ _ s.flight c.requires.tied.ties c.args.nth _ _ _ _ c.take_request-token.ensures.taken in
+    sym (ap (λ x. x.parent) (c.in-Ok.ensures a.asked a.stands) ∙ ap Some c.parent-parent.ensures)
+
+pub returns-in_ok-running-in-Ok-put_on-clause-delivered : goal.returns-in_ok-running-in-Ok-put_on-clause-delivered
+returns-in_ok-running-in-Ok-put_on-clause-delivered c =
     let s = c.args.state.now in
     let token = c.take_request-token.result.0 in
-    let a = arrives s.cluster s.corpus.now s.script.now s.history _ _ s.flight c.requires.tied.ties c.args.nth _ _ _ c.take_request-token.ensures.taken in
-    let t = c.in-Ok.ticket.id in
-    let put : IsPutOn s.tables.items c.take_request-token.result.1 t c.new_task-child.result c.put_on.new.tables.items = record { id = c.in-Ok.ensures.id; row = c.in-Ok.ensures.row; free = c.in-Ok.ensures.free } in
+    let a = arrives s.cluster s.corpus.now s.script.now s.history _ _ s.flight c.requires.tied.ties c.args.nth _ _ _ _ c.take_request-token.ensures.taken in
+    let t = c.in-Ok-put_on.ticket.id in
+    let put : IsPutOn s.tables.items c.take_request-token.result.1 t c.in-Ok.child c.put_on.new.tables.items = record { id = c.in-Ok-put_on.ensures.id; row = c.in-Ok-put_on.ensures.row; free = c.in-Ok-put_on.ensures.free } in
     then_ok c.keep_started.result _ _ c.keep_started.ensures.happened (λ kept. (let happened : c.keep_started.new.history ≡ Put t token.parent token.ask ∷ s.history = cc (kept, c.id-task.ensures, c.parent-parent.ensures, c.ask-ask.ensures) in
     subst (λ h. Delivers s.cluster s.history c.args.nth h) (sym happened)
     (delivers_put s.cluster s.corpus.now s.script.now s.history (task_at s.tasks) s.tables.items s.flight c.requires.tied.ties c.requires.tied.awaits c.args.nth token c.take_request-token.result.1 _ a t _ _ put)))
 
-pub returns-in_ok-running-in-Ok-clause-tied : goal.returns-in_ok-running-in-Ok-clause-tied
-returns-in_ok-running-in-Ok-clause-tied c =
+pub returns-in_ok-running-in-Ok-put_on-clause-tied : goal.returns-in_ok-running-in-Ok-put_on-clause-tied
+returns-in_ok-running-in-Ok-put_on-clause-tied c =
     let s = c.args.state.now in
     let token = c.take_request-token.result.0 in
-    let a = arrives s.cluster s.corpus.now s.script.now s.history _ _ s.flight c.requires.tied.ties c.args.nth _ _ _ c.take_request-token.ensures.taken in
-    let t = c.in-Ok.ticket.id in
-    let running = c.in_ok-running-in-Ok.running in
-    let put : IsPutOn s.tables.items c.take_request-token.result.1 t c.new_task-child.result c.put_on.new.tables.items = record { id = c.in-Ok.ensures.id; row = c.in-Ok.ensures.row; free = c.in-Ok.ensures.free } in
+    let a = arrives s.cluster s.corpus.now s.script.now s.history _ _ s.flight c.requires.tied.ties c.args.nth _ _ _ _ c.take_request-token.ensures.taken in
+    let t = c.in-Ok-put_on.ticket.id in
+    let running = c.in_ok-running-in-Ok-put_on.running in
+    let put : IsPutOn s.tables.items c.take_request-token.result.1 t c.in-Ok.child c.put_on.new.tables.items = record { id = c.in-Ok-put_on.ensures.id; row = c.in-Ok-put_on.ensures.row; free = c.in-Ok-put_on.ensures.free } in
     let asked : c.request_at-request.result.now ≡ a.asked = cc (c.request_at-request.ensures, a.stands) in
-    let is : running ≡ first t (Some token) true a.asked s.cluster.shards = c.in_ok-running-in-Ok.ensures.running
-    ∙ ap (λ (o : Option Token). first t o true c.request_at-request.result.now s.cluster.shards) c.in-Ok.ensures.token ∙ ap (λ (r : Request). first t (Some token) true r s.cluster.shards) asked in
+    let headers = c.take_request-token.result.3 in
+    let is : running ≡ first t (Some token) true a.asked s.cluster.shards headers = c.in_ok-running-in-Ok-put_on.ensures.running
+    ∙ ap (λ (o : Option Token). first t o true c.request_at-request.result.now s.cluster.shards headers) c.in-Ok-put_on.ensures.token ∙ ap (λ (r : Request). first t (Some token) true r s.cluster.shards headers) asked in
+    let carried : headers ≡ headers_of (root_headers s.script.now) token.parent s.history = all_here (Carries s.script.now s.history) s.flight c.args.nth _ c.requires.tied.tells.carried c.take_request-token.ensures.taken in
+    let child = c.in-Ok.ensures a.asked a.stands ∙ ap (λ q. task_for a.asked (Some q) s.clock headers) c.parent-parent.ensures in
     both_ok c.keep_started.result _ _ _ c.keep_started.ensures.happened c.keep_started.ensures.kept (λ event kept. (let happened : c.keep_started.new.history ≡ Put t token.parent token.ask ∷ s.history = cc (event, c.id-task.ensures, c.parent-parent.ensures, c.ask-ask.ensures) in
     let changed = subst (λ (k : TaskId). (q : TaskId) → task_at c.keep_started.new.tasks q ≡ cond (is_at (task_id_cmp k) q) (Some running) (task_at s.tasks q)) (ap (λ (r : Running). r.ticket.id) is) kept in
     record {
       ties = same_ties s.cluster s.corpus.now s.script.now (task_at c.keep_started.new.tasks) _ _ _ _ _ _ happened refl c.take_request-token.ensures.rest
-          (after_put s.cluster s.corpus.now s.script.now s.history (task_at s.tasks) s.tables.items s.flight c.requires.tied.ties c.requires.tied.awaits c.args.nth token c.take_request-token.result.1 _ a t _ _ put running (task_at c.keep_started.new.tasks) is
-          c.in_ok-running-in-Ok.ensures.begun (at_changed t (Some running) (task_at s.tasks) _ changed) (off_changed t (Some running) (task_at s.tasks) _ changed));
+          (after_put s.cluster s.corpus.now s.script.now s.history (task_at s.tasks) s.tables.items s.flight c.requires.tied.ties c.requires.tied.awaits c.args.nth token c.take_request-token.result.1 _ a t _ _ put running (task_at c.keep_started.new.tasks) headers is carried
+          c.in_ok-running-in-Ok-put_on.ensures.begun (at_changed t (Some running) (task_at s.tasks) _ changed) (off_changed t (Some running) (task_at s.tasks) _ changed));
       cancels = same_cancels s.cluster _ _ _ _ _ _ _ _ happened refl
-          (noted_put s.cluster s.history s.tables.items c.requires.tied.ties.listed c.take_request-token.result.1 a.low a.high t _ _ put c.requires.tied.ties.lawful (λ t. waiting_for t s.history) _ _ _ _ c.requires.tied.cancels token.parent token.ask (c.new_task-child.ensures.parent ∙ ap Some c.parent-parent.ensures));
+          (noted_put s.cluster s.history s.tables.items c.requires.tied.ties.listed c.take_request-token.result.1 a.low a.high t _ _ put c.requires.tied.ties.lawful (λ t. waiting_for t s.history) _ _ _ _ c.requires.tied.cancels token.parent token.ask (ap (λ x. x.parent) child));
+      counts = rw happened (still_counts None (Put t token.parent token.ask) s.history _ refl c.requires.tied.counts);
+      tells = rw (happened, c.take_request-token.ensures.rest) (record {
+        rows_are = rows_put s.cluster s.script.now s.history s.tables.items c.requires.tied.ties.listed c.take_request-token.result.1 a.low a.high t _ _ put c.requires.tied.ties.lawful
+            token.parent token.ask a.asked s.clock headers child a.request c.requires.tied.tells.clock_is carried c.requires.tied.tells.rows_are;
+        carried = carry_taken s.script.now (Put t token.parent token.ask ∷ s.history) s.flight c.args.nth
+            (carried_put s.cluster s.corpus.now s.script.now s.history _ _ s.flight c.requires.tied.ties t
+            (new_number s.cluster s.script.now s.history s.tables.items c.requires.tied.ties.listed c.take_request-token.result.1 a.low a.high t _ _ put c.requires.tied.ties.lawful) c.requires.tied.tells.carried token.parent token.ask);
+        clock_is = c.requires.tied.tells.clock_is;
+        clock_low = c.requires.tied.tells.clock_low;
+      });
       awaits = subst AwaitsNoMark (sym happened) tt;
     }))
 
@@ -87,7 +114,7 @@ returns-in-Some-clause-delivered c =
     let s = c.args.state.now in
     let token = c.take_request-token.result.0 in
     let to = c.take_request-token.result.1 in
-    let a = arrives s.cluster s.corpus.now s.script.now s.history _ _ s.flight c.requires.tied.ties c.args.nth _ _ _ c.take_request-token.ensures.taken in
+    let a = arrives s.cluster s.corpus.now s.script.now s.history _ _ s.flight c.requires.tied.ties c.args.nth _ _ _ _ c.take_request-token.ensures.taken in
     let back = ap refused_token (sym c.in-Err-Full.field-0-is) ∙ c.in-Err-Full.ensures.given_back in
     let same : c.in-Some.token ≡ token = cc (back, c.in-Some.is) in
     let full = no_slot s.cluster s.history s.tables.items c.requires.tied.ties.listed to a.low a.high c.requires.tied.ties.lawful (λ table e. c.in-Err-Full.ensures.full table e (ap Err (c.in-Err-Full.field-0-is ∙ ap Full back))) in
@@ -100,7 +127,7 @@ returns-in-Some-clause-tied c =
     let s = c.args.state.now in
     let token = c.take_request-token.result.0 in
     let to = c.take_request-token.result.1 in
-    let a = arrives s.cluster s.corpus.now s.script.now s.history _ _ s.flight c.requires.tied.ties c.args.nth _ _ _ c.take_request-token.ensures.taken in
+    let a = arrives s.cluster s.corpus.now s.script.now s.history _ _ s.flight c.requires.tied.ties c.args.nth _ _ _ _ c.take_request-token.ensures.taken in
     let back = ap refused_token (sym c.in-Err-Full.field-0-is) ∙ c.in-Err-Full.ensures.given_back in
     let same : c.in-Some.token ≡ token = cc (back, c.in-Some.is) in
     let full = no_slot s.cluster s.history s.tables.items c.requires.tied.ties.listed to a.low a.high c.requires.tied.ties.lawful (λ table e. c.in-Err-Full.ensures.full table e (ap Err (c.in-Err-Full.field-0-is ∙ ap Full back))) in
@@ -111,6 +138,9 @@ returns-in-Some-clause-tied c =
       ties = same_ties s.cluster s.corpus.now s.script.now (task_at s.tasks) _ _ _ _ _ _ happened c.in-Err-Full.ensures.err answered
           (after_reject s.cluster s.corpus.now s.script.now s.history (task_at s.tasks) s.tables.items s.flight c.requires.tied.ties c.requires.tied.awaits c.args.nth token to _ a full);
       cancels = same_cancels s.cluster _ _ _ _ _ _ _ _ happened c.in-Err-Full.ensures.err (noted s.cluster (λ t. waiting_for t s.history) s.history _ _ _ _ _ c.requires.tied.cancels (Reject to token.parent token.ask) refl refl);
+      counts = rw happened (still_counts None (Reject to token.parent token.ask) s.history _ refl c.requires.tied.counts);
+      tells = rw (happened, c.in-Err-Full.ensures.err, answered) (quiet_sent s.script.now s.history s.tables.items s.flight _ (Reject to token.parent token.ask) _ refl
+          (carry_both s.script.now s.history (remove s.flight c.args.nth) (rejected token (length s.history) ∷ []) (carry_taken s.script.now s.history s.flight c.args.nth c.requires.tied.tells.carried) (tt, tt)) c.requires.tied.tells);
       awaits = subst AwaitsNoMark (sym happened) tt;
     }))
 
@@ -118,17 +148,17 @@ pub returns-in-Err-NumbersSpent-clause-spent : goal.returns-in-Err-NumbersSpent-
 returns-in-Err-NumbersSpent-clause-spent c = λ _.
     let s = c.args.state.now in
     let to = c.take_request-token.result.1 in
-    let a = arrives s.cluster s.corpus.now s.script.now s.history _ _ s.flight c.requires.tied.ties c.args.nth _ _ _ c.take_request-token.ensures.taken in
+    let a = arrives s.cluster s.corpus.now s.script.now s.history _ _ s.flight c.requires.tied.ties c.args.nth _ _ _ _ c.take_request-token.ensures.taken in
     let back = ap refused_token (sym c.in-Err-NumbersSpent.field-0-is) ∙ c.in-Err-NumbersSpent.ensures.given_back in
     (_, a.here, no_number s.cluster s.history s.tables.items c.requires.tied.ties.listed to a.low a.high c.requires.tied.ties.lawful (λ table e. c.in-Err-NumbersSpent.ensures.spent table e (ap Err (c.in-Err-NumbersSpent.field-0-is ∙ ap NumbersSpent back))))
 
-pub returns-in_ok-running-in-Ok-clause-full : goal.returns-in_ok-running-in-Ok-clause-full
-returns-in_ok-running-in-Ok-clause-full c = λ failed.
+pub returns-in_ok-running-in-Ok-put_on-clause-full : goal.returns-in_ok-running-in-Ok-put_on-clause-full
+returns-in_ok-running-in-Ok-put_on-clause-full c = λ failed.
     let s = c.args.state.now in
     let token = c.take_request-token.result.0 in
-    let a = arrives s.cluster s.corpus.now s.script.now s.history _ _ s.flight c.requires.tied.ties c.args.nth _ _ _ c.take_request-token.ensures.taken in
-    let t = c.in-Ok.ticket.id in
-    let put : IsPutOn s.tables.items c.take_request-token.result.1 t c.new_task-child.result c.put_on.new.tables.items = record { id = c.in-Ok.ensures.id; row = c.in-Ok.ensures.row; free = c.in-Ok.ensures.free } in
+    let a = arrives s.cluster s.corpus.now s.script.now s.history _ _ s.flight c.requires.tied.ties c.args.nth _ _ _ _ c.take_request-token.ensures.taken in
+    let t = c.in-Ok-put_on.ticket.id in
+    let put : IsPutOn s.tables.items c.take_request-token.result.1 t c.in-Ok.child c.put_on.new.tables.items = record { id = c.in-Ok-put_on.ensures.id; row = c.in-Ok-put_on.ensures.row; free = c.in-Ok-put_on.ensures.free } in
     cut_only (λ x y. Delivers s.cluster x c.args.nth y) s.history c.keep_started.new.history (Put t token.parent token.ask)
     (delivers_put s.cluster s.corpus.now s.script.now s.history (task_at s.tasks) s.tables.items s.flight c.requires.tied.ties c.requires.tied.awaits c.args.nth token c.take_request-token.result.1 _ a t _ _ put)
     (c.keep_started.ensures.full failed) (of_err c.keep_started.result _ _ failed c.keep_started.ensures.err)
@@ -138,7 +168,7 @@ returns-in-Some-clause-full c = λ failed.
     let s = c.args.state.now in
     let token = c.take_request-token.result.0 in
     let to = c.take_request-token.result.1 in
-    let a = arrives s.cluster s.corpus.now s.script.now s.history _ _ s.flight c.requires.tied.ties c.args.nth _ _ _ c.take_request-token.ensures.taken in
+    let a = arrives s.cluster s.corpus.now s.script.now s.history _ _ s.flight c.requires.tied.ties c.args.nth _ _ _ _ c.take_request-token.ensures.taken in
     let back = ap refused_token (sym c.in-Err-Full.field-0-is) ∙ c.in-Err-Full.ensures.given_back in
     let full = no_slot s.cluster s.history s.tables.items c.requires.tied.ties.listed to a.low a.high c.requires.tied.ties.lawful (λ table e. c.in-Err-Full.ensures.full table e (ap Err (c.in-Err-Full.field-0-is ∙ ap Full back))) in
     cut_only (λ x y. Delivers s.cluster x c.args.nth y) s.history c.reject.new.history (Reject to token.parent token.ask)

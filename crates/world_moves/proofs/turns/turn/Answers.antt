@@ -1,4 +1,4 @@
-use Rattle.std.proofs.Common.{◌∙◌, Some, refl, ap, sym, subst}
+use Rattle.std.proofs.Common.{◌∙◌, Some, refl, ap, sym, subst, None}
 use Rattle.std.specs.Option.{option_copied_mut}
 use Rattle.task_work.specs.Works.{IsWorkOn, with_turn}
 use Rattle.task_events.specs.declared.event.Event.TheVariants.{Work}
@@ -9,6 +9,8 @@ use Rattle.world_moves.proofs.KeptTasks.{at_changed, off_changed}
 use Rattle.world_moves.proofs.StepsAfter.{is_kept, kept_running}
 use Rattle.world_moves.proofs.TurnsAfter.{is_on, after_turn}
 use Rattle.world_moves.proofs.CancelsUntouched.{noted}
+use Rattle.world_moves.proofs.DescriptionsAfter.{quiet}
+use Rattle.world_moves.proofs.QuietCounts.{still_counts}
 use Rattle.world_moves.proofs.turns.turn.Goals as goal
 
 pub unreachable-requires : goal.unreachable-requires
@@ -42,5 +44,7 @@ returns-clause-tied c =
           (next _ on) (c.in-Ok.ensures.ok was_on ∙ ap (with_turn r.work) shard) (subst (λ writes. IsWorkOn c.turn.new.self writes) shard (c.in-Ok.ensures.holds_on was_on))
           (at_changed c.args.task (Some w) (task_at s.tasks) _ changed) (off_changed c.args.task (Some w) (task_at s.tasks) _ changed);
       cancels = noted s.cluster (λ t. waiting_for t s.history) s.history _ _ _ _ _ c.requires.tied.cancels (Work c.args.task) refl refl;
+      counts = still_counts None (Work c.args.task) s.history _ refl c.requires.tied.counts;
+      tells = quiet s.script.now s.history _ _ _ (Work c.args.task) refl c.requires.tied.tells;
       awaits = tt;
     })

@@ -1,0 +1,145 @@
+-- What task lists show after an event: of the tasks that were live before it, what they showed.
+use Rattle.std.proofs.Common.{◌≡◌, ◌≢◌, ◌<◌, ◌≤◌, ◌-◌, ◌+◌, ℕ, Bool, true, false, cond, not, List, [], ◌∷◌, ◌++◌, map, filter, get_or, Option, Some, None, refl, sym, ap, subst, ◌∙◌, arith}
+use Rattle.std.specs.Prelude.{All, slice_get, slice_set, remove}
+use Rattle.std.specs.List.{AllByRecursion}
+use Rattle.std.proofs.lemmas.List.Elements.{All-filter, All-map, All-push}
+use Rattle.task_ids.specs.declared.task_id.TaskId.{TaskId}
+use Rattle.task_ids.specs.declared.task_info.NewTask.{NewTask}
+use Rattle.task_ids.specs.declared.task_info.TaskInfo.{TaskInfo}
+use Rattle.task_ids.specs.declared.task_info.Headers.{Headers}
+use Rattle.task_ids.specs.declared.cluster.Cluster.{Cluster}
+use Rattle.node_parts.specs.declared.notice.Notice.{Notice}
+use Rattle.node_parts.specs.Notices.{notice_of}
+use Rattle.node_parts.specs.Starting.{task_for}
+use Rattle.child_track.specs.Token.{ReceiptParts}
+use Rattle.cancel_core.specs.declared.act.Act.{Act}
+use Rattle.task_table.specs.Rows.{row_for, has_number, marked}
+use Rattle.task_table.specs.Table.{Table, with_task, without_task, with_mark}
+use Rattle.script_lang.specs.declared.command.Script.{Script}
+use Rattle.task_events.specs.declared.request.Request.{Request}
+use Rattle.task_events.specs.declared.event.Event.{Event}
+use Rattle.task_events.specs.declared.event.Event.TheVariants.{Root, Put, Tick}
+use Rattle.task_events.specs.Same.{same_task}
+use Rattle.task_events.specs.Tasks.{last_number}
+use Rattle.task_events.specs.Asks.{request_of_ask}
+use Rattle.task_events.specs.Steps.{request_of}
+use Rattle.task_events.specs.TaskRows.{clock, started_at, headers_of}
+use Rattle.task_events.specs.Lawful.{Lawful}
+use Rattle.task_laws.proofs.Same.{same_tests}
+use Rattle.command_roots.specs.Roots.{root_request, root_headers}
+use Rattle.world_moves.specs.declared.flight.Sent.{Sent}
+use Rattle.world_moves.specs.declared.flight.Sent.TheVariants as sent
+use Rattle.world_moves.specs.Acts.{messages_in}
+use Rattle.world_moves.specs.Flights.{told_to, told_parent}
+use Rattle.world_moves.specs.Describing.{Describing, IsDescribed, DescribesAll, Carries}
+use Rattle.world_moves.specs.Ties.{IsTableAt, IsTableOf}
+use Rattle.world_moves.proofs.AtPlace.{set_at}
+use Rattle.world_moves.proofs.ByPlace.{all_left, all_push}
+
+-- the event starts a task, or moves the clock
+abbrev pub starts_or_ticks : Event → Bool
+starts_or_ticks (Root k t) = true
+starts_or_ticks (Put t p k) = true
+starts_or_ticks (Tick ms) = true
+starts_or_ticks _ = false
+
+module _ (script : Script) (h : List Event) where
+  row_stays : (e : Event) → starts_or_ticks e ≡ false → (row : TaskInfo) → IsDescribed script h row → IsDescribed script (e ∷ h) row
+  row_stays (Root k t) s row d = absurd (cc)
+  row_stays (Put t p k) s row d = absurd (cc)
+  row_stays (Tick ms) s row d = absurd (cc)
+  row_stays _ s row d = record { request = d.request; asked = d.asked; action = d.action; description = d.description; start = d.start; headers = d.headers }
+
+  rows_stay : (e : Event) → starts_or_ticks e ≡ false → (o : Option Table) → DescribesAll script h o → DescribesAll script (e ∷ h) o
+  rows_stay e s None d = tt
+  rows_stay e s (Some table) d = λ k row low. row_stays e s (get_or table.live k row) (d k row low)
+
+  one_carried : (e : Event) → starts_or_ticks e ≡ false → (m : Sent) → Carries script h m → Carries script (e ∷ h) m
+  one_carried (Root k t) s m c = absurd (cc)
+  one_carried (Put t p k) s m c = absurd (cc)
+  one_carried (Tick ms) s m c = absurd (cc)
+  one_carried _ s (sent.Request token to at headers) c = c
+  one_carried _ s (sent.Answer receipt at) c = tt
+  one_carried _ s (sent.Notice notice) c = tt
+
+  pub all_carried : (e : Event) → starts_or_ticks e ≡ false → (ms : List Sent) → AllByRecursion (Carries script h) ms → AllByRecursion (Carries script (e ∷ h)) ms
+  all_carried e s [] c = tt
+  all_carried e s (m ∷ ms) c = (one_carried e s m c.0, all_carried e s ms c.1)
+
+  clock_stays : (e : Event) → starts_or_ticks e ≡ false → clock (e ∷ h) ≡ clock h
+  clock_stays (Root k t) s = refl
+  clock_stays (Put t p k) s = refl
+  clock_stays (Tick ms) s = absurd (cc)
+  clock_stays _ s = refl
+
+  module _ (tables : List Table) (flight : List Sent) (now : ℕ) where
+    -- the tables may be others, and so may the messages
+    pub described_with : (e : Event) (after : List Table) (queue : List Sent) → starts_or_ticks e ≡ false → ((place : ℕ) → DescribesAll script h (slice_get after place)) → AllByRecursion (Carries script h) queue
+        → Describing script h tables flight now → Describing script (e ∷ h) after queue now
+    described_with e after queue s rows carried d = record {
+      rows_are = λ place. rows_stay e s (slice_get after place) (rows place);
+      carried = all_carried e s queue carried;
+      clock_is = d.clock_is ∙ sym (clock_stays e s);
+      clock_low = d.clock_low;
+    }
+
+    pub quiet : (e : Event) → starts_or_ticks e ≡ false → Describing script h tables flight now → Describing script (e ∷ h) tables flight now
+    quiet e s d = described_with e tables flight s d.rows_are d.carried d
+
+    -- a message that is no request was sent
+    pub quiet_sent : (e : Event) (queue : List Sent) → starts_or_ticks e ≡ false → AllByRecursion (Carries script h) queue → Describing script h tables flight now → Describing script (e ∷ h) tables queue now
+    quiet_sent e queue s carried d = described_with e tables queue s d.rows_are carried d
+
+-- ---- messages
+
+-- notices carry nothing
+pub notices_carry : (script : Script) (h : List Event) (notices : List Notice) → AllByRecursion (Carries script h) (map sent.Notice notices)
+notices_carry script h [] = tt
+notices_carry script h (n ∷ ns) = (tt, notices_carry script h ns)
+
+pub carry_both : (script : Script) (h : List Event) (ms more : List Sent) → AllByRecursion (Carries script h) ms → AllByRecursion (Carries script h) more → AllByRecursion (Carries script h) (ms ++ more)
+carry_both script h [] more a b = b
+carry_both script h (m ∷ ms) more a b = (a.0, carry_both script h ms more a.1 b)
+
+pub carry_taken : (script : Script) (h : List Event) (flight : List Sent) (nth : ℕ) → AllByRecursion (Carries script h) flight → AllByRecursion (Carries script h) (remove flight nth)
+carry_taken script h flight nth a = all_left (Carries script h) flight nth a
+
+-- nor does the answer of a task that has ended
+pub told_carries : (script : Script) (h : List Event) (receipt : ReceiptParts) (at : ℕ) → AllByRecursion (Carries script h) (told_parent receipt at)
+told_carries script h receipt at = by_parent receipt.parent
+  where
+    by_parent : (parent : Option TaskId) → AllByRecursion (Carries script h) (told_to parent receipt at)
+    by_parent None = tt
+    by_parent (Some p) = (tt, tt)
+
+-- nor does what the acts of a core send
+pub acts_carry : (script : Script) (h : List Event) (node : ℕ) (acts : List Act) → AllByRecursion (Carries script h) (messages_in node acts)
+acts_carry script h node [] = tt
+acts_carry script h node (act ∷ acts) = by_notice (notice_of node act) refl (acts_carry script h node acts)
+  where
+    by_notice : (o : Option Notice) → notice_of node act ≡ o → AllByRecursion (Carries script h) (messages_in node acts) → AllByRecursion (Carries script h) (messages_in node (act ∷ acts))
+    by_notice None e rest = rw e rest
+    by_notice (Some n) e rest = rw e (tt, rest)
+
+-- ---- rows
+
+-- some rows are left out
+pub rows_left : (script : Script) (h : List Event) (tables : List Table) (place number : ℕ) (table : Table) → slice_get tables place ≡ Some table → ((p : ℕ) → DescribesAll script h (slice_get tables p))
+    → (p : ℕ) → DescribesAll script h (slice_get (slice_set tables place (without_task table number)) p)
+rows_left script h tables place number table here rows =
+    set_at (λ p o. DescribesAll script h o) (λ p o. DescribesAll script h o) tables place table (without_task table number) here rows
+    (All-filter (λ row. not (has_number number row)) (IsDescribed script h) table.live (subst (DescribesAll script h) here (rows place))) (λ p apart d. d)
+
+-- a mark changes nothing else of a row
+pub rows_marked : (script : Script) (h : List Event) (tables : List Table) (place number cancel : ℕ) (table : Table) → slice_get tables place ≡ Some table → ((p : ℕ) → DescribesAll script h (slice_get tables p))
+    → (p : ℕ) → DescribesAll script h (slice_get (slice_set tables place (with_mark table number cancel)) p)
+rows_marked script h tables place number cancel table here rows =
+    set_at (λ p o. DescribesAll script h o) (λ p o. DescribesAll script h o) tables place table (with_mark table number cancel) here rows
+    (All-map (IsDescribed script h) (marked number cancel) table.live (λ k row low. one (get_or table.live k row) (subst (DescribesAll script h) here (rows place) k row low))) (λ p apart d. d)
+  where
+    by_number : (b : Bool) (row : TaskInfo) → IsDescribed script h row → IsDescribed script h (cond b (record row { cancelled = Some cancel }) row)
+    by_number true row d = record { request = d.request; asked = d.asked; action = d.action; description = d.description; start = d.start; headers = d.headers }
+    by_number false row d = d
+
+    one : (row : TaskInfo) → IsDescribed script h row → IsDescribed script h (marked number cancel row)
+    one row d = by_number (has_number number row) row d

@@ -1,0 +1,40 @@
+-- What task lists show of the live tasks, as the world's tables say it.
+use Rattle.std.specs.Prelude.{◌≡◌, ℕ, ◌<◌, ◌^◌, List, Option, Some, None, All, slice_get, ⊤}
+use Rattle.std.specs.List.{AllByRecursion}
+use Rattle.task_ids.specs.declared.task_info.TaskInfo.{TaskInfo}
+use Rattle.task_table.specs.Table.{Table}
+use Rattle.script_lang.specs.declared.command.Script.{Script}
+use Rattle.task_events.specs.declared.request.Request.{Request}
+use Rattle.task_events.specs.declared.event.Event.{Event}
+use Rattle.task_events.specs.Kinds.{action_of, description_of}
+use Rattle.task_events.specs.Steps.{request_of}
+use Rattle.task_events.specs.TaskRows.{clock, started_at, headers_of}
+use Rattle.command_roots.specs.Roots.{root_request, root_headers}
+use Rattle.world_moves.specs.declared.flight.Sent.{Sent}
+use Rattle.world_moves.specs.declared.flight.Sent.TheVariants as sent
+
+-- A row tells of its task what it does and works on, when it started, and what its request carried.
+pub record IsDescribed (script : Script) (h : List Event) (row : TaskInfo) : Type 0 where
+  pub request : Request
+  pub asked : request_of (root_request script) row.id h ≡ Some request
+  pub action : row.action ≡ action_of request
+  pub description : row.description ≡ description_of request
+  pub start : row.start_ms ≡ started_at row.id h
+  pub headers : row.headers ≡ headers_of (root_headers script) row.id h
+
+abbrev pub DescribesAll : Script → List Event → Option Table → Type 0
+DescribesAll script h None = ⊤
+DescribesAll script h (Some table) = All (IsDescribed script h) table.live
+
+-- a request in flight carries what that of the asking task did
+abbrev pub Carries : Script → List Event → Sent → Type 0
+Carries script h (sent.Request token to at headers) = headers ≡ headers_of (root_headers script) token.parent h
+Carries script h _ = ⊤
+
+-- The rows tell it of all live tasks, the requests in flight of those that will be, and the world knows the moment.
+pub record Describing (script : Script) (h : List Event) (tables : List Table) (flight : List Sent) (now : ℕ) : Type 0 where
+  pub rows_are : (place : ℕ) → DescribesAll script h (slice_get tables place)
+  pub carried : AllByRecursion (Carries script h) flight
+  pub clock_is : now ≡ clock h
+  -- no command moves the clock yet
+  pub clock_low : now < 2 ^ 43

@@ -1,0 +1,94 @@
+//! The live tasks as a task list shows them.
+
+ghost use Rattle.std.specs.Prelude.{◌≡◌, ◌∷◌, [], ◌++◌, map, IfOk, IfErr, OnOk, if◌then◌else◌};
+ghost use Rattle.std.specs.List.{flat_map};
+ghost use Rattle.command_roots.specs.Roots.{rows_of};
+ghost use Rattle.tasks_api.specs.Filters.{filter_matches};
+ghost use Rattle.tasks_api.specs.Lists.{shown};
+ghost use Rattle.world_moves.specs.Cancels.{targets};
+ghost use Rattle.world_moves.specs.Ties.{IsTied};
+
+use crate::state::State;
+use std::alloc::{AllocError, Global};
+use task_events::Stop;
+use task_ids::{TaskId, TaskInfo};
+use task_table::TaskTable;
+use tasks_api::Filter;
+
+/// Adds copies of the rows of one node that a filter lets through.
+fn add_rows(found: &mut Vec<TaskInfo>, rows: &[TaskInfo], wanted: &Filter) -> Result<(), AllocError>
+    ensures { OnOk result (found.new.items ≡ found.old.items ++ shown wanted.now rows.now) }
+{
+    for row in rows {
+        if wanted.matches(row) {
+            found.push(row.copy()?)?;
+        }
+    }
+    Ok(())
+}
+
+/// Adds the ids of the rows of one node that a filter lets through.
+fn add_ids(found: &mut Vec<TaskId>, rows: &[TaskInfo], wanted: &Filter) -> Result<(), AllocError>
+    ensures { OnOk result (found.new.items ≡ found.old.items ++ map (λ row. row.id) (shown wanted.now rows.now)) }
+{
+    for row in rows {
+        if wanted.matches(row) {
+            found.push(row.id)?;
+        }
+    }
+    Ok(())
+}
+
+/// The rows of all tables that a filter lets through, copied.
+fn rows_in(
+    alloc: Global,
+    tables: &[TaskTable],
+    wanted: &Filter,
+) -> Result<Vec<TaskInfo>, AllocError>
+    ensures { IfOk result (λ rows. rows.items ≡ flat_map (λ table. shown wanted.now table.live) tables.now) }
+{
+    let mut found = Vec::new(alloc);
+    for table in tables {
+        add_rows(&mut found, table.live(), wanted)?;
+    }
+    Ok(found)
+}
+
+/// Their ids.
+fn ids_in(
+    alloc: Global,
+    tables: &[TaskTable],
+    wanted: &Filter,
+) -> Result<Vec<TaskId>, AllocError>
+    ensures { IfOk result (λ ids. ids.items ≡ flat_map (λ table. map (λ row. row.id) (shown wanted.now table.live)) tables.now) }
+{
+    let mut found = Vec::new(alloc);
+    for table in tables {
+        add_ids(&mut found, table.live(), wanted)?;
+    }
+    Ok(found)
+}
+
+/// Copies of the rows of the live tasks that a filter lets through, by ascending id. It fails only for want of memory (`Memory`).
+pub fn rows(state: &State<'_>, wanted: &Filter) -> Result<Vec<TaskInfo>, Stop>
+    requires tied { IsTied state.now }
+    ensures rows { IfOk result (λ rows. rows.items ≡ shown wanted.now (rows_of state.now.cluster state.now.script.now state.now.history)) }
+    ensures memory { IfErr result (λ stop. stop ≡ Stop.Memory) }
+{
+    match rows_in(state.alloc, state.tables.as_slice(), wanted) {
+        Ok(rows) => Ok(rows),
+        Err(_) => Err(Stop::Memory),
+    }
+}
+
+/// The live tasks that a filter lets through, by ascending id. It fails only for want of memory (`Memory`).
+pub fn matching(state: &State<'_>, wanted: &Filter) -> Result<Vec<TaskId>, Stop>
+    requires tied { IsTied state.now }
+    ensures ids { IfOk result (λ ids. ids.items ≡ targets state.now.cluster state.now.script.now wanted.now state.now.history) }
+    ensures memory { IfErr result (λ stop. stop ≡ Stop.Memory) }
+{
+    match ids_in(state.alloc, state.tables.as_slice(), wanted) {
+        Ok(ids) => Ok(ids),
+        Err(_) => Err(Stop::Memory),
+    }
+}
