@@ -1,11 +1,11 @@
 -- The commands of a script that is read fit a cluster and one another, and are not too many.
-use Rattle.std.proofs.Common.{◌≡◌, ℕ, suc, ◌+◌, ◌≤◌, ◌<◌, List, [], ◌∷◌, ◌++◌, length, take, length-take, Bool, true, false, ◌&&◌, cond, eqb, codes, Option, Some, None, option_map, option_and_then, Ok, Err, refl, sym, ap, ◌∙◌, subst, append_assoc, arith}
+use Rattle.std.proofs.Common.{◌≡◌, ℕ, suc, ◌+◌, ◌≤◌, ◌<◌, List, [], ◌∷◌, ◌++◌, length, take, length-take, Bool, true, false, ◌&&◌, cond, eqb, codes, Option, Some, None, option_map, option_and_then, Result, Ok, Err, refl, sym, ap, ◌∙◌, subst, append_assoc, arith}
 use Rattle.std.proofs.lemmas.List.{append-nil, length-append}
 use Rattle.std.specs.List.{position_from}
 use Rattle.std.specs.Option.{ok_or}
 use Rattle.std.specs.Prelude.{nat_le}
 use Rattle.std.specs.Str.{bytes_eq}
-use Rattle.serde_json.specs.Data.{Data}
+use Rattle.serde_json.specs.Data.{Data, Members}
 use Rattle.serde_json.specs.Find.{get_member, as_number, as_u64}
 use Rattle.shard_docs.specs.Fault.{and_then, on_line}
 use Rattle.shard_docs.specs.Json.{whole_json_of}
@@ -15,16 +15,18 @@ use Rattle.task_ids.specs.declared.cause.Cause.TheVariants.{TooManyLines, Unknow
 use Rattle.script_lang.specs.declared.command.CancelTarget.{CancelTarget}
 use Rattle.script_lang.specs.declared.command.CancelTarget.TheVariants as targets
 use Rattle.script_lang.specs.declared.command.Command.{Command}
-use Rattle.script_lang.specs.declared.command.Command.TheVariants.{Search, Cancel, Deliver, Step, ListStep, Settle, History}
+use Rattle.script_lang.specs.declared.command.Command.TheVariants.{Search, Cancel, ListTasks, Deliver, Step, ListStep, Settle, History}
 use Rattle.script_lang.specs.declared.command.Mode.{Mode}
 use Rattle.script_lang.specs.declared.kind.Kind.{Kind}
 use Rattle.script_lang.specs.declared.kind.Kind.TheVariants as kinds
-use Rattle.script_lang.specs.Commands.{search_fields, built_search_fields, search_parts, search_in, cancel_fields, built_cancel_fields, cancel_parts, cancel_in, list_step_fields, list_step_in, command_of_kind, only_member, is_run, command_in}
-use Rattle.script_lang.specs.Fields.{both, fields_of, text_of, node_in, node_or_first, task_in, starts_at, started_at, number_in, truth_in, reference_in, target_in}
+use Rattle.script_lang.specs.Commands.{search_fields, built_search_fields, search_in, cancel_fields, cancel_in, list_fields, list_in, list_step_fields, list_step_in, command_of_kind, only_member, is_run, command_in}
+use Rattle.script_lang.specs.Fields.{both, fields_of, text_of, text_or, optional_text, node_in, node_or_first, task_in, group_or_nodes, flag_or_false, body_in, number_in, truth_in}
+use Rattle.script_lang.specs.Filters.{has_filter, filter_in}
 use Rattle.script_lang.specs.Fits.{IsNodeOf, NamesStart, Fits, AllFit}
 use Rattle.script_lang.specs.Kinds.{kind_named, is_schedule}
 use Rattle.script_lang.specs.Names.{node_names, node_of}
 use Rattle.script_lang.specs.Script.{max_commands, command_of, commands_of}
+use Rattle.script_lang.specs.Targets.{starts_at, started_at, reference_in, target_of, target_in}
 use Rattle.script_lang.proofs.FieldLemmas.{both_first, both_second, first_ok}
 
 -- ---- nodes
@@ -76,41 +78,63 @@ and_some : (found : Option ℕ) (f : ℕ → Option ℕ) (n : ℕ) → option_an
 and_some None f n e = cc
 and_some (Some k) f n e = (k, e)
 
-target_fits : (before : List Command) (task command : Option Data) (target : CancelTarget) → target_in before task command ≡ Ok target → NamesStart before target
-unfolding target_in reference_in
-target_fits before None None target e = cc
-target_fits before (Some task) None target e =
-    let id = first_ok (task_in (Some task)) _ target e in
+is_alone : {A : Type 0} (beside : Bool) (found : Result A Cause) (x : A) → cond beside (Err BadField) found ≡ Ok x → found ≡ Ok x
+is_alone true found x e = cc
+is_alone false found x e = e
+
+target_of_fits : (before : List Command) (fields : Members) (task command : Option Data) (target : CancelTarget) → target_of before fields task command ≡ Ok target → NamesStart before target
+unfolding reference_in
+target_of_fits before fields None None target e =
+    let filter = first_ok (filter_in fields) _ target e in
+    let same : targets.Matching filter.0 ≡ target = cc (filter.2) in
+    subst (NamesStart before) same tt
+target_of_fits before fields (Some task) None target e =
+    let id = first_ok (task_in (Some task)) _ target (is_alone (has_filter fields) _ target e) in
     let same : targets.Task id.0 ≡ target = cc (id.2) in
     subst (NamesStart before) same tt
-target_fits before None (Some command) target e =
-    let number = first_ok (reference_in before command) _ target e in
+target_of_fits before fields None (Some command) target e =
+    let number = first_ok (reference_in before command) _ target (is_alone (has_filter fields) _ target e) in
     let read = first_ok (ok_or (as_number command) BadField) _ number.0 number.1 in
     let at = and_some (as_u64 read.0) (started_at before) number.0 (some_of_ok _ BadReference number.0 read.2) in
     let same : targets.Command number.0 ≡ target = cc (number.2) in
     subst (NamesStart before) same (started_is before at.0 number.0 at.1)
-target_fits before (Some task) (Some command) target e = cc
+target_of_fits before fields (Some task) (Some command) target e = cc
+
+target_fits : (before : List Command) (fields : Members) (target : CancelTarget) → target_in before fields ≡ Ok target → NamesStart before target
+unfolding target_in
+target_fits before fields target e = target_of_fits before fields _ _ target e
 
 -- ---- commands
 
 module _ (nodes : ℕ) (some : 1 ≤ nodes) (before : List Command) where
+  with_node : (index : List ℕ) (node : ℕ) (body : Data) (opaque_id : Option (List ℕ)) (command : Command) → Search index node body opaque_id ≡ command → IsNodeOf nodes node → Fits nodes before command
+  with_node index node body opaque_id command same fits = subst (Fits nodes before) same fits
+
   search_fits : (value : Data) (command : Command) → search_in nodes value ≡ Ok command → Fits nodes before command
-  unfolding search_in search_parts
+  unfolding search_in
   search_fits value command e =
-      let found = first_ok (search_parts nodes value) _ command e in
-      let parts = first_ok (fields_of search_fields built_search_fields value) _ found.0 found.1 in
-      let same : Search found.0.0 found.0.1.0 found.0.1.1 None ≡ command = cc (found.2) in
-      let node = both_first _ _ found.0.1 (both_second _ _ found.0 parts.2) in
-      subst (Fits nodes before) same (node_or_first_fits nodes (get_member (codes "node") parts.0) found.0.1.0 some node)
+      let parts = first_ok (fields_of search_fields built_search_fields value) _ command e in
+      let found = first_ok (both (text_of (get_member (codes "index") parts.0)) (both (node_or_first nodes (get_member (codes "node") parts.0)) (both (body_in (get_member (codes "body") parts.0)) (optional_text (get_member (codes "opaque_id") parts.0))))) _ command parts.2 in
+      let same : Search found.0.0 found.0.1.0 found.0.1.1.0 found.0.1.1.1 ≡ command = cc (found.2) in
+      let node = both_first _ _ found.0.1 (both_second _ _ found.0 found.1) in
+      with_node found.0.0 found.0.1.0 found.0.1.1.0 found.0.1.1.1 command same (node_or_first_fits nodes (get_member (codes "node") parts.0) found.0.1.0 some node)
 
   cancel_fits : (value : Data) (command : Command) → cancel_in before value ≡ Ok command → Fits nodes before command
-  unfolding cancel_in cancel_parts
+  unfolding cancel_in
   cancel_fits value command e =
-      let found = first_ok (cancel_parts before value) _ command e in
-      let parts = first_ok (fields_of cancel_fields built_cancel_fields value) _ found.0 found.1 in
+      let parts = first_ok (fields_of cancel_fields cancel_fields value) _ command e in
+      let found = first_ok (both (target_in before parts.0) (both (text_or (codes "by user request") (get_member (codes "reason") parts.0)) (flag_or_false (get_member (codes "wait_for_completion") parts.0)))) _ command parts.2 in
       let same : Cancel found.0.0 found.0.1.0 found.0.1.1 ≡ command = cc (found.2) in
-      let target = both_first _ _ found.0 parts.2 in
-      subst (Fits nodes before) same (target_fits before (get_member (codes "task_id") parts.0) (get_member (codes "command") parts.0) found.0.0 target)
+      let target = both_first _ _ found.0 found.1 in
+      subst (Fits nodes before) same (target_fits before parts.0 found.0.0 target)
+
+  list_fits : (value : Data) (command : Command) → list_in value ≡ Ok command → Fits nodes before command
+  unfolding list_in
+  list_fits value command e =
+      let parts = first_ok (fields_of list_fields list_fields value) _ command e in
+      let found = first_ok (both (filter_in parts.0) (both (group_or_nodes (get_member (codes "group_by") parts.0)) (flag_or_false (get_member (codes "detailed") parts.0)))) _ command parts.2 in
+      let same : ListTasks found.0.0 found.0.1.0 found.0.1.1 ≡ command = cc (found.2) in
+      subst (Fits nodes before) same tt
 
   list_step_fits : (value : Data) (command : Command) → list_step_in nodes value ≡ Ok command → Fits nodes before command
   unfolding list_step_in
@@ -124,6 +148,7 @@ module _ (nodes : ℕ) (some : 1 ≤ nodes) (before : List Command) where
   of_kind_fits : (kind : Kind) (value : Data) (command : Command) → command_of_kind nodes before kind value ≡ Ok command → Fits nodes before command
   of_kind_fits kinds.Search value command e = search_fits value command e
   of_kind_fits kinds.Cancel value command e = cancel_fits value command e
+  of_kind_fits kinds.ListTasks value command e = list_fits value command e
   of_kind_fits kinds.ListStep value command e = list_step_fits value command e
   of_kind_fits kinds.Deliver value command e =
       let found = first_ok (number_in value) _ command e in

@@ -11,9 +11,10 @@ use Rattle.shard_docs.proofs.FloatLemmas.{found_whole}
 use Rattle.shard_docs.specs.Fault.{and_then}
 use Rattle.task_ids.specs.Source.{IsSource}
 use Rattle.task_ids.specs.declared.cause.Cause.TheVariants.{BadField, UnknownField, NotBuilt}
-use Rattle.script_lang.specs.Fields.{are_among, expects, fields_of, body_in}
-use Rattle.script_lang.specs.Commands.{search_fields, built_search_fields, search_parts}
-use Rattle.script_lang.proofs.FieldLemmas.{both_second, first_ok}
+use Rattle.script_lang.specs.declared.command.Command.TheVariants.{Search}
+use Rattle.script_lang.specs.Fields.{both, are_among, expects, fields_of, text_of, optional_text, node_or_first, body_in}
+use Rattle.script_lang.specs.Commands.{search_fields, built_search_fields, search_in}
+use Rattle.script_lang.proofs.FieldLemmas.{both_first, both_second, first_ok}
 
 -- a member nests no deeper than the members
 member_depth : (key : List ℕ) (ms : Members) (found : Data) → get_member key ms ≡ Some found → depth found ≤ members_depth ms
@@ -64,13 +65,16 @@ body_found (Some value) body found e =
     subst IsSource is.1 (record { is_object = is.0; is_whole = within.0; nests = within.1 })
 
 -- the body of a search is a source, where the search is of whole numbers and nests no deeper than 127
-pub body_is_source : (nodes : ℕ) (value : Data) (found : List ℕ × (ℕ × Data)) → has_float value ≡ false → depth value ≤ max_depth → search_parts nodes value ≡ Ok found → IsSource found.1.1
-unfolding search_parts
-body_is_source nodes value found whole nests e =
-    let step = first_ok (fields_of search_fields built_search_fields value) _ found e in
+pub body_is_source : (nodes : ℕ) (value : Data) (index : List ℕ) (node : ℕ) (body : Data) (opaque_id : Option (List ℕ)) → has_float value ≡ false → depth value ≤ max_depth
+    → search_in nodes value ≡ Ok (Search index node body opaque_id) → IsSource body
+unfolding search_in
+body_is_source nodes value index node body opaque_id whole nests e =
+    let step = first_ok (fields_of search_fields built_search_fields value) _ (Search index node body opaque_id) e in
     let is : value ≡ object step.0 = fields_are search_fields built_search_fields value step.0 step.1 in
     let below : depth (object step.0) ≤ max_depth = subst (λ d. depth d ≤ max_depth) is nests in
-    let body = both_second _ _ found.1 (both_second _ _ found step.2) in
-    body_found (get_member (codes "body") step.0) found.1.1 (λ d at.
+    let found = first_ok (both (text_of (get_member (codes "index") step.0)) (both (node_or_first nodes (get_member (codes "node") step.0)) (both (body_in (get_member (codes "body") step.0)) (optional_text (get_member (codes "opaque_id") step.0))))) _ (Search index node body opaque_id) step.2 in
+    let same : found.0.1.1.0 ≡ body = cc (found.2) in
+    let at = both_first _ _ found.0.1.1 (both_second _ _ found.0.1 (both_second _ _ found.0 found.1)) in
+    subst IsSource same (body_found (get_member (codes "body") step.0) found.0.1.1.0 (λ d at.
     let inside = member_depth (codes "body") step.0 d at in
-    (found_whole (codes "body") (object step.0) d (subst (λ d. has_float d ≡ false) is whole) at, omega arith)) body
+    (found_whole (codes "body") (object step.0) d (subst (λ d. has_float d ≡ false) is whole) at, omega arith)) at)

@@ -6,56 +6,56 @@ use Rattle.serde_json.specs.Find.{get_member, as_object}
 use Rattle.task_ids.specs.declared.cause.Cause.{Cause}
 use Rattle.task_ids.specs.declared.cause.Cause.TheVariants.{NotObject, ScheduleLineInRun}
 use Rattle.shard_docs.specs.Fault.{◌>>=◌}
-use Rattle.script_lang.specs.declared.command.CancelTarget.{CancelTarget}
 use Rattle.script_lang.specs.declared.command.Command.{Command}
-use Rattle.script_lang.specs.declared.command.Command.TheVariants.{Search, Cancel, Deliver, Step, ListStep, Settle, History}
+use Rattle.script_lang.specs.declared.command.Command.TheVariants.{Search, Cancel, ListTasks, Deliver, Step, ListStep, Settle, History}
 use Rattle.script_lang.specs.declared.command.Mode.{Mode}
 use Rattle.script_lang.specs.declared.command.Mode.TheVariants.{Sim, Run}
 use Rattle.script_lang.specs.declared.kind.Kind.{Kind}
 use Rattle.script_lang.specs.declared.kind.Kind.TheVariants as kinds
-use Rattle.script_lang.specs.Fields.{both, fields_of, text_of, text_or, node_in, node_or_first, task_in, flag_or_false, body_in, number_in, truth_in, target_in}
+use Rattle.script_lang.specs.Fields.{both, fields_of, text_of, text_or, optional_text, node_in, node_or_first, task_in, group_or_nodes, flag_or_false, body_in, number_in, truth_in}
+use Rattle.script_lang.specs.Filters.{filter_in}
 use Rattle.script_lang.specs.Kinds.{kind_named, is_schedule}
+use Rattle.script_lang.specs.Targets.{target_in}
 
 -- ---- the fields of the commands: those that there are, and those that are built
 
 abbrev pub built_search_fields : List (List ℕ)
-built_search_fields = codes "index" ∷ codes "node" ∷ codes "body" ∷ []
+built_search_fields = codes "index" ∷ codes "node" ∷ codes "body" ∷ codes "opaque_id" ∷ []
 
 abbrev pub search_fields : List (List ℕ)
 search_fields = codes "index" ∷ codes "node" ∷ codes "body" ∷ codes "scroll" ∷ codes "opaque_id" ∷ []
 
-abbrev pub built_cancel_fields : List (List ℕ)
-built_cancel_fields = codes "task_id" ∷ codes "command" ∷ codes "reason" ∷ codes "wait_for_completion" ∷ []
-
 abbrev pub cancel_fields : List (List ℕ)
 cancel_fields = codes "task_id" ∷ codes "command" ∷ codes "reason" ∷ codes "wait_for_completion" ∷ codes "actions" ∷ codes "nodes" ∷ codes "parent_task_id" ∷ []
+
+abbrev pub list_fields : List (List ℕ)
+list_fields = codes "group_by" ∷ codes "actions" ∷ codes "nodes" ∷ codes "parent_task_id" ∷ codes "detailed" ∷ []
 
 abbrev pub list_step_fields : List (List ℕ)
 list_step_fields = codes "node" ∷ codes "parent" ∷ []
 
 -- ---- the commands
 
--- the index, the node and the body of a search on a cluster of so many nodes
-unfoldable pub search_parts : ℕ → Data → Result (List ℕ × (ℕ × Data)) Cause
-search_parts nodes value = do
-  fields ← fields_of search_fields built_search_fields value
-  both (text_of (get_member (codes "index") fields)) (both (node_or_first nodes (get_member (codes "node") fields)) (body_in (get_member (codes "body") fields)))
-
+-- a search on a cluster of so many nodes
 unfoldable pub search_in : ℕ → Data → Result Command Cause
 search_in nodes value = do
-  found ← search_parts nodes value
-  Ok (Search found.0 found.1.0 found.1.1 None)
+  fields ← fields_of search_fields built_search_fields value
+  found ← both (text_of (get_member (codes "index") fields)) (both (node_or_first nodes (get_member (codes "node") fields)) (both (body_in (get_member (codes "body") fields)) (optional_text (get_member (codes "opaque_id") fields))))
+  Ok (Search found.0 found.1.0 found.1.1.0 found.1.1.1)
 
--- what a cancel after some commands names, its reason, and whether it waits
-unfoldable pub cancel_parts : List Command → Data → Result (CancelTarget × (List ℕ × Bool)) Cause
-cancel_parts before value = do
-  fields ← fields_of cancel_fields built_cancel_fields value
-  both (target_in before (get_member (codes "task_id") fields) (get_member (codes "command") fields)) (both (text_or (codes "by user request") (get_member (codes "reason") fields)) (flag_or_false (get_member (codes "wait_for_completion") fields)))
-
+-- a cancel after some commands
 unfoldable pub cancel_in : List Command → Data → Result Command Cause
 cancel_in before value = do
-  found ← cancel_parts before value
+  fields ← fields_of cancel_fields cancel_fields value
+  found ← both (target_in before fields) (both (text_or (codes "by user request") (get_member (codes "reason") fields)) (flag_or_false (get_member (codes "wait_for_completion") fields)))
   Ok (Cancel found.0 found.1.0 found.1.1)
+
+-- a list of tasks
+unfoldable pub list_in : Data → Result Command Cause
+list_in value = do
+  fields ← fields_of list_fields list_fields value
+  found ← both (filter_in fields) (both (group_or_nodes (get_member (codes "group_by") fields)) (flag_or_false (get_member (codes "detailed") fields)))
+  Ok (ListTasks found.0 found.1.0 found.1.1)
 
 -- a step of a listing on a cluster of so many nodes
 unfoldable pub list_step_in : ℕ → Data → Result Command Cause
@@ -68,6 +68,7 @@ list_step_in nodes value = do
 abbrev pub command_of_kind : ℕ → List Command → Kind → Data → Result Command Cause
 command_of_kind nodes before kinds.Search value = search_in nodes value
 command_of_kind nodes before kinds.Cancel value = cancel_in before value
+command_of_kind nodes before kinds.ListTasks value = list_in value
 command_of_kind nodes before kinds.Deliver value = number_in value >>= λ nth. Ok (Deliver nth)
 command_of_kind nodes before kinds.Step value = task_in (Some value) >>= λ task. Ok (Step task)
 command_of_kind nodes before kinds.ListStep value = list_step_in nodes value

@@ -1,17 +1,15 @@
 -- The fields of a command: each is read for itself, and the earliest of the causes counts, wherever it stands in the line.
-use Rattle.std.specs.Prelude.{ℕ, zero, suc, List, Bool, true, false, Option, Some, None, option_and_then, is_some, Result, Ok, Err, nat_lt, if◌then◌else◌, slice_get}
-use Rattle.std.specs.Option.{ok_or, option_map_or}
+use Rattle.std.specs.Prelude.{ℕ, List, Bool, true, false, Option, Some, None, option_and_then, is_some, Result, Ok, Err, nat_lt, if◌then◌else◌}
+use Rattle.std.specs.Option.{ok_or}
 use Rattle.serde_json.specs.Data.{Data, object, Members, no_members, member}
 use Rattle.serde_json.specs.Find.{as_object, as_str, as_bool, as_number, as_u64}
 use Rattle.task_ids.specs.declared.cause.Cause.{Cause}
 use Rattle.task_ids.specs.declared.cause.Cause.TheVariants.{TooLong, TooManyLines, LineTooLong, NoSource, BadUtf8, BadJson, NotWhole, NotObject, UnknownAction, BadAction, Conflict, UnknownCommand, ScheduleLineInRun, UnknownField, NotBuilt, BadField, BadTaskId, UnknownNode, BadReference, NotWaitable}
 use Rattle.task_ids.specs.declared.task_id.TaskId.{TaskId}
 use Rattle.shard_docs.specs.Fault.{◌>>=◌}
-use Rattle.script_lang.specs.declared.command.CancelTarget.{CancelTarget}
-use Rattle.script_lang.specs.declared.command.CancelTarget.TheVariants as targets
-use Rattle.script_lang.specs.declared.command.Command.{Command}
-use Rattle.script_lang.specs.declared.command.Command.TheVariants.{Search, Cancel, ListTasks, Deliver, Step, ListStep, Settle, History}
-use Rattle.script_lang.specs.Names.{task_id_of, is_one_of, node_of}
+use Rattle.tasks_api.specs.declared.list.GroupBy.{GroupBy}
+use Rattle.tasks_api.specs.declared.list.GroupBy.TheVariants.{Nodes}
+use Rattle.script_lang.specs.Names.{task_id_of, is_one_of, node_of, group_named}
 
 -- ---- which cause counts
 
@@ -81,6 +79,10 @@ abbrev pub text_or : List ℕ → Option Data → Result (List ℕ) Cause
 text_or default None = Ok default
 text_or default (Some value) = text_of (Some value)
 
+abbrev pub optional_text : Option Data → Result (Option (List ℕ)) Cause
+optional_text None = Ok None
+optional_text (Some value) = text_of (Some value) >>= λ text. Ok (Some text)
+
 -- the name of a node, of so many
 unfoldable pub node_in : ℕ → Option Data → Result ℕ Cause
 node_in nodes field = do
@@ -96,6 +98,15 @@ unfoldable pub task_in : Option Data → Result TaskId Cause
 task_in field = do
   text ← text_of field
   ok_or (task_id_of text) BadTaskId
+
+abbrev pub optional_task : Option Data → Result (Option TaskId) Cause
+optional_task None = Ok None
+optional_task (Some value) = task_in (Some value) >>= λ task. Ok (Some task)
+
+-- how a list is grouped
+abbrev pub group_or_nodes : Option Data → Result GroupBy Cause
+group_or_nodes None = Ok Nodes
+group_or_nodes (Some value) = text_of (Some value) >>= λ name. ok_or (group_named name) BadField
 
 abbrev pub flag_or_false : Option Data → Result Bool Cause
 flag_or_false None = Ok false
@@ -122,40 +133,3 @@ truth_of None = Err BadField
 
 abbrev pub truth_in : Data → Result (Unit {0}) Cause
 truth_in value = truth_of (as_bool value)
-
--- ---- what a cancel names
-
-abbrev pub starts_task : Command → Bool
-starts_task (Search index node body opaque_id) = true
-starts_task (Cancel target reason wait) = false
-starts_task (ListTasks filter group detailed) = false
-starts_task (Deliver nth) = false
-starts_task (Step task) = false
-starts_task (ListStep node parent) = false
-starts_task Settle = false
-starts_task History = false
-
--- one of the commands has this number, from 1, and starts a task
-abbrev pub starts_at : List Command → ℕ → Bool
-starts_at commands zero = false
-starts_at commands (suc place) = option_map_or starts_task (slice_get commands place) false
-
-abbrev pub started_at : List Command → ℕ → Option ℕ
-started_at before number = if starts_at before number then Some number else None
-
--- the number of an earlier command that starts a task
-unfoldable pub reference_in : List Command → Data → Result ℕ Cause
-reference_in before value = do
-  number ← ok_or (as_number value) BadField
-  ok_or (option_and_then (started_at before) (as_u64 number)) BadReference
-
--- a task id or an earlier command; it is not built yet to name neither
-unfoldable pub target_in : List Command → Option Data → Option Data → Result CancelTarget Cause
-target_in before None None = Err NotBuilt
-target_in before (Some task) None = do
-  id ← task_in (Some task)
-  Ok (targets.Task id)
-target_in before None (Some command) = do
-  number ← reference_in before command
-  Ok (targets.Command number)
-target_in before (Some task) (Some command) = Err BadField

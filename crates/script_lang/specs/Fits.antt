@@ -4,7 +4,7 @@ use Rattle.script_lang.specs.declared.command.CancelTarget.{CancelTarget}
 use Rattle.script_lang.specs.declared.command.CancelTarget.TheVariants as targets
 use Rattle.script_lang.specs.declared.command.Command.{Command}
 use Rattle.script_lang.specs.declared.command.Command.TheVariants.{Search, Cancel, ListTasks, Deliver, Step, ListStep, Settle, History}
-use Rattle.script_lang.specs.Fields.{starts_at}
+use Rattle.script_lang.specs.Targets.{starts_at}
 
 -- a node of a cluster of so many
 abbrev pub IsNodeOf : ℕ → ℕ → Type 0

@@ -1,8 +1,11 @@
 pub mod Answers
 pub mod Commands
 pub mod Fields
+pub mod Filters
 pub mod Fits
 pub mod Kinds
 pub mod Names
 pub mod Script
+pub mod Seen
 pub mod Spelled
+pub mod Targets

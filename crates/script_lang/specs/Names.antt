@@ -1,9 +1,11 @@
--- The names of tasks and nodes.
-use Rattle.std.specs.Prelude.{ℕ, suc, Bool, List, [], ◌∷◌, Option, Some, None, codes, take, is_some, option_map}
+-- The names of tasks, nodes and ways of grouping.
+use Rattle.std.specs.Prelude.{ℕ, suc, Bool, List, [], ◌∷◌, Option, Some, None, codes, take, is_some, option_map, if◌then◌else◌}
 use Rattle.std.specs.List.{position_from}
 use Rattle.std.specs.Str.{bytes_eq}
 use Rattle.std.proofs.Common.{inl, inr}
 use Rattle.task_ids.specs.declared.task_id.TaskId.{TaskId}
+use Rattle.tasks_api.specs.declared.list.GroupBy.{GroupBy}
+use Rattle.tasks_api.specs.declared.list.GroupBy.TheVariants as groups
 use Rattle.script_lang.specs.Spelled.{spelled}
 
 -- the id that a text spells, if there is one
@@ -25,3 +27,10 @@ is_one_of name names = is_some (place_among name names)
 -- the node that a text names, of so many
 unfoldable pub node_of : ℕ → List ℕ → Option ℕ
 node_of nodes text = option_map suc (place_among text (take nodes node_names))
+
+-- the way of grouping that a text names
+abbrev pub group_named : List ℕ → Option GroupBy
+group_named name =
+    if bytes_eq name (codes "nodes") then Some groups.Nodes else
+    (if bytes_eq name (codes "parents") then Some groups.Parents else
+    (if bytes_eq name (codes "none") then Some groups.None else None))

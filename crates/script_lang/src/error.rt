@@ -81,3 +81,14 @@ impl From<AllocError> for CommandError {
         CommandError::Memory
     }
 }
+
+impl<T: Drop> From<AllocFailed<T>> for CommandError {
+    ghost use Rattle.script_lang.specs.declared.error.CommandError.TheVariants.{Memory};
+    ghost use Rattle.std.specs.Prelude.{◌≡◌};
+
+    ghost from_gives = { λ _ error. error ≡ Memory };
+
+    fn from(_refused: AllocFailed<T>) -> CommandError {
+        CommandError::Memory
+    }
+}

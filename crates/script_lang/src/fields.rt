@@ -1,15 +1,15 @@
 //! The fields of a command, each read for itself.
 
-ghost use Rattle.std.specs.Prelude.{◌≡◌, ◌<◌, ◌≤◌, ◌^◌, length, map, option_map};
+ghost use Rattle.std.specs.Prelude.{◌≡◌, ◌≤◌, map, option_map};
 ghost use Rattle.serde_json.specs.Find.{get_member};
 ghost use Rattle.serde_json.specs.View.{view, members_view};
 ghost use Rattle.script_lang.specs.Fields as spec;
 ghost use Rattle.script_lang.specs.Fields.{seen};
 
-use crate::command::{CancelTarget, Command};
-use crate::names::{is_one_of, node_of, task_id_of};
+use crate::names::{group_named, is_one_of, node_of, task_id_of};
 use serde_json::{Map, Value};
 use task_ids::{Cause, TaskId};
+use tasks_api::GroupBy;
 
 /// Where a cause stands in the order in which the causes of one line count.
 fn place_of(cause: Cause) -> u32
@@ -125,6 +125,17 @@ pub(crate) fn text_or<'v>(default: &'v str, value: Option<&'v Value>) -> Result<
     }
 }
 
+/// A text, if it is there.
+pub(crate) fn optional_text(value: Option<&Value>) -> Result<Option<&str>, Cause>
+    ensures { seen (λ found. option_map (λ t. t.now) found) result
+        ≡ spec.optional_text (option_map (λ v. view v.now) value.entry) }
+{
+    match value {
+        None => Ok(None),
+        Some(_) => Ok(Some(text_of(value)?)),
+    }
+}
+
 /// The name of a node, of so many.
 #[tactic(auto, unfolding(crate::specs::Fields::node_in))]
 pub(crate) fn node_in(nodes: u32, value: Option<&Value>) -> Result<u32, Cause>
@@ -156,6 +167,29 @@ pub(crate) fn task_in(value: Option<&Value>) -> Result<TaskId, Cause>
     match task_id_of(text_of(value)?) {
         Some(task) => Ok(task),
         None => Err(Cause::BadTaskId),
+    }
+}
+
+/// A task id, if it is there.
+pub(crate) fn optional_task(value: Option<&Value>) -> Result<Option<TaskId>, Cause>
+    ensures { result ≡ spec.optional_task (option_map (λ v. view v.now) value.entry) }
+{
+    match value {
+        None => Ok(None),
+        Some(_) => Ok(Some(task_in(value)?)),
+    }
+}
+
+/// How a list is grouped, or by nodes.
+pub(crate) fn group_or_nodes(value: Option<&Value>) -> Result<GroupBy, Cause>
+    ensures { result ≡ spec.group_or_nodes (option_map (λ v. view v.now) value.entry) }
+{
+    match value {
+        None => Ok(GroupBy::Nodes),
+        Some(_) => match group_named(text_of(value)?) {
+            Some(group) => Ok(group),
+            None => Err(Cause::BadField),
+        },
     }
 }
 
@@ -200,59 +234,5 @@ pub(crate) fn truth_in(value: &Value) -> Result<(), Cause>
     match value.as_bool() {
         Some(true) => Ok(()),
         _ => Err(Cause::BadField),
-    }
-}
-
-/// Whether a command starts a task.
-fn starts_task(command: &Command) -> bool
-    ensures { result ≡ spec.starts_task command.now }
-{
-    matches!(command, Command::Search { .. })
-}
-
-/// Whether one of the commands has this number, from 1, and starts a task.
-fn starts_at(commands: &[Command], number: u64) -> bool
-    ensures { result ≡ spec.starts_at commands.now number }
-{
-    let Some(place) = number.checked_sub(1) else {
-        return false;
-    };
-    match commands.get(place as usize) {
-        Some(command) => starts_task(command),
-        None => false,
-    }
-}
-
-/// The number of an earlier command that starts a task.
-#[tactic(auto, unfolding(crate::specs::Fields::reference_in))]
-fn reference_in(before: &[Command], value: &Value) -> Result<u32, Cause>
-    requires { length before.now < 2 ^ 32 }
-    ensures { result ≡ spec.reference_in before.now (view value.now) }
-{
-    if !value.is_number() {
-        return Err(Cause::BadField);
-    }
-    match value.as_u64() {
-        Some(number) if starts_at(before, number) => Ok(number as u32),
-        _ => Err(Cause::BadReference),
-    }
-}
-
-/// What a cancel names: a task id or an earlier command. It is not built yet to name neither.
-#[tactic(auto, unfolding(crate::specs::Fields::target_in))]
-pub(crate) fn target_in(
-    before: &[Command],
-    task: Option<&Value>,
-    command: Option<&Value>,
-) -> Result<CancelTarget, Cause>
-    requires { length before.now < 2 ^ 32 }
-    ensures { result ≡ spec.target_in before.now (option_map (λ v. view v.now) task.entry)
-        (option_map (λ v. view v.now) command.entry) }
-{
-    match (task, command) {
-        (None, None) => Err(Cause::NotBuilt),
-        (Some(_), None) => Ok(CancelTarget::Task(task_in(task)?)),
-        (None, Some(command)) => Ok(CancelTarget::Command(reference_in(before, command)?)),
-        (Some(_), Some(_)) => Err(Cause::BadField),
     }
 }

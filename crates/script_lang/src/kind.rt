@@ -5,11 +5,10 @@ use crate::names::is_one_of;
 use task_ids::Cause;
 
 /// The commands that are still to come.
-const LATER_COMMANDS: [&str; 8] = [
+const LATER_COMMANDS: [&str; 7] = [
     "scroll",
     "clear_scroll",
     "reindex",
-    "list",
     "tick",
     "wait_for",
     "summary",
@@ -21,6 +20,7 @@ const LATER_COMMANDS: [&str; 8] = [
 pub(crate) enum Kind {
     Search,
     Cancel,
+    ListTasks,
     Deliver,
     Step,
     ListStep,
@@ -36,6 +36,7 @@ impl Kind {
         match name {
             "search" => Ok(Kind::Search),
             "cancel" => Ok(Kind::Cancel),
+            "list" => Ok(Kind::ListTasks),
             "deliver" => Ok(Kind::Deliver),
             "step" => Ok(Kind::Step),
             "list_step" => Ok(Kind::ListStep),
@@ -51,7 +52,7 @@ impl Kind {
         ensures { result ≡ is_schedule self }
     {
         match self {
-            Kind::Search | Kind::Cancel => false,
+            Kind::Search | Kind::Cancel | Kind::ListTasks => false,
             Kind::Deliver | Kind::Step | Kind::ListStep | Kind::Settle | Kind::History => true,
         }
     }

@@ -1,13 +1,19 @@
 //! The script of an input: its commands, read exactly or refused at the first bad line.
 #![tactic(auto)]
 
+mod cancels;
 mod command;
 mod commands;
 mod error;
 mod fields;
+mod filters;
 mod kind;
+mod lists;
 mod names;
 mod script;
+mod searches;
+mod targets;
+mod texts;
 
 pub use command::{CancelTarget, Command, Mode, Script};
 pub use error::ScriptError;

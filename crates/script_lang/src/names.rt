@@ -1,9 +1,10 @@
-//! The names of tasks and nodes.
+//! The names of tasks, nodes and ways of grouping.
 
 ghost use Rattle.std.specs.Prelude.{◌≡◌, ◌<◌, ◌≤◌, length, map, IfSome};
-ghost use Rattle.script_lang.specs.Names.{task_id_of, place_among, is_one_of, node_of};
+ghost use Rattle.script_lang.specs.Names.{task_id_of, place_among, is_one_of, node_of, group_named};
 
 use task_ids::TaskId;
+use tasks_api::GroupBy;
 
 /// The task id that a text spells, if there is one.
 pub(crate) fn task_id_of(text: &str) -> Option<TaskId>
@@ -46,4 +47,16 @@ pub(crate) fn node_of(nodes: u32, text: &str) -> Option<u32>
 {
     let place = place_among(text, &NODE_NAMES[..nodes as usize])?;
     Some(place as u32 + 1)
+}
+
+/// The way of grouping that a text names.
+pub(crate) fn group_named(text: &str) -> Option<GroupBy>
+    ensures { result ≡ group_named text.now }
+{
+    match text {
+        "nodes" => Some(GroupBy::Nodes),
+        "parents" => Some(GroupBy::Parents),
+        "none" => Some(GroupBy::None),
+        _ => None,
+    }
 }

@@ -1,7 +1,0 @@
-use Rattle.std.proofs.Common.{sym}
-use Rattle.serde_json.specs.View.{view}
-use Rattle.script_lang.proofs.Sources.{body_is_source}
-use Rattle.script_lang.proofs.commands.search_in.Goals as goal
-
-pub body_from-requires : goal.body_from-requires
-body_from-requires c = body_is_source c.args.nodes (view c.args.value.now) _ c.requires.whole c.requires.nests (sym c.in_ok-index.ensures)

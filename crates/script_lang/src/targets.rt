@@ -1,0 +1,94 @@
+//! What a cancel names.
+
+ghost use Rattle.std.specs.Prelude.{◌≡◌, ◌<◌, ◌^◌, length, Ok};
+ghost use Rattle.serde_json.specs.View.{view, members_view};
+ghost use Rattle.script_lang.specs.Answers.{Reads};
+ghost use Rattle.script_lang.specs.Fields.{seen};
+ghost use Rattle.script_lang.specs.Seen.{target_seen};
+ghost use Rattle.script_lang.specs.Targets as spec;
+
+use crate::command::{CancelTarget, Command};
+use crate::error::CommandError;
+use crate::fields::{field, task_in};
+use crate::filters::{FilterParts, filter_from, filter_parts, has_filter};
+use serde_json::{Map, Value};
+use std::alloc::Global;
+use task_ids::{Cause, TaskId};
+
+/// What a cancel names, as its line says it.
+#[derive(Clone, Copy)]
+pub(crate) enum NamedTarget<'v> {
+    Task(TaskId),
+    Command(u32),
+    Matching(FilterParts<'v>),
+}
+
+/// Whether a command starts a task.
+fn starts_task(command: &Command) -> bool
+    ensures { result ≡ spec.starts_task command.now }
+{
+    matches!(command, Command::Search { .. })
+}
+
+/// Whether one of the commands has this number, from 1, and starts a task.
+fn starts_at(commands: &[Command], number: u64) -> bool
+    ensures { result ≡ spec.starts_at commands.now number }
+{
+    let Some(place) = number.checked_sub(1) else {
+        return false;
+    };
+    match commands.get(place as usize) {
+        Some(command) => starts_task(command),
+        None => false,
+    }
+}
+
+/// The number of an earlier command that starts a task.
+#[tactic(auto, unfolding(crate::specs::Targets::reference_in))]
+fn reference_in(before: &[Command], value: &Value) -> Result<u32, Cause>
+    requires { length before.now < 2 ^ 32 }
+    ensures { result ≡ spec.reference_in before.now (view value.now) }
+{
+    if !value.is_number() {
+        return Err(Cause::BadField);
+    }
+    match value.as_u64() {
+        Some(number) if starts_at(before, number) => Ok(number as u32),
+        _ => Err(Cause::BadReference),
+    }
+}
+
+/// What a cancel after some commands names: a task id, an earlier command, or where there is neither a filter. No two of
+/// these stand together.
+#[tactic(auto, unfolding(crate::specs::Targets::target_in))]
+pub(crate) fn target_in<'v>(
+    before: &[Command],
+    fields: &'v Map<String, Value>,
+) -> Result<NamedTarget<'v>, Cause>
+    requires { length before.now < 2 ^ 32 }
+    ensures { seen target_seen result ≡ spec.target_in before.now (members_view fields.now.entries) }
+{
+    let task = field(fields, "task_id");
+    match (task, field(fields, "command")) {
+        (None, None) => Ok(NamedTarget::Matching(filter_parts(fields)?)),
+        (Some(_), None) if !has_filter(fields) => Ok(NamedTarget::Task(task_in(task)?)),
+        (None, Some(command)) if !has_filter(fields) => {
+            Ok(NamedTarget::Command(reference_in(before, command)?))
+        }
+        _ => Err(Cause::BadField),
+    }
+}
+
+/// The target of a cancel.
+pub(crate) fn target_from(
+    alloc: Global,
+    named: NamedTarget<'_>,
+) -> Result<CancelTarget, CommandError>
+    ensures { Reads (λ target. target) result (Ok (target_seen named.entry)) }
+{
+    match named {
+        NamedTarget::Task(task) => Ok(CancelTarget::Task(task)),
+        NamedTarget::Command(number) => Ok(CancelTarget::Command(number)),
+        NamedTarget::Matching(filter) => Ok(CancelTarget::Matching(filter_from(alloc, filter)?)),
+    }
+}
