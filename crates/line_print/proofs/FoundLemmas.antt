@@ -1,14 +1,15 @@
--- Why a line of a schedule made nothing happen, as the caller of the printing found.
-use Rattle.std.proofs.Common.{◌≡◌, ℕ, ◌+◌, ◌-◌, ◌<◌, List, [], ◌∷◌, ◌++◌, length, get_or, drop, reverse, slice_get, Option, Some, None, unwrap_or, refl, sym, ap, ◌∙◌, add-zero, add-one, append_assoc, arith}
+-- What the lines tell of a note is what the caller of the printing noted.
+use Rattle.std.proofs.Common.{◌≡◌, ℕ, ◌+◌, ◌-◌, ◌<◌, List, [], ◌∷◌, ◌++◌, length, get_or, drop, reverse, slice_get, Option, Some, None, unwrap_or, option_and_then, refl, sym, ap, ◌∙◌, subst, add-zero, add-one, append_assoc, arith}
 use Rattle.std.proofs.lemmas.List.{reverse-reverse, drop_more}
 use Rattle.task_ids.specs.declared.cluster.Cluster.{Cluster}
 use Rattle.task_ids.specs.declared.corpus.Corpus.{Corpus}
 use Rattle.script_lang.specs.declared.command.Command.{Command}
-use Rattle.script_lang.specs.declared.command.Command.TheVariants.{Search, Cancel, Deliver, Step, ListStep, Settle, History}
+use Rattle.script_lang.specs.declared.command.Command.TheVariants.{Search, Cancel, ListTasks, Deliver, Step, ListStep, Settle, History}
+use Rattle.script_lang.specs.declared.command.Script.{Script}
 use Rattle.task_events.specs.declared.event.Event.{Event}
 use Rattle.task_events.specs.Turns.{events_of, history_before}
-use Rattle.line_print.specs.declared.idle.Idle.{Idle}
-use Rattle.line_print.specs.Lines.{moved_line, line_of, lines_from, idle_of, printed, printed_by, IsFound}
+use Rattle.line_print.specs.declared.note.Note.{Note}
+use Rattle.line_print.specs.Lines.{idle_error, idle_line, list_line, moved_line, line_of, lines_from, note_of, printed, printed_by, TellsNote, IsFound}
 
 -- the events in order, from the newest on
 turned : (events history : List Event) → events ≡ reverse history → reverse events ≡ history
@@ -22,35 +23,36 @@ same_lines f g k (command ∷ commands) h =
     ap (λ line. line ++ lines_from f (k + 1) commands) first
     ∙ ap (λ lines. g k command ++ lines) (same_lines f g (k + 1) commands (λ i next s. let e : k + (i + 1) ≡ k + 1 + i = omega arith in rw e at (h (i + 1) next (rw add-one s))))
 
-same_move : (script : List Command) (k : ℕ) (events : List Event) (idle other : Option Idle) → (events ≡ [] → idle ≡ other) → moved_line script k events idle ≡ moved_line script k events other
-same_move script k [] idle other h = ap (moved_line script k []) (h refl)
-same_move script k (e ∷ es) idle other h = refl
+same_move : (script : List Command) (k : ℕ) (events : List Event) (noted other : Option Note) → (events ≡ [] → noted ≡ other) → moved_line script k events noted ≡ moved_line script k events other
+same_move script k [] noted other h = ap (λ (n : Option Note). idle_line k (option_and_then idle_error n)) (h refl)
+same_move script k (e ∷ es) noted other h = refl
 
-same_line : (cluster : Cluster) (corpus : Corpus) (script : List Command) (history : List Event) (k : ℕ) (command : Command) (idle other : Option Idle) → (events_of k history ≡ [] → idle ≡ other)
-    → line_of cluster corpus script history k command idle ≡ line_of cluster corpus script history k command other
-same_line cluster corpus script history k (Search index node body opaque_id) idle other h = refl
-same_line cluster corpus script history k (Cancel target reason wait) idle other h = refl
-same_line cluster corpus script history k Settle idle other h = refl
-same_line cluster corpus script history k History idle other h = refl
-same_line cluster corpus script history k (Deliver nth) idle other h = same_move script k (events_of k history) idle other h
-same_line cluster corpus script history k (Step t) idle other h = same_move script k (events_of k history) idle other h
-same_line cluster corpus script history k (ListStep n p) idle other h = same_move script k (events_of k history) idle other h
+same_line : (cluster : Cluster) (corpus : Corpus) (script : List Command) (history : List Event) (k : ℕ) (command : Command) (noted other : Option Note) → (TellsNote k command history → noted ≡ other)
+    → line_of cluster corpus script history k command noted ≡ line_of cluster corpus script history k command other
+same_line cluster corpus script history k (Search index node body opaque_id) noted other h = refl
+same_line cluster corpus script history k (Cancel target reason wait) noted other h = refl
+same_line cluster corpus script history k (ListTasks wanted group detailed) noted other h = ap (list_line k) (h tt)
+same_line cluster corpus script history k Settle noted other h = refl
+same_line cluster corpus script history k History noted other h = refl
+same_line cluster corpus script history k (Deliver nth) noted other h = same_move script k (events_of k history) noted other h
+same_line cluster corpus script history k (Step t) noted other h = same_move script k (events_of k history) noted other h
+same_line cluster corpus script history k (ListStep n p) noted other h = same_move script k (events_of k history) noted other h
 
-told_at : (found : List (Option Idle)) (script : List Command) (history : List Event) → IsFound script history found → (i : ℕ) (command : Command) → slice_get script i ≡ Some command → events_of (1 + i) history ≡ []
-    → unwrap_or (slice_get found (1 + i - 1)) None ≡ idle_of command (history_before (1 + i) history)
-told_at found script history f i command s none =
-    let back : 1 + i - 1 ≡ i = omega arith in
-    let next : 1 + i ≡ i + 1 = omega arith in
-    rw back (ap (λ o. unwrap_or o None) (f i command s (rw next at none)) ∙ ap (λ n. idle_of command (history_before n history)) (sym next))
+module _ (found : List (Option Note)) (cluster : Cluster) (corpus : Corpus) (script : Script) (history : List Event) (f : IsFound cluster script history found) where
+  told_at : (i : ℕ) (command : Command) → slice_get script.commands i ≡ Some command → TellsNote (1 + i) command history → unwrap_or (slice_get found (1 + i - 1)) None ≡ note_of cluster script command (history_before (1 + i) history)
+  told_at i command s tells =
+      let back : 1 + i - 1 ≡ i = omega arith in
+      let next : 1 + i ≡ i + 1 = omega arith in
+      rw back (ap (λ o. unwrap_or o None) (f i command s (subst (λ n. TellsNote n command history) next tells)) ∙ ap (λ n. note_of cluster script command (history_before n history)) (sym next))
 
--- what is told of the lines that make nothing happen is what there is to tell
-pub printed_as_found : (found : List (Option Idle)) (cluster : Cluster) (corpus : Corpus) (script : List Command) (history : List Event) → IsFound script history found → printed_by found cluster corpus script history ≡ printed cluster corpus script history
-printed_as_found found cluster corpus script history f =
-    same_lines (λ k command. line_of cluster corpus script history k command (unwrap_or (slice_get found (k - 1)) None)) (λ k command. line_of cluster corpus script history k command (idle_of command (history_before k history))) 1 script
-    (λ i command s. same_line cluster corpus script history (1 + i) command _ _ (told_at found script history f i command s))
+  -- what was noted of the commands is what there is to note
+  pub printed_as_found : printed_by found cluster corpus script.commands history ≡ printed cluster corpus script history
+  printed_as_found =
+      same_lines (λ k command. line_of cluster corpus script.commands history k command (unwrap_or (slice_get found (k - 1)) None)) (λ k command. line_of cluster corpus script.commands history k command (note_of cluster script command (history_before k history))) 1 script.commands
+      (λ i command s. same_line cluster corpus script.commands history (1 + i) command _ _ (told_at i command s))
 
 -- the output is that of what was handed in
-pub output_of : (found : List (Option Idle)) (cluster cluster' : Cluster) (corpus corpus' : Corpus) (script script' : List Command) (events history : List Event) → cluster ≡ cluster' → corpus ≡ corpus' → script ≡ script' → events ≡ reverse history
+pub output_of : (found : List (Option Note)) (cluster cluster' : Cluster) (corpus corpus' : Corpus) (script script' : List Command) (events history : List Event) → cluster ≡ cluster' → corpus ≡ corpus' → script ≡ script' → events ≡ reverse history
     → printed_by found cluster corpus script (reverse events) ≡ printed_by found cluster' corpus' script' history
 output_of found cluster cluster' corpus corpus' script script' events history a b c d =
     ap (λ x. printed_by found x corpus script (reverse events)) a ∙ ap (λ x. printed_by found cluster' x script (reverse events)) b

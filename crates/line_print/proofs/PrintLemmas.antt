@@ -7,7 +7,7 @@ use Rattle.serde_json.specs.View.{items_of}
 use Rattle.serde_json.specs.Written.{comma_if, compact_text, items_text}
 use Rattle.task_events.specs.declared.reply.Hit.{Hit}
 use Rattle.task_events.specs.declared.reply.SearchReply.{SearchReply}
-use Rattle.line_print.specs.Lines.{error_line}
+use Rattle.line_print.specs.Lines.{error_line, text_line}
 use Rattle.task_events.specs.Printed.{hit_json, hits_json, shards_json, search_json, total_json, reply_line}
 
 -- parts that were appended in turn are appended as one
@@ -67,6 +67,15 @@ line_parts : (command : ℕ) (reply : Data)
 unfolding escape_byte
 line_parts command reply = ap (λ rest. codes "{\"command\":" ++ rest) (ap (λ rest. decimal command ++ (codes ",\"reply\":" ++ rest)) (sym (append_assoc (compact_text reply) (codes "}") (codes "\n"))) ∙ sym (append_assoc (decimal command) (codes ",\"reply\":" ++ (compact_text reply ++ codes "}")) (codes "\n")))
 
+-- a line whose reply is a text, appended part by part
+pub text_parts : (command : ℕ) (text o : List ℕ) → ((((o ++ codes "{\"command\":") ++ decimal command) ++ codes ",\"reply\":") ++ text) ++ codes "}\n" ≡ o ++ text_line command text
+text_parts command text o = appended_five o _ _ _ _ _
+
+-- a line whose reply is the text of a value is that of the value
+pub text_is_reply : (command : ℕ) (reply : Data) → text_line command (compact_text reply) ≡ reply_line command reply
+text_is_reply command reply = line_parts command reply
+
+-- the same, appended part by part
 pub line_text : (command : ℕ) (reply : Data) (o : List ℕ)
     → ((((o ++ codes "{\"command\":") ++ decimal command) ++ codes ",\"reply\":") ++ compact_text reply) ++ codes "}\n" ≡ o ++ reply_line command reply
 line_text command reply o = appended_five o _ _ _ _ _ ∙ ap (λ text. o ++ text) (line_parts command reply)

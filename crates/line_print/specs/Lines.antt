@@ -1,5 +1,5 @@
 -- The lines of a script's output: one JSON object a command, compact, its keys in byte order, and a newline. Commands are numbered from 1.
-use Rattle.std.specs.Prelude.{◌≡◌, ℕ, ◌+◌, ◌-◌, Bool, true, false, List, [], ◌∷◌, ◌++◌, length, map, filter_map, if◌then◌else◌, Option, Some, None, option_and_then, Result, Ok, Err, codes, slice_get, nat_le, unwrap_or}
+use Rattle.std.specs.Prelude.{◌≡◌, ℕ, ◌+◌, ◌-◌, Bool, true, false, List, [], ◌∷◌, ◌++◌, length, map, filter_map, if◌then◌else◌, Option, Some, None, option_and_then, Result, Ok, Err, codes, decimal, slice_get, nat_le, unwrap_or, ⊤}
 use Rattle.std.specs.List.{list_any}
 use Rattle.std.specs.Str.{bytes_eq}
 use Rattle.serde_json.specs.Data.{Data, boolean, string, array}
@@ -13,9 +13,11 @@ use Rattle.task_ids.specs.declared.cluster.Cluster.{Cluster}
 use Rattle.task_ids.specs.declared.corpus.Corpus.{Corpus}
 use Rattle.task_ids.specs.TaskId.{task_id_text}
 use Rattle.script_lang.specs.declared.command.CancelTarget.{CancelTarget}
-use Rattle.script_lang.specs.declared.command.CancelTarget.TheVariants.{Task, Command as Of}
+use Rattle.script_lang.specs.declared.command.CancelTarget.TheVariants.{Task, Matching, Command as Of}
 use Rattle.script_lang.specs.declared.command.Command.{Command}
 use Rattle.script_lang.specs.declared.command.Command.TheVariants as commands
+use Rattle.script_lang.specs.declared.command.Script.{Script}
+use Rattle.command_roots.specs.Roots.{rows_of}
 use Rattle.task_events.specs.declared.event.Event.{Event}
 use Rattle.task_events.specs.declared.event.Event.TheVariants.{Root, RootRejected, Refuse, Cancel, NotFound, End}
 use Rattle.task_events.specs.declared.reply.Reply.{Reply}
@@ -24,9 +26,11 @@ use Rattle.task_events.specs.Printed.{object_of, count, search_json, reply_line}
 use Rattle.task_events.specs.Tasks.{no_counts, is_live, reply_of}
 use Rattle.task_events.specs.Messages.{in_flight}
 use Rattle.task_events.specs.Texts.{event_text}
+use Rattle.task_events.specs.TaskRows.{clock}
 use Rattle.task_events.specs.Turns.{events_of, events_before, history_before}
-use Rattle.line_print.specs.declared.idle.Idle.{Idle}
-use Rattle.line_print.specs.declared.idle.Idle.TheVariants.{NoSuchMessage, NotRunning, Waiting, NoListing}
+use Rattle.tasks_api.specs.Lists.{list_text}
+use Rattle.line_print.specs.declared.note.Note.{Note}
+use Rattle.line_print.specs.declared.note.Note.TheVariants.{NoSuchMessage, NotRunning, Waiting, NoListing, Listed}
 use Rattle.line_print.specs.Errors.{body_error, index_not_found, rejected, task_cancelled, all_shards_failed, not_found, plain_error, no_such_message}
 
 -- the line of a command that has no reply
@@ -116,10 +120,11 @@ search_line shards script k None reply = ended_line shards script k reply
 
 -- ---- cancels
 
--- the task that a cancel is about
+-- the task that a cancel is about, where it is about one
 abbrev pub target_in : List Command → List Event → CancelTarget → Option TaskId
 target_in script history (Task t) = Some t
 target_in script history (Of k) = if nat_le k (length script) then started k history else None
+target_in script history (Matching wanted) = None
 
 -- the task that a cancel names, by one of its events
 abbrev pub named_in : Event → Option TaskId
@@ -139,42 +144,62 @@ abbrev pub cancel_line : ℕ → Option TaskId → Bool → List Event → List 
 cancel_line k target wait events =
     if list_any finds_none events then error_line k (not_found target) else reply_line k (cancelled (filter_map named_in events) wait)
 
+-- ---- what is noted of a command before it begins
+
+-- why a line of a schedule makes nothing happen, or the reply of a list
+abbrev pub note_of : Cluster → Script → Command → List Event → Option Note
+note_of cluster script (commands.Deliver nth) past = Some (NoSuchMessage (length (in_flight past)))
+note_of cluster script (commands.Step t) past = Some (if is_live t past then Waiting else NotRunning)
+note_of cluster script (commands.ListStep n p) past = Some NoListing
+note_of cluster script (commands.ListTasks wanted group detailed) past = Some (Listed (list_text group detailed (clock past) wanted (rows_of cluster script past)))
+note_of cluster script _ past = None
+
+-- ---- lists
+
+-- the line of a command whose reply is this text
+abbrev pub text_line : ℕ → List ℕ → List ℕ
+text_line k text = codes "{\"command\":" ++ (decimal k ++ (codes ",\"reply\":" ++ (text ++ codes "}\n")))
+
+-- the reply that was noted
+abbrev pub list_line : ℕ → Option Note → List ℕ
+list_line k (Some (Listed text)) = text_line k text
+list_line k _ = []
+
 -- ---- lines of a schedule
 
--- why a line of a schedule makes nothing happen
-abbrev pub idle_of : Command → List Event → Option Idle
-idle_of (commands.Deliver nth) past = Some (NoSuchMessage (length (in_flight past)))
-idle_of (commands.Step t) past = Some (if is_live t past then Waiting else NotRunning)
-idle_of (commands.ListStep n p) past = Some NoListing
-idle_of _ past = None
+-- why one made nothing happen, if the note tells that
+abbrev pub idle_error : Note → Option Data
+idle_error (NoSuchMessage in_flight) = Some (no_such_message in_flight)
+idle_error NotRunning = Some (plain_error (codes "not_running"))
+idle_error Waiting = Some (plain_error (codes "waiting"))
+idle_error NoListing = Some (plain_error (codes "no_listing"))
+idle_error (Listed text) = None
 
-abbrev pub idle_error : Idle → Data
-idle_error (NoSuchMessage in_flight) = no_such_message in_flight
-idle_error NotRunning = plain_error (codes "not_running")
-idle_error Waiting = plain_error (codes "waiting")
-idle_error NoListing = plain_error (codes "no_listing")
+abbrev pub idle_line : ℕ → Option Data → List ℕ
+idle_line k None = []
+idle_line k (Some error) = error_line k error
 
--- what a line of a schedule made happen, or why it made nothing happen
-abbrev pub moved_line : List Command → ℕ → List Event → Option Idle → List ℕ
-moved_line script k [] None = []
-moved_line script k [] (Some idle) = error_line k (idle_error idle)
-moved_line script k (e ∷ es) idle = reply_line k (told_all script (e ∷ es))
+-- what it made happen, or why it made nothing happen
+abbrev pub moved_line : List Command → ℕ → List Event → Option Note → List ℕ
+moved_line script k [] noted = idle_line k (option_and_then idle_error noted)
+moved_line script k (e ∷ es) noted = reply_line k (told_all script (e ∷ es))
 
 abbrev pub settled : ℕ → Data
 settled events = object_of ((codes "events", count events) ∷ [])
 
 -- ---- all lines
 
--- The line of a command. The last is why it makes nothing happen, which tells only where nothing happened.
-abbrev pub line_of : Cluster → Corpus → List Command → List Event → ℕ → Command → Option Idle → List ℕ
-line_of cluster corpus script history k (commands.Search index node body opaque_id) idle =
+-- The line of a command. The last is what was noted of it, which tells what a list lists, and of a line of a schedule why nothing happened.
+abbrev pub line_of : Cluster → Corpus → List Command → List Event → ℕ → Command → Option Note → List ℕ
+line_of cluster corpus script history k (commands.Search index node body opaque_id) noted =
     search_line cluster.shards script k (refusal index (body_at false 0 body) (is_known corpus index) (first_in full_node_in (events_of k history))) (option_and_then (λ t. reply_of t history) (started k history))
-line_of cluster corpus script history k (commands.Cancel target reason wait) idle = cancel_line k (target_in script history target) wait (events_of k history)
-line_of cluster corpus script history k commands.Settle idle = reply_line k (settled (length (events_of k history)))
-line_of cluster corpus script history k commands.History idle = reply_line k (told_all script (events_before k history))
-line_of cluster corpus script history k (commands.Deliver nth) idle = moved_line script k (events_of k history) idle
-line_of cluster corpus script history k (commands.Step t) idle = moved_line script k (events_of k history) idle
-line_of cluster corpus script history k (commands.ListStep n p) idle = moved_line script k (events_of k history) idle
+line_of cluster corpus script history k (commands.Cancel target reason wait) noted = cancel_line k (target_in script history target) wait (events_of k history)
+line_of cluster corpus script history k (commands.ListTasks wanted group detailed) noted = list_line k noted
+line_of cluster corpus script history k commands.Settle noted = reply_line k (settled (length (events_of k history)))
+line_of cluster corpus script history k commands.History noted = reply_line k (told_all script (events_before k history))
+line_of cluster corpus script history k (commands.Deliver nth) noted = moved_line script k (events_of k history) noted
+line_of cluster corpus script history k (commands.Step t) noted = moved_line script k (events_of k history) noted
+line_of cluster corpus script history k (commands.ListStep n p) noted = moved_line script k (events_of k history) noted
 
 -- the lines of some commands, of which the first has this number
 abbrev pub lines_from : (ℕ → Command → List ℕ) → ℕ → List Command → List ℕ
@@ -182,13 +207,18 @@ lines_from line k [] = []
 lines_from line k (command ∷ more) = line k command ++ lines_from line (k + 1) more
 
 -- The output of a script after its run: the line of each command, in order.
-abbrev pub printed : Cluster → Corpus → List Command → List Event → List ℕ
-printed cluster corpus script history = lines_from (λ k command. line_of cluster corpus script history k command (idle_of command (history_before k history))) 1 script
+abbrev pub printed : Cluster → Corpus → Script → List Event → List ℕ
+printed cluster corpus script history = lines_from (λ k command. line_of cluster corpus script.commands history k command (note_of cluster script command (history_before k history))) 1 script.commands
 
--- the same, where it was told of each command why it makes nothing happen
-abbrev pub printed_by : List (Option Idle) → Cluster → Corpus → List Command → List Event → List ℕ
+-- the same, where this was noted of the commands
+abbrev pub printed_by : List (Option Note) → Cluster → Corpus → List Command → List Event → List ℕ
 printed_by found cluster corpus script history = lines_from (λ k command. line_of cluster corpus script history k command (unwrap_or (slice_get found (k - 1)) None)) 1 script
 
--- of each command that makes nothing happen it was told why
-abbrev pub IsFound : List Command → List Event → List (Option Idle) → Type 0
-IsFound script history found = (i : ℕ) (command : Command) → slice_get script i ≡ Some command → events_of (i + 1) history ≡ [] → slice_get found i ≡ Some (idle_of command (history_before (i + 1) history))
+-- the line of a command tells what was noted of it: the command is a list, or nothing happened
+abbrev pub TellsNote : ℕ → Command → List Event → Type 0
+TellsNote k (commands.ListTasks wanted group detailed) history = ⊤
+TellsNote k _ history = events_of k history ≡ []
+
+-- what the lines tell of it was noted of each command
+abbrev pub IsFound : Cluster → Script → List Event → List (Option Note) → Type 0
+IsFound cluster script history found = (i : ℕ) (command : Command) → slice_get script.commands i ≡ Some command → TellsNote (i + 1) command history → slice_get found i ≡ Some (note_of cluster script command (history_before (i + 1) history))

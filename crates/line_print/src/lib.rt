@@ -4,10 +4,12 @@
 mod cancel_lines;
 mod ends;
 mod errors;
-mod idle;
+mod laws;
 mod lines;
+mod list_lines;
 mod members;
 mod moves;
+mod note;
 mod print;
 mod run;
 mod searches;
@@ -15,5 +17,6 @@ mod told;
 mod turns;
 mod write;
 
-pub use idle::Idle;
+pub use laws::list_is_a_reply;
 pub use lines::print_lines;
+pub use note::Note;

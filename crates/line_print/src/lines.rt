@@ -1,13 +1,14 @@
 //! All lines of a script's output.
 
-ghost use Rattle.std.specs.Prelude.{◌≡◌, ◌+◌, ◌<◌, ◌≤◌, ◌++◌, None, IfOk, OnOk, length, reverse, slice_get, unwrap_or};
+ghost use Rattle.std.specs.Prelude.{◌≡◌, ◌+◌, ◌<◌, ◌≤◌, ◌++◌, None, IfOk, OnOk, length, reverse, slice_get, option_map, unwrap_or};
 ghost use Rattle.line_print.specs.Lines.{line_of, printed, printed_by, IsFound};
 ghost use Rattle.line_print.specs.Looked.{IsReady};
 
 use crate::cancel_lines::cancel_line;
 use crate::ends::ends_of;
-use crate::idle::Idle;
+use crate::list_lines::list_line;
 use crate::moves::{moved_line, settled_line};
+use crate::note::Note;
 use crate::run::Run;
 use crate::searches::{indices_of, search_line};
 use crate::told::events_line;
@@ -17,20 +18,20 @@ use std::alloc::{AllocError, Global};
 use task_events::{Event, History};
 use task_ids::{Cluster, Corpus};
 
-/// Appends the line of a command, which has this number, and which made nothing happen for this reason, if it did not.
+/// Appends the line of a command, which has this number and of which this was noted.
 fn command_line(
     alloc: Global,
     out: &mut Vec<u8>,
     run: &Run,
     number: usize,
     command: &Command,
-    idle: Option<Idle>,
+    note: Option<&Note>,
 ) -> Result<(), AllocError>
     requires ready { IsReady run.now }
     requires number { number ≤ length run.now.script.now }
     requires few { length run.now.script.now ≤ 65535 }
     ensures { OnOk result (out.new.items ≡ out.old.items
-        ++ line_of run.now.cluster.now run.now.corpus.now run.now.script.now (reverse run.now.events.now) number command.now idle) }
+        ++ line_of run.now.cluster.now run.now.corpus.now run.now.script.now (reverse run.now.events.now) number command.now (option_map (λ note. note.now) note.entry)) }
 {
     let k = number as u32;
     let turn = run.turn(number);
@@ -39,12 +40,13 @@ fn command_line(
             search_line(alloc, out, run, k, index.as_str(), body)
         }
         Command::Cancel { target, wait, .. } => {
-            cancel_line(alloc, out, k, run.target(*target), *wait, turn)
+            cancel_line(alloc, out, k, run.target(target), *wait, turn)
         }
+        Command::ListTasks { .. } => list_line(alloc, out, k, note),
         Command::Settle => settled_line(alloc, out, k, turn.len()),
         Command::History => events_line(alloc, out, run.script, k, run.turns_before(number)),
         Command::Deliver { .. } | Command::Step { .. } | Command::ListStep { .. } => {
-            moved_line(alloc, out, run.script, k, turn, idle)
+            moved_line(alloc, out, run.script, k, turn, note)
         }
     }
 }
@@ -71,12 +73,12 @@ fn run_of<'a>(
     })
 }
 
-/// Why the command at a place, from 0, made nothing happen.
-fn idle_at(found: &[Option<Idle>], place: usize) -> Option<Idle>
-    ensures { result ≡ unwrap_or (slice_get found.now place) None }
+/// What was noted of the command at a place, from 0.
+fn note_at(found: &[Option<Note>], place: usize) -> Option<&Note>
+    ensures { option_map (λ note. note.now) result ≡ unwrap_or (slice_get found.now place) None }
 {
     match found.get(place) {
-        Some(idle) => *idle,
+        Some(note) => note.as_ref(),
         None => None,
     }
 }
@@ -86,7 +88,7 @@ fn run_lines(
     alloc: Global,
     out: &mut Vec<u8>,
     run: &Run,
-    found: &[Option<Idle>],
+    found: &[Option<Note>],
 ) -> Result<(), AllocError>
     requires ready { IsReady run.now }
     requires few { length run.now.script.now ≤ 65535 }
@@ -94,34 +96,34 @@ fn run_lines(
         ++ printed_by found.now run.now.cluster.now run.now.corpus.now run.now.script.now (reverse run.now.events.now)) }
 {
     for (place, command) in run.script.iter().enumerate() {
-        command_line(alloc, out, run, place + 1, command, idle_at(found, place))?;
+        command_line(alloc, out, run, place + 1, command, note_at(found, place))?;
     }
     Ok(())
 }
 
 /// Appends the output of a script after its run: one line of JSON a command, in order.
 ///
-/// A search tells its hits, as Elasticsearch's search API does, or why it has none; a cancel the tasks that it named; `deliver`,
-/// `step` and `list_step` the events that they made, or why they made none; `settle` how many it made; `history` all events
-/// before it.
+/// A search tells its hits, as Elasticsearch's search API does, or why it has none; a cancel the tasks that it named; a list the
+/// tasks that it shows; `deliver`, `step` and `list_step` the events that they made, or why they made none; `settle` how many it
+/// made; `history` all events before it.
 ///
-/// At the place of its command `found` tells of each line of a schedule that made nothing happen why. Where memory runs out a
-/// part of the output may have been appended.
+/// At the place of its command `found` has what was noted of it: of each list what it lists, and of each line of a schedule that
+/// made nothing happen why. Where memory runs out a part of the output may have been appended.
 pub fn print_lines(
     alloc: Global,
     cluster: &Cluster,
     corpus: &Corpus,
     script: &Script,
     history: &History,
-    found: &[Option<Idle>],
+    found: &[Option<Note>],
     out: &mut Vec<u8>,
 ) -> Result<(), AllocError>
     requires { length script.now.commands ≤ 65535 }
     ensures by { OnOk result (out.new.items ≡ out.old.items ++ printed_by found.now cluster.now corpus.now script.now.commands history.now) }
 
-    // Where `found` tells of each line of a schedule that made nothing happen why, it is the script's output.
-    ensures printed { IsFound script.now.commands history.now found.now
-        → OnOk result (out.new.items ≡ out.old.items ++ printed cluster.now corpus.now script.now.commands history.now) }
+    // Where `found` tells of each list what it lists, and of each line of a schedule that made nothing happen why, it is the script's output.
+    ensures printed { IsFound cluster.now script.now history.now found.now
+        → OnOk result (out.new.items ≡ out.old.items ++ printed cluster.now corpus.now script.now history.now) }
 {
     let run = run_of(
         alloc,

@@ -1,13 +1,13 @@
 //! The lines of a schedule.
 
-ghost use Rattle.std.specs.Prelude.{◌≡◌, ◌++◌, OnOk, IfOk};
+ghost use Rattle.std.specs.Prelude.{◌≡◌, ◌++◌, OnOk, IfOk, option_map, option_and_then};
 ghost use Rattle.serde_json.specs.View.{view};
 ghost use Rattle.task_events.specs.Printed.{reply_line};
 ghost use Rattle.line_print.specs.Lines.{idle_error, moved_line, settled};
 
 use crate::errors::{no_such_message, plain_error};
-use crate::idle::Idle;
 use crate::members::with_number;
+use crate::note::Note;
 use crate::told::events_line;
 use crate::write::{error_line, reply_line};
 use script_lang::Command;
@@ -15,16 +15,18 @@ use serde_json::{Map, Value};
 use std::alloc::{AllocError, Global};
 use task_events::Event;
 
-/// Why a line made nothing happen.
-fn idle_error(alloc: Global, idle: Idle) -> Result<Value, AllocError>
-    ensures { IfOk result (λ value. view value ≡ idle_error idle) }
+/// Why a line made nothing happen, if that was noted.
+fn idle_error(alloc: Global, note: Option<&Note>) -> Result<Option<Value>, AllocError>
+    ensures { IfOk result (λ error. option_map view error ≡ option_and_then idle_error (option_map (λ note. note.now) note.entry)) }
 {
-    match idle {
-        Idle::NoSuchMessage { in_flight } => no_such_message(alloc, in_flight),
-        Idle::NotRunning => plain_error(alloc, "not_running"),
-        Idle::Waiting => plain_error(alloc, "waiting"),
-        Idle::NoListing => plain_error(alloc, "no_listing"),
-    }
+    let error = match note {
+        Some(Note::NoSuchMessage { in_flight }) => no_such_message(alloc, *in_flight)?,
+        Some(Note::NotRunning) => plain_error(alloc, "not_running")?,
+        Some(Note::Waiting) => plain_error(alloc, "waiting")?,
+        Some(Note::NoListing) => plain_error(alloc, "no_listing")?,
+        Some(Note::Listed(_)) | None => return Ok(None),
+    };
+    Ok(Some(error))
 }
 
 /// Appends the line of a command that makes something happen, or does not.
@@ -34,18 +36,15 @@ pub(crate) fn moved_line(
     script: &[Command],
     command: u32,
     turn: &[Event],
-    idle: Option<Idle>,
+    note: Option<&Note>,
 ) -> Result<(), AllocError>
-    ensures { OnOk result (out.new.items ≡ out.old.items ++ moved_line script.now command turn.now idle) }
+    ensures { OnOk result (out.new.items ≡ out.old.items ++ moved_line script.now command turn.now (option_map (λ note. note.now) note.entry)) }
 {
     if !turn.is_empty() {
         return events_line(alloc, out, script, command, &[turn]);
     }
-    match idle {
-        Some(idle) => {
-            let error = idle_error(alloc, idle)?;
-            error_line(alloc, out, command, error)
-        }
+    match idle_error(alloc, note)? {
+        Some(error) => error_line(alloc, out, command, error),
         None => Ok(()),
     }
 }

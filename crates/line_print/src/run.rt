@@ -57,20 +57,22 @@ impl<'a> Run<'a> {
         self.events.get(*at)
     }
 
-    /// The task that a cancel is about.
-    pub(crate) fn target(&self, target: CancelTarget) -> Option<TaskId>
+    /// The task that a cancel is about, where it is about one.
+    pub(crate) fn target(&self, target: &CancelTarget) -> Option<TaskId>
         requires { IsReady self.now }
-        ensures { result ≡ target_in self.now.script.now (reverse self.now.events.now) target }
+        ensures { result ≡ target_in self.now.script.now (reverse self.now.events.now) target.now }
     {
         match target {
-            CancelTarget::Task(task) => Some(task),
+            CancelTarget::Task(task) => Some(*task),
             CancelTarget::Command(command) => {
-                if command as usize <= self.script.len() {
-                    started(self.turn(command as usize))
+                let command = *command as usize;
+                if command <= self.script.len() {
+                    started(self.turn(command))
                 } else {
                     None
                 }
             }
+            CancelTarget::Matching(_) => None,
         }
     }
 }

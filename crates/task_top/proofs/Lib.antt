@@ -1,3 +1,4 @@
+pub mod CancelLines
 pub mod LinesOfCommands
 pub mod NumberLemmas
 pub mod OneLine

@@ -1,9 +1,7 @@
 -- What stands in a whole run for the line of each kind of command.
-use Rattle.std.proofs.Common.{◌≡◌, ◌⊎◌, ◌<◌, ◌≤◌, ℕ, zero, suc, Bool, true, false, cond, ◌&&◌, List, [], ◌∷◌, ◌++◌, map, filter, reverse, length, Option, Some, None, Result, Ok, Err, inl, inr, refl, sym, ap, subst, ◌∙◌, arith, append_assoc}
-use Rattle.std.specs.Prelude.{is_some, filter_map, if◌then◌else◌}
-use Rattle.std.specs.List.{list_any}
-use Rattle.std.proofs.lemmas.List.{length-append, reverse-append, reverse-reverse}
-use Rattle.std.proofs.lemmas.List.Folds.{list_any-append}
+use Rattle.std.proofs.Common.{◌≡◌, ◌⊎◌, ◌<◌, ◌≤◌, ℕ, zero, suc, Bool, true, false, ◌&&◌, List, [], ◌∷◌, ◌++◌, map, reverse, length, Option, Some, None, Result, Ok, Err, inl, inr, refl, sym, ap, subst, ◌∙◌, arith}
+use Rattle.std.specs.Prelude.{is_some}
+use Rattle.std.proofs.lemmas.List.{length-append}
 use Rattle.std.proofs.lemmas.Option.{slice_get_within}
 use Rattle.serde_json.specs.Data.{Data}
 use Rattle.query_match.specs.declared.body.SearchBody.{SearchBody}
@@ -14,22 +12,17 @@ use Rattle.task_ids.specs.declared.corpus.Corpus.{Corpus}
 use Rattle.task_ids.specs.declared.task_id.TaskId.{TaskId}
 use Rattle.task_ids.specs.declared.text.Text.{Text}
 use Rattle.task_events.specs.declared.event.Event.{Event}
-use Rattle.task_events.specs.declared.event.Event.TheVariants.{Begin, Root, RootRejected, Refuse, Cancel, NotFound, Mark, Acked, End, AnswerPlaced, AnswerDone}
+use Rattle.task_events.specs.declared.event.Event.TheVariants.{Begin, Root, RootRejected, Refuse, Acked, End}
 use Rattle.task_events.specs.declared.reply.Reply.{Reply}
 use Rattle.task_events.specs.declared.request.Request.TheVariants as asks
-use Rattle.task_events.specs.Bans.{mark_of}
-use Rattle.task_events.specs.Cancels.{is_named}
 use Rattle.task_events.specs.Lawful.{Lawful}
 use Rattle.task_events.specs.Laws.{IsDrained}
 use Rattle.task_events.specs.Messages.{in_flight}
 use Rattle.task_events.specs.Tasks.{is_live, reply_of}
-use Rattle.task_events.specs.Turns.{events_of}
-use Rattle.task_laws.proofs.Same.{same_pair_refl, same_tests}
-use Rattle.script_lang.specs.declared.command.CancelTarget.{CancelTarget}
 use Rattle.script_lang.specs.declared.command.Command.{Command}
 use Rattle.script_lang.specs.declared.command.Command.TheVariants as commands
 use Rattle.script_lang.specs.declared.command.Script.{Script}
-use Rattle.world_moves.specs.Cancels.{AllAnswered, after_cancel_of, answer_to, due_answers, is_due, target_of, waiting_for, waits_for_end, with_answers, with_cancel, with_due}
+use Rattle.world_moves.specs.Cancels.{AllAnswered, answer_to, due_for, with_answers, with_due}
 use Rattle.node_parts.specs.declared.listing.Listing.{Listing}
 use Rattle.world_moves.specs.Listings.{is_open}
 use Rattle.world_moves.specs.Moves.{IsStart}
@@ -39,16 +32,17 @@ use Rattle.world_steps.specs.declared.acting.Stepped.{Stepped}
 use Rattle.world_steps.specs.declared.acting.Stepped.TheVariants.{Done, Waiting, NotRunning}
 use Rattle.world_steps.specs.Runs.{AnswersStep}
 use Rattle.world_steps.specs.Scripts.{StartsWhere, DeliversWhere, ListsWhere, IsRun, can_start}
-use Rattle.line_print.specs.Lines.{is_known, named_in, finds_none}
-use Rattle.task_top.specs.EachLine.{as_began, TellsSearch, HasEnded, TellsCancel, HasNamed, Moved, Waits, HasItsLine, EachHasItsLine}
+use Rattle.line_print.specs.Lines.{is_known}
+use Rattle.task_top.specs.EachLine.{as_began, TellsSearch, HasEnded, Moved, Waits, HasItsLine, EachHasItsLine}
 use Rattle.query_parse.proofs.FaultsTold.{fault_told}
+use Rattle.task_top.proofs.CancelLines.{cancel_told}
 use Rattle.task_top.proofs.RootEnds.{has_replied, replies_so}
 use Rattle.task_top.proofs.TurnEvents.{HasDone, told_as, some_told, done_in_whole}
 
 -- ---- one event more, with the answers that come due with it
 
 answers_longer : (t : TaskId) (h : List Event) → length h ≤ length (with_answers t h)
-answers_longer t h = omega (arith, length-append (reverse (due_answers t h)) h)
+answers_longer t h = omega (arith, length-append (reverse (map (answer_to h) (due_for t h))) h)
 
 due_longer : (e : Event) (h : List Event) → length h < length (with_due e h)
 due_longer (Refuse t c) h = omega (arith, answers_longer t (Refuse t c ∷ h))
@@ -56,38 +50,13 @@ due_longer (End t reply) h = omega (arith, answers_longer t (End t reply ∷ h))
 due_longer (Acked p n) h = omega (arith, answers_longer p (Acked p n ∷ h))
 due_longer e h = omega arith
 
--- ---- answers are no names
-
-module _ (h : List Event) where
-  none_named : (cs : List ℕ) → filter_map named_in (map (answer_to h) cs) ≡ []
-  none_named [] = refl
-  none_named (c ∷ cs) = by_kind (waits_for_end c h) (none_named cs)
-    where
-      by_kind : (b : Bool) → filter_map named_in (map (answer_to h) cs) ≡ [] → filter_map named_in ((if b then AnswerDone c else AnswerPlaced c) ∷ map (answer_to h) cs) ≡ []
-      by_kind true rest = rest
-      by_kind false rest = rest
-
-  none_missing : (cs : List ℕ) → list_any finds_none (map (answer_to h) cs) ≡ false
-  none_missing [] = refl
-  none_missing (c ∷ cs) = by_kind (waits_for_end c h) (none_missing cs)
-    where
-      by_kind : (b : Bool) → list_any finds_none (map (answer_to h) cs) ≡ false → list_any finds_none ((if b then AnswerDone c else AnswerPlaced c) ∷ map (answer_to h) cs) ≡ false
-      by_kind true rest = rest
-      by_kind false rest = rest
-
--- what was named stays so
-still_named : (c : ℕ) (t : TaskId) (xs h : List Event) → is_named c t h ≡ true → is_named c t (xs ++ h) ≡ true
-still_named c t [] h n = n
-still_named c t (Cancel d u wait ∷ xs) h n = grind (arith, same_tests, still_named c t xs h n)
-still_named c t (_ ∷ xs) h n = still_named c t xs h n
+-- ---- a search
 
 both_parts : (o : Option SearchBody) (found : SearchBody) (b : Bool) → o ≡ Some found → b ≡ true → (is_some o && b) ≡ true
 both_parts o found b e k = rw (e, k) refl
 
 module _ (cluster : Cluster) (corpus : Corpus) (script : Script) (h : List Event) (k : ℕ) where
-  -- ---- a search
-
-  module _ (index : Text) (node : ℕ) (body : Data) (lawful : Lawful cluster h) (drained : IsDrained h) (plain : AnswersPlainly cluster corpus script h)
+  module _ (index : Text) (node : ℕ) (body : Data) (opaque_id : Option Text) (lawful : Lawful cluster h) (drained : IsDrained h) (plain : AnswersPlainly cluster corpus script h)
       (at : command_at script k ≡ Some (commands.Search index node body opaque_id)) (done : HasDone cluster corpus script k (commands.Search index node body opaque_id) h) where
     started : (found : SearchBody) (t : TaskId) → root_request script k ≡ Some (asks.Search (whole_ask index found)) → done.after ≡ Root k t ∷ Begin k ∷ done.before → HasEnded k h
     started found t asked same = record {
@@ -132,65 +101,6 @@ module _ (cluster : Cluster) (corpus : Corpus) (script : Script) (h : List Event
         by_body (Ok found) is false known = inr (inl known)
         by_body (Ok found) is true known = where_known found is known
 
-  -- ---- a cancel
-
-  module _ (target : CancelTarget) (reason : Text) (wait : Bool) (answered : AllAnswered h) (done : HasDone cluster corpus script k (commands.Cancel target reason wait) h) where
-    abbrev began : List Event
-    began = Begin k ∷ done.before
-
-    missing : done.after ≡ NotFound k ∷ began → TellsCancel target k h
-    missing same = inl (told_as cluster corpus script k _ h done (NotFound k ∷ []) same)
-
-    -- the events with which the task is named, and marked where it has no mark
-    module _ (t : TaskId) (first : List Event) (found : target_of target began ≡ Some t) (named : filter_map named_in (reverse first) ≡ t ∷ []) (missed : list_any finds_none (reverse first) ≡ false) (names : is_named k t (first ++ began) ≡ true)
-        (same : done.after ≡ with_answers t (first ++ began)) where
-      abbrev due : List Event
-      due = due_answers t (first ++ began)
-
-      events : events_of k h ≡ reverse first ++ due
-      events =
-          told_as cluster corpus script k _ h done (reverse due ++ first) (same ∙ sym (append_assoc (reverse due) first began))
-          ∙ reverse-append (reverse due) first ∙ ap (λ l. reverse first ++ l) (reverse-reverse due)
-
-      names_one : filter_map named_in (reverse first ++ due) ≡ t ∷ []
-      names_one = filter_map_append (reverse first) due ∙ (λ i. named i ++ none_named (first ++ began) (filter (is_due t (first ++ began)) (waiting_for t (first ++ began))) i)
-        where
-          cons_append : (o : Option TaskId) (xs ys : List TaskId) (e : Event) (es fs : List Event) → named_in e ≡ o → filter_map named_in (es ++ fs) ≡ filter_map named_in es ++ filter_map named_in fs → filter_map named_in (e ∷ es ++ fs) ≡ filter_map named_in (e ∷ es) ++ filter_map named_in fs
-          cons_append None xs ys e es fs is rest = rw is rest
-          cons_append (Some u) xs ys e es fs is rest = rw is (ap (λ l. u ∷ l) rest)
-
-          filter_map_append : (es fs : List Event) → filter_map named_in (es ++ fs) ≡ filter_map named_in es ++ filter_map named_in fs
-          filter_map_append [] fs = refl
-          filter_map_append (e ∷ es) fs = cons_append (named_in e) [] [] e es fs refl (filter_map_append es fs)
-
-      pub has_named : HasNamed k target h
-      has_named = record {
-        task = t;
-        about = ap (λ past. target_of target (Begin k ∷ past)) done.past ∙ found;
-        named = ap (filter_map named_in) events ∙ names_one;
-        found = ap (list_any finds_none) events ∙ list_any-append finds_none (reverse first) due ∙ rw missed (none_missing (first ++ began) (filter (is_due t (first ++ began)) (waiting_for t (first ++ began))));
-        answered = answered k t (ap (is_named k t) (done.stands ∙ ap (λ l. done.later ++ l) same) ∙ still_named k t done.later _ (still_named k t (reverse due) (first ++ began) names));
-      }
-
-    by_mark : (t : TaskId) → target_of target began ≡ Some t → (o : Option ℕ) → mark_of t began ≡ o → done.after ≡ with_answers t (with_cancel k t wait began) → TellsCancel target k h
-    by_mark t found None e same =
-        inr (has_named t (Mark t k ∷ Cancel k t wait ∷ []) found refl refl (rw (same_pair_refl t k) refl)
-        (same ∙ ap (λ (o : Option ℕ). with_answers t (if is_some o then Cancel k t wait ∷ began else Mark t k ∷ Cancel k t wait ∷ began)) e))
-    by_mark t found (Some c) e same =
-        inr (has_named t (Cancel k t wait ∷ []) found refl refl (rw (same_pair_refl t k) refl)
-        (same ∙ ap (λ (o : Option ℕ). with_answers t (if is_some o then Cancel k t wait ∷ began else Mark t k ∷ Cancel k t wait ∷ began)) e))
-
-    pub cancel_told : TellsCancel target k h
-    cancel_told = by_target (target_of target began) refl done.does
-      where
-        by_live : (t : TaskId) → target_of target began ≡ Some t → (b : Bool) → done.after ≡ cond b (with_answers t (with_cancel k t wait began)) (NotFound k ∷ began) → TellsCancel target k h
-        by_live t found true same = by_mark t found (mark_of t began) refl same
-        by_live t found false same = missing same
-
-        by_target : (o : Option TaskId) → target_of target began ≡ o → done.after ≡ after_cancel_of k wait began o → TellsCancel target k h
-        by_target None found same = missing same
-        by_target (Some t) found same = by_live t found (is_live t began) same
-
   -- ---- lines of a schedule
 
   module _ (command : Command) (done : HasDone cluster corpus script k command h) where
@@ -217,8 +127,9 @@ module _ (cluster : Cluster) (corpus : Corpus) (script : Script) (h : List Event
 
 module _ (cluster : Cluster) (corpus : Corpus) (script : Script) (h : List Event) (lawful : Lawful cluster h) (drained : IsDrained h) (answered : AllAnswered h) (plain : AnswersPlainly cluster corpus script h) where
   by_command : (k : ℕ) (command : Command) → command_at script k ≡ Some command → HasDone cluster corpus script k command h → HasItsLine cluster corpus script h k command
-  by_command k (commands.Search index node body opaque_id) at done = search_told cluster corpus script h k index node body lawful drained plain at done
-  by_command k (commands.Cancel target reason wait) at done = cancel_told cluster corpus script h k target reason wait answered done
+  by_command k (commands.Search index node body opaque_id) at done = search_told cluster corpus script h k index node body opaque_id lawful drained plain at done
+  by_command k (commands.Cancel target reason wait) at done = cancel_told cluster corpus script h answered k reason wait target done
+  by_command k (commands.ListTasks wanted group detailed) at done = tt
   by_command k (commands.Deliver nth) at done = deliver_told cluster corpus script h k _ done nth done.does
   by_command k (commands.Step t) at done = step_told cluster corpus script h k _ done t done.does.0 done.does.1
   by_command k (commands.ListStep node parent) at done = list_told cluster corpus script h k _ done (record { node = node; parent = parent }) done.does

@@ -15,15 +15,21 @@ use Rattle.task_events.specs.declared.reply.Reply.{Reply}
 use Rattle.task_events.specs.declared.reply.Reply.TheVariants as replies
 use Rattle.task_events.specs.Messages.{in_flight}
 use Rattle.task_events.specs.Printed.{count, object_of, reply_line, search_json}
+use Rattle.task_events.specs.TaskRows.{clock}
 use Rattle.task_events.specs.Tasks.{is_live, reply_of}
 use Rattle.task_events.specs.Turns.{events_before, events_of, history_before}
 use Rattle.script_lang.specs.declared.command.Command.{Command}
-use Rattle.script_lang.specs.declared.command.Command.TheVariants.{Search, Cancel, Deliver, Step, ListStep, Settle, History}
+use Rattle.script_lang.specs.declared.command.Command.TheVariants.{Search, Cancel, ListTasks, Deliver, Step, ListStep, Settle, History}
 use Rattle.script_lang.specs.declared.command.Script.{Script}
-use Rattle.line_print.specs.declared.idle.Idle.{Idle}
-use Rattle.line_print.specs.declared.idle.Idle.TheVariants.{NoSuchMessage, NotRunning, Waiting, NoListing}
+use Rattle.tasks_api.specs.declared.filter.Filter.{Filter}
+use Rattle.tasks_api.specs.declared.list.GroupBy.{GroupBy}
+use Rattle.tasks_api.specs.Lists.{list_json, shown, task_json}
+use Rattle.command_roots.specs.Roots.{rows_of}
+use Rattle.line_print.specs.declared.note.Note.{Note}
+use Rattle.line_print.specs.declared.note.Note.TheVariants.{NoSuchMessage, NotRunning, Waiting, NoListing}
 use Rattle.line_print.specs.Errors.{all_shards_failed, body_error, index_not_found, not_found, rejected, task_cancelled}
-use Rattle.line_print.specs.Lines.{cancel_line, cancelled, ended_line, error_line, finds_none, first_in, full_node_in, idle_error, idle_of, is_known, line_of, lines_from, moved_line, named_in, printed, reason_of, refusal, search_line, settled, started, target_in, told_all}
+use Rattle.line_print.specs.Lines.{cancel_line, cancelled, ended_line, error_line, finds_none, first_in, full_node_in, idle_error, idle_line, is_known, line_of, lines_from, moved_line, named_in, note_of, printed, reason_of, refusal, search_line, settled, started, target_in, told_all}
+use Rattle.line_print.proofs.PrintLemmas.{text_is_reply}
 use Rattle.task_top.specs.EachLine.{is_newline, EachHasItsLine, EachPrintsALine, HasItsLine, IsLine, IsSearchReply, TellsSearch}
 use Rattle.task_top.proofs.OneLine.{value_line}
 use Rattle.task_top.proofs.ProgressLemmas.{both_false}
@@ -60,11 +66,11 @@ module _ (cluster : Cluster) (corpus : Corpus) (commands : List Command) (h : Li
     full_refused (Ok found) true reply = error_prints k (rejected node)
     full_refused (Ok found) false reply = error_prints k (index_not_found index)
 
-    search_prints : (body : Data) → TellsSearch corpus index node body k h → (idle : Option Idle) → IsLine (line_of cluster corpus commands h k (Search index node body opaque_id) idle)
-    search_prints body (inl (fault, is, told)) idle = rw is (error_prints k (body_error fault))
-    search_prints body (inr (inl unknown)) idle = rw unknown (unknown_refused (body_at false 0 body) (first_in full_node_in (events_of k h)) (option_and_then (λ t. reply_of t h) (started k h)))
-    search_prints body (inr (inr (inl full))) idle = rw full (full_refused (body_at false 0 body) (is_known corpus index) None)
-    search_prints body (inr (inr (inr told))) idle =
+    search_prints : (body : Data) (opaque_id : Option (List ℕ)) → TellsSearch corpus index node body k h → (noted : Option Note) → IsLine (line_of cluster corpus commands h k (Search index node body opaque_id) noted)
+    search_prints body opaque_id (inl (fault, is, told)) noted = rw is (error_prints k (body_error fault))
+    search_prints body opaque_id (inr (inl unknown)) noted = rw unknown (unknown_refused (body_at false 0 body) (first_in full_node_in (events_of k h)) (option_and_then (λ t. reply_of t h) (started k h)))
+    search_prints body opaque_id (inr (inr (inl full))) noted = rw full (full_refused (body_at false 0 body) (is_known corpus index) None)
+    search_prints body opaque_id (inr (inr (inr told))) noted =
         let begun = told.started in
         let replied = told.replied in
         rw begun (either_line (refusal index (body_at false 0 body) (is_known corpus index) None) (reply_of told.task h) (rw replied (ended told.task told.reply told.told)))
@@ -78,17 +84,29 @@ module _ (cluster : Cluster) (corpus : Corpus) (commands : List Command) (h : Li
       by_kind true = error_prints k (not_found target)
       by_kind false = reply_prints k (cancelled (filter_map named_in es) wait)
 
-  move_prints : (es : List Event) (idle : Idle) → IsLine (moved_line commands k es (Some idle))
-  move_prints [] idle = error_prints k (idle_error idle)
-  move_prints (e ∷ es) idle = reply_prints k (told_all commands (e ∷ es))
+  -- a line of a schedule, where it is noted why nothing happened if nothing did
+  move_prints : (es : List Event) (noted : Note) (error : Data) → idle_error noted ≡ Some error → IsLine (moved_line commands k es (Some noted))
+  move_prints [] noted error is = subst (λ o. IsLine (idle_line k o)) (sym is) (error_prints k error)
+  move_prints (e ∷ es) noted error is = reply_prints k (told_all commands (e ∷ es))
+
+  step_prints : (es : List Event) (live : Bool) → IsLine (moved_line commands k es (Some (if live then Waiting else NotRunning)))
+  step_prints es true = move_prints es Waiting _ refl
+  step_prints es false = move_prints es NotRunning _ refl
 
 module _ (cluster : Cluster) (corpus : Corpus) (script : Script) (h : List Event) where
-  by_command : (k : ℕ) (command : Command) → HasItsLine cluster corpus script h k command → IsLine (line_of cluster corpus script.commands h k command (idle_of command (history_before k h)))
-  by_command k (Search index node body opaque_id) told = search_prints cluster corpus script.commands h k index node body told None
+  list_prints : (k : ℕ) (wanted : Filter) (group : GroupBy) (detailed : Bool) → IsLine (line_of cluster corpus script.commands h k (ListTasks wanted group detailed) (note_of cluster script (ListTasks wanted group detailed) (history_before k h)))
+  list_prints k wanted group detailed =
+      let past = history_before k h in
+      let listed = list_json group (task_json detailed (clock past)) (shown wanted (rows_of cluster script past)) in
+      subst IsLine (sym (text_is_reply k listed)) (reply_prints k listed)
+
+  by_command : (k : ℕ) (command : Command) → HasItsLine cluster corpus script h k command → IsLine (line_of cluster corpus script.commands h k command (note_of cluster script command (history_before k h)))
+  by_command k (Search index node body opaque_id) told = search_prints cluster corpus script.commands h k index node body opaque_id told None
   by_command k (Cancel target reason wait) told = cancel_prints cluster corpus script.commands h k (target_in script.commands h target) wait (events_of k h)
-  by_command k (Deliver nth) told = move_prints cluster corpus script.commands h k (events_of k h) (NoSuchMessage (length (in_flight (history_before k h))))
-  by_command k (Step t) told = move_prints cluster corpus script.commands h k (events_of k h) (if is_live t (history_before k h) then Waiting else NotRunning)
-  by_command k (ListStep node parent) told = move_prints cluster corpus script.commands h k (events_of k h) NoListing
+  by_command k (ListTasks wanted group detailed) told = list_prints k wanted group detailed
+  by_command k (Deliver nth) told = move_prints cluster corpus script.commands h k (events_of k h) (NoSuchMessage (length (in_flight (history_before k h)))) _ refl
+  by_command k (Step t) told = step_prints cluster corpus script.commands h k (events_of k h) (is_live t (history_before k h))
+  by_command k (ListStep node parent) told = move_prints cluster corpus script.commands h k (events_of k h) NoListing _ refl
   by_command k Settle told = reply_prints k (settled (length (events_of k h)))
   by_command k History told = reply_prints k (told_all script.commands (events_before k h))
 
@@ -118,7 +136,7 @@ lines_counted line k (command ∷ commands) each =
     omega (arith, first, rest, both)
 
 -- The output has as many lines as the script has commands.
-pub as_many_lines : (cluster : Cluster) (corpus : Corpus) (script : Script) (h : List Event) → EachPrintsALine cluster corpus script h → count_by is_newline (printed cluster corpus script.commands h) ≡ length script.commands
+pub as_many_lines : (cluster : Cluster) (corpus : Corpus) (script : Script) (h : List Event) → EachPrintsALine cluster corpus script h → count_by is_newline (printed cluster corpus script h) ≡ length script.commands
 as_many_lines cluster corpus script h each =
-    lines_counted (λ k command. line_of cluster corpus script.commands h k command (idle_of command (history_before k h))) 1 script.commands
-    (λ i command at. let number : 1 + i ≡ suc i = omega arith in subst (λ n. IsLine (line_of cluster corpus script.commands h n command (idle_of command (history_before n h)))) (sym number) (each (suc i) command at))
+    lines_counted (λ k command. line_of cluster corpus script.commands h k command (note_of cluster script command (history_before k h))) 1 script.commands
+    (λ i command at. let number : 1 + i ≡ suc i = omega arith in subst (λ n. IsLine (line_of cluster corpus script.commands h n command (note_of cluster script command (history_before n h)))) (sym number) (each (suc i) command at))

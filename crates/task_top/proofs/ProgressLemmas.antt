@@ -4,6 +4,7 @@ use Rattle.std.specs.List.{list_any}
 use Rattle.std.proofs.lemmas.Bool.{cases_lt, lt-ltb, le-ltb}
 use Rattle.std.proofs.lemmas.Option.{slice_get_within}
 use Rattle.search_phase.proofs.Requests.{slice_get-append_left, slice_get-append_right}
+use Rattle.task_ids.specs.declared.cluster.Cluster.{Cluster}
 use Rattle.task_events.specs.declared.event.Event.{Event}
 use Rattle.task_events.specs.declared.event.Event.TheVariants.{Begin}
 use Rattle.task_events.specs.declared.stop.Stop.{Stop}
@@ -16,8 +17,8 @@ use Rattle.world_moves.specs.Cancels.{AllAnswered}
 use Rattle.world_steps.specs.Scripts.{IsTurn, Commands, PartlyCommands, Drains, PartlyDrains, HasRun, IsRunSoFar, NumberedLacksNumber, RunLacksNumber, StopsCommand, StopsDrain, StopsRun}
 use Rattle.world_moves.proofs.Outcomes.{stops_as}
 use Rattle.world_steps.specs.World.{WorldView}
-use Rattle.line_print.specs.declared.idle.Idle.{Idle}
-use Rattle.line_print.specs.Lines.{idle_of}
+use Rattle.line_print.specs.declared.note.Note.{Note}
+use Rattle.line_print.specs.Lines.{note_of}
 use Rattle.task_top.specs.Progress.{NotesAll, HasCome, EndsEarly, EndsWhole}
 
 -- ---- a turn
@@ -57,24 +58,25 @@ module _ (k : ℕ) (old new : List Event) (turn : IsTurn k old new) where
 some_is : (x y : Command) → Some x ≡ Some y → x ≡ y
 some_is x y e = cc
 
-module _ (script : List Command) (k n : ℕ) (found : List (Option Idle)) (old new : List Event) (notes : NotesAll script old n found) (begun_so_many : begun old ≡ n) (turn : IsTurn k old new) where
+module _ (cluster : Cluster) (script : Script) (k n : ℕ) (found : List (Option Note)) (old new : List Event) (notes : NotesAll cluster script old n found) (begun_so_many : begun old ≡ n) (turn : IsTurn k old new) where
   -- what was noted still holds
-  pub noted_still : NotesAll script new n found
-  noted_still i command lt at = notes i command lt at ∙ ap (λ h. Some (idle_of command h)) (sym (before_stays k old new turn (i + 1) (omega arith)))
+  pub noted_still : NotesAll cluster script new n found
+  noted_still i command lt at = notes i command lt at ∙ ap (λ h. Some (note_of cluster script command h)) (sym (before_stays k old new turn (i + 1) (omega arith)))
 
-  module _ (idle : Option Idle) (next : Command) (many : length found ≡ n) (next_is : slice_get script n ≡ Some next) (is : idle ≡ idle_of next old) where
-    this_one : (i : ℕ) (command : Command) → i ≡ n → slice_get script i ≡ Some command → slice_get (found ++ idle ∷ []) i ≡ Some (idle_of command (history_before (i + 1) new))
+  module _ (noted : Option Note) (next : Command) (many : length found ≡ n) (next_is : slice_get script.commands n ≡ Some next) (is : noted ≡ note_of cluster script next old) where
+    this_one : (i : ℕ) (command : Command) → i ≡ n → slice_get script.commands i ≡ Some command → slice_get (found ++ noted ∷ []) i ≡ Some (note_of cluster script command (history_before (i + 1) new))
     this_one i command e at =
         let last : i ≡ 0 + n = omega arith in
         let begins : i + 1 ≡ begun old + 1 = omega arith in
-        let same : next ≡ command = some_is next command (sym next_is ∙ ap (slice_get script) (sym e) ∙ at) in
+        let same : next ≡ command = some_is next command (sym next_is ∙ ap (slice_get script.commands) (sym e) ∙ at) in
         let past : old ≡ history_before (i + 1) new = sym (before_stays k old new turn (i + 1) (omega arith) ∙ ap (λ m. history_before m old) begins ∙ before_next old) in
-        ap (slice_get (found ++ idle ∷ [])) last ∙ slice_get-append_right 0 n found (idle ∷ []) many ∙ ap Some (is ∙ ap (λ c. idle_of c old) same ∙ ap (idle_of command) past)
+        ap (slice_get (found ++ noted ∷ [])) last ∙ slice_get-append_right 0 n found (noted ∷ []) many
+        ∙ ap Some (is ∙ ap (λ c. note_of cluster script c old) same ∙ ap (note_of cluster script command) past)
 
     -- what is noted of one command more holds too
-    pub noted_more : NotesAll script new (n + 1) (found ++ idle ∷ [])
+    pub noted_more : NotesAll cluster script new (n + 1) (found ++ noted ∷ [])
     noted_more i command lt at =
-        ⊎_elim (λ below. slice_get-append_left i found (idle ∷ []) (omega (arith, many)) ∙ noted_still i command below at) (λ past. this_one i command (omega arith) at) (cases_lt i n)
+        ⊎_elim (λ below. slice_get-append_left i found (noted ∷ []) (omega (arith, many)) ∙ noted_still i command below at) (λ past. this_one i command (omega arith) at) (cases_lt i n)
 
 -- ---- the run
 
@@ -82,17 +84,18 @@ module _ (script : List Command) (k n : ℕ) (found : List (Option Idle)) (old n
 abbrev pub Keeps : WorldView → WorldView → Type 0
 Keeps w w' = w' ≡ record w { past = w'.past; stopped = w'.stopped }
 
-module _ (script : Script) (n : ℕ) (found : List (Option Idle)) (w w' : WorldView) (come : HasCome script n found w) (idle : Option Idle) (command : Command) (next : slice_get script.commands n ≡ Some command)
-    (is : idle ≡ idle_of command w.past) (keeps : Keeps w w') where
-  one_more : Commands w.cluster w.corpus w.script (n + 1) w.past w'.past → IsTurn (n + 1) w.past w'.past → last_command w'.past ≡ n + 1 → w'.stopped ≡ None → HasCome script (n + 1) (found ++ idle ∷ []) w'
+module _ (script : Script) (n : ℕ) (found : List (Option Note)) (w w' : WorldView) (come : HasCome script n found w) (noted : Option Note) (command : Command) (next : slice_get script.commands n ≡ Some command)
+    (is : noted ≡ note_of w.cluster w.script command w.past) (keeps : Keeps w w') where
+  one_more : Commands w.cluster w.corpus w.script (n + 1) w.past w'.past → IsTurn (n + 1) w.past w'.past → last_command w'.past ≡ n + 1 → w'.stopped ≡ None → HasCome script (n + 1) (found ++ noted ∷ []) w'
   one_more commands turn last goes_on = record {
     reads = ap (λ v. v.script) keeps ∙ come.reads;
     goes_on = goes_on;
     runs = subst (λ (v : WorldView). HasRun v.cluster v.corpus v.script (n + 1) w'.past) (sym keeps) ran;
     begun_so_many = begun_more (n + 1) w.past w'.past turn ∙ ap (λ m. m + 1) come.begun_so_many;
     last = last;
-    noted = length-append found (idle ∷ []) ∙ ap (λ m. m + 1) come.noted;
-    notes = noted_more script.commands (n + 1) n found w.past w'.past come.notes come.begun_so_many turn idle command come.noted next is;
+    noted = length-append found (noted ∷ []) ∙ ap (λ m. m + 1) come.noted;
+    notes = subst (λ (v : WorldView). NotesAll v.cluster script w'.past (n + 1) (found ++ noted ∷ [])) (sym keeps)
+        (noted_more w.cluster script (n + 1) n found w.past w'.past come.notes come.begun_so_many turn noted command come.noted next (is ∙ ap (λ s. note_of w.cluster s command w.past) come.reads));
   }
     where
       ran : HasRun w.cluster w.corpus w.script (n + 1) w'.past
@@ -100,11 +103,11 @@ module _ (script : Script) (n : ℕ) (found : List (Option Idle)) (w w' : WorldV
 
   -- one command more has run, unless the world came to an early end
   pub has_come : (r : Result (Unit {0}) Stop) → OnOk r (Commands w.cluster w.corpus w.script (n + 1) w.past w'.past) → OnOk r (IsTurn (n + 1) w.past w'.past) → OnOk r (last_command w'.past ≡ n + 1) → OnOk r (w'.stopped ≡ None)
-      → OnOk r (HasCome script (n + 1) (found ++ idle ∷ []) w')
+      → OnOk r (HasCome script (n + 1) (found ++ noted ∷ []) w')
   has_come (Ok x) commands turn last goes_on = one_more commands turn last goes_on
   has_come (Err stop) commands turn last goes_on = tt
 
-module _ (script : Script) (found : List (Option Idle)) (w : WorldView) (past : List Event) (come : HasCome script (length script.commands) found w) where
+module _ (script : Script) (found : List (Option Note)) (w : WorldView) (past : List Event) (come : HasCome script (length script.commands) found w) where
   all_ran : HasRun w.cluster w.corpus script (length script.commands) w.past
   all_ran = subst (λ s. HasRun w.cluster w.corpus s (length script.commands) w.past) come.reads come.runs
 
@@ -113,12 +116,12 @@ module _ (script : Script) (found : List (Option Idle)) (w : WorldView) (past : 
     ran = (w.past, all_ran, subst (λ s. Drains w.cluster w.corpus s w.past past) come.reads drains);
     drained = drained;
     answered = answered;
-    tells = λ i command at none. noted_still script.commands k (length script.commands) found w.past past come.notes come.begun_so_many turn i command (slice_get_within script.commands i command at) at;
+    tells = λ i command at none. noted_still w.cluster script k (length script.commands) found w.past past come.notes come.begun_so_many turn i command (slice_get_within script.commands i command at) at;
   }
 
 -- ---- an early end
 
-module _ (script : Script) (n : ℕ) (found : List (Option Idle)) (w : WorldView) (past : List Event) (come : HasCome script n found w) where
+module _ (script : Script) (n : ℕ) (found : List (Option Note)) (w : WorldView) (past : List Event) (come : HasCome script n found w) where
   pub stops_in_command : (r : Result (Unit {0}) Stop) → OnErr r (PartlyCommands w.cluster w.corpus w.script (n + 1) w.past past) → IfErr r (λ stop. w.stopped ≡ None → StopsCommand w.cluster w.corpus w.script (n + 1) w.past past stop)
       → IfErr r (λ stop. EndsEarly w.cluster w.corpus script past stop)
   stops_in_command (Ok x) part cause = tt
@@ -132,7 +135,7 @@ module _ (script : Script) (n : ℕ) (found : List (Option Idle)) (w : WorldView
       so_far : (x : List Event) → PartlyCommands w.cluster w.corpus w.script (n + 1) w.past x → IsRunSoFar w.cluster w.corpus w.script x
       so_far x part = inl (n, w.past, come.runs, subst (λ m. PartlyCommands w.cluster w.corpus w.script m w.past x) (add-one n) part)
 
-module _ (script : Script) (found : List (Option Idle)) (w : WorldView) (past : List Event) (come : HasCome script (length script.commands) found w) where
+module _ (script : Script) (found : List (Option Note)) (w : WorldView) (past : List Event) (come : HasCome script (length script.commands) found w) where
   pub stops_in_drain : (stop : Stop) → PartlyDrains w.cluster w.corpus w.script w.past past → (w.stopped ≡ None → StopsDrain w.cluster w.corpus w.script w.past past stop) → EndsEarly w.cluster w.corpus script past stop
   stops_in_drain stop part cause = record {
     ran_so_far = inr (w.past, all_ran script found w past come, subst (λ s. PartlyDrains w.cluster w.corpus s w.past past) come.reads part);

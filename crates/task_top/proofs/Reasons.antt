@@ -1,5 +1,6 @@
 -- Only cancels of the script name tasks, so each mark and each refusal has the number of one.
-use Rattle.std.proofs.Common.{cond, ◌≡◌, ◌⊎◌, ℕ, zero, suc, Bool, true, false, List, [], ◌∷◌, filter, length, Option, Some, None, inl, inr, refl, sym, ap, subst, ◌∙◌, arith}
+use Rattle.std.proofs.Common.{cond, ◌≡◌, ◌⊎◌, ℕ, zero, suc, Bool, true, false, List, [], ◌∷◌, ◌++◌, map, reverse, length, Option, Some, None, inl, inr, refl, sym, ap, subst, ◌∙◌, arith, append_assoc}
+use mathlib.Core.List.{reverse-cons}
 use Rattle.std.specs.Prelude.{◌==◌, is_some, option_map, if◌then◌else◌}
 use Rattle.std.specs.Option.{option_map_or}
 use Rattle.search_phase.proofs.Sorting.{by_test}
@@ -19,15 +20,16 @@ use Rattle.task_events.specs.Messages.Message.{Request, Answer, Ban, Ack, Unban}
 use Rattle.task_events.specs.Steps.{event_of, first_step, cancelled_step, step_of_passed, planned_step, request_of}
 use Rattle.task_events.specs.Tasks.{is_live, is_new, ancestors}
 use Rattle.task_laws.proofs.Same.{same_tests}
+use Rattle.script_lang.specs.declared.command.CancelTarget.{CancelTarget}
+use Rattle.script_lang.specs.declared.command.CancelTarget.TheVariants.{Task, Matching, Command as Of}
 use Rattle.script_lang.specs.declared.command.Command.{Command}
 use Rattle.script_lang.specs.declared.command.Command.TheVariants as commands
 use Rattle.script_lang.specs.declared.command.Script.{Script}
-use Rattle.world_moves.specs.Cancels.{after_cancel_of, is_due, target_of, waiting_for, with_answers, with_cancel, with_due}
+use Rattle.world_moves.specs.Cancels.{after_cancel, after_cancel_of, after_naming, answer_by, answer_to, due_for, is_due, root_of, targets, waits_for_end, with_answers, with_cancel, with_cancels, with_due}
 use Rattle.node_parts.specs.declared.listing.Listing.{Listing}
 use Rattle.world_moves.specs.Listings.{IsListStep, ListSteps}
 use Rattle.world_moves.specs.Moves.{IsDelivery, Delivers, IsStart, Starts}
 use Rattle.command_roots.specs.Roots.{command_at, root_request}
-use Rattle.world_moves.proofs.CancelAnswers.{answers_appended, answers_keep}
 use Rattle.world_steps.specs.declared.acting.Stepped.{Stepped}
 use Rattle.world_steps.specs.declared.acting.Stepped.TheVariants.{Done, Waiting, NotRunning}
 use Rattle.world_steps.specs.Runs.{AnswersStep, FirstMoves, Passes, Settles, Steps}
@@ -49,10 +51,19 @@ module _ (c : ℕ) (t : TaskId) where
   one_more (Cancel d u wait) h none = absurd (cc)
   one_more _ h none = refl
 
+  answer_more : (wait : Bool) (d : ℕ) (h : List Event) → NamesNoMore h (answer_by wait d ∷ h)
+  answer_more true d h = refl
+  answer_more false d h = refl
+
+  all_answers_more : (past : List Event) (ds : List ℕ) (h : List Event) → NamesNoMore h (reverse (map (answer_to past) ds) ++ h)
+  all_answers_more past [] h = refl
+  all_answers_more past (d ∷ ds) h =
+      ap (λ es. is_named c t (es ++ h)) (reverse-cons (answer_to past d) (map (answer_to past) ds))
+      ∙ ap (is_named c t) (append_assoc (reverse (map (answer_to past) ds)) (answer_to past d ∷ []) h)
+      ∙ all_answers_more past ds (answer_to past d ∷ h) ∙ answer_more (waits_for_end d past) d h
+
   answers_more : (u : TaskId) (h : List Event) → NamesNoMore h (with_answers u h)
-  answers_more u h =
-      let due = filter (is_due u h) (waiting_for u h) in
-      subst (NamesNoMore h) (answers_appended h due h) (answers_keep (NamesNoMore h) (λ d past n. n) (λ d past n. n) h due h refl)
+  answers_more u h = all_answers_more h (due_for u h) h
 
   due_more : (e : Event) (h : List Event) → is_naming e ≡ false → NamesNoMore h (with_due e h)
   due_more (Refuse u d) h none = answers_more u (Refuse u d ∷ h)
@@ -156,18 +167,37 @@ module _ (c : ℕ) (t : TaskId) where
     lists_where l h new (inr (closed, same)) = ap (is_named c t) same
 
     -- a cancel names with its own number
-    module _ (k : ℕ) (apart : (c == k) ≡ false) (wait : Bool) (h : List Event) where
-      cancels_of : (o : Option TaskId) → NamesNoMore h (after_cancel_of k wait h o)
-      cancels_of None = refl
-      cancels_of (Some u) = by_live (is_live u h)
+    module _ (k : ℕ) (apart : (c == k) ≡ false) (wait : Bool) where
+      cancel_more : (u : TaskId) (h : List Event) → NamesNoMore h (with_cancel k u wait h)
+      cancel_more u h = by_mark (is_some (mark_of u h))
         where
           by_mark : (b : Bool) → NamesNoMore h (if b then Cancel k u wait ∷ h else Mark u k ∷ Cancel k u wait ∷ h)
           by_mark true = grind (arith, same_tests)
           by_mark false = grind (arith, same_tests)
 
-          by_live : (b : Bool) → NamesNoMore h (if b then with_answers u (with_cancel k u wait h) else NotFound k ∷ h)
-          by_live true = answers_more u (with_cancel k u wait h) ∙ by_mark (is_some (mark_of u h))
+      cancels_more : (us : List TaskId) (h : List Event) → NamesNoMore h (with_cancels k wait us h)
+      cancels_more [] h = refl
+      cancels_more (u ∷ us) h = cancels_more us (with_cancel k u wait h) ∙ cancel_more u h
+
+      naming_more : (us : List TaskId) (h : List Event) → NamesNoMore h (after_naming k wait us h)
+      naming_more us h = by_due (is_due (with_cancels k wait us h) k) ∙ cancels_more us h
+        where
+          by_due : (b : Bool) → NamesNoMore (with_cancels k wait us h) (if b then answer_by wait k ∷ with_cancels k wait us h else with_cancels k wait us h)
+          by_due true = answer_more wait k (with_cancels k wait us h)
+          by_due false = refl
+
+      cancel_of_more : (o : Option TaskId) (h : List Event) → NamesNoMore h (after_cancel_of k wait o h)
+      cancel_of_more None h = refl
+      cancel_of_more (Some u) h = by_live (is_live u h)
+        where
+          by_live : (b : Bool) → NamesNoMore h (if b then after_naming k wait (u ∷ []) h else NotFound k ∷ h)
+          by_live true = naming_more (u ∷ []) h
           by_live false = refl
+
+      after_more : (target : CancelTarget) (h : List Event) → NamesNoMore h (after_cancel cluster script k target wait h)
+      after_more (Matching wanted) h = naming_more (targets cluster script wanted h) h
+      after_more (Task u) h = cancel_of_more (Some u) h
+      after_more (Of d) h = cancel_of_more (root_of d h) h
 
     -- what a command names is its own, and it is a cancel
     by_command : (k : ℕ) (command : Command) → command_at script k ≡ Some command → (h new : List Event) → Does cluster corpus script k command h new → is_named c t new ≡ true → (is_named c t h ≡ true) ⊎ IsCancelAt script c
@@ -175,7 +205,8 @@ module _ (c : ℕ) (t : TaskId) where
     by_command k (commands.Cancel target reason wait) at h new does named =
         by_test (c == k)
         (λ yes. let same : c ≡ k = grind (arith, same_tests) in inr (target, reason, wait, ap (command_at script) same ∙ at))
-        (λ no. inl (sym (ap (is_named c t) does ∙ cancels_of k no wait h (target_of target h)) ∙ named))
+        (λ no. inl (sym (ap (is_named c t) does ∙ after_more k no wait target h) ∙ named))
+    by_command k (commands.ListTasks wanted group detailed) at h new does named = inl (sym (ap (is_named c t) does) ∙ named)
     by_command k (commands.Deliver nth) at h new does named = inl (sym (delivers_where nth h new does) ∙ named)
     by_command k (commands.Step u) at h new does named = inl (sym (answers_step_more u h new does.0 does.1) ∙ named)
     by_command k (commands.ListStep node parent) at h new does named = inl (sym (lists_where (record { node = node; parent = parent }) h new does) ∙ named)

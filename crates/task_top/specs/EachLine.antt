@@ -10,8 +10,9 @@ use Rattle.task_ids.specs.declared.corpus.Corpus.{Corpus}
 use Rattle.task_ids.specs.declared.task_id.TaskId.{TaskId}
 use Rattle.task_ids.specs.declared.text.Text.{Text}
 use Rattle.script_lang.specs.declared.command.CancelTarget.{CancelTarget}
+use Rattle.script_lang.specs.declared.command.CancelTarget.TheVariants.{Matching}
 use Rattle.script_lang.specs.declared.command.Command.{Command}
-use Rattle.script_lang.specs.declared.command.Command.TheVariants.{Search, Cancel, Deliver, Step, ListStep, Settle, History}
+use Rattle.script_lang.specs.declared.command.Command.TheVariants.{Search, Cancel, ListTasks, Deliver, Step, ListStep, Settle, History}
 use Rattle.script_lang.specs.declared.command.Script.{Script}
 use Rattle.task_events.specs.declared.event.Event.{Event}
 use Rattle.task_events.specs.declared.event.Event.TheVariants as events
@@ -21,11 +22,11 @@ use Rattle.task_events.specs.Bans.{mark_of}
 use Rattle.task_events.specs.Messages.{in_flight}
 use Rattle.task_events.specs.Tasks.{is_live, refusal_of, reply_of}
 use Rattle.task_events.specs.Turns.{events_of, history_before}
-use Rattle.world_moves.specs.Cancels.{is_answered, target_of}
+use Rattle.world_moves.specs.Cancels.{is_answered, target_of, targets}
 use Rattle.world_moves.specs.Listings.{is_open}
 use Rattle.command_roots.specs.Roots.{command_at}
 use Rattle.world_steps.specs.Runs.{next_of}
-use Rattle.line_print.specs.Lines.{is_known, named_in, finds_none, idle_of, line_of, printed}
+use Rattle.line_print.specs.Lines.{is_known, named_in, finds_none, note_of, line_of, printed}
 
 -- ---- a search
 
@@ -62,17 +63,20 @@ TellsSearch corpus index node body k h =
 abbrev pub as_began : ℕ → List Event → List Event
 as_began k h = events.Begin k ∷ history_before k h
 
--- the cancel named the task that it is about, and no other, and has its answer
-pub record HasNamed (k : ℕ) (target : CancelTarget) (h : List Event) : Type 0 where
-  pub task : TaskId
-  pub about : target_of target (as_began k h) ≡ Some task
-  pub named : filter_map named_in (events_of k h) ≡ task ∷ []
+-- the cancel named these tasks, in this order, and no other, and has its answer
+pub record HasNamed (k : ℕ) (tasks : List TaskId) (h : List Event) : Type 0 where
+  pub named : filter_map named_in (events_of k h) ≡ tasks
   pub found : list_any finds_none (events_of k h) ≡ false
   pub answered : is_answered k h ≡ true
 
--- It found no task, or it has its answer.
-abbrev pub TellsCancel : CancelTarget → ℕ → List Event → Type 0
-TellsCancel target k h = (events_of k h ≡ events.NotFound k ∷ []) ⊎ HasNamed k target h
+-- it named the one task that it is about
+abbrev pub HasNamedOne : ℕ → CancelTarget → List Event → Type 0
+HasNamedOne k target h = (task : TaskId) × (target_of target (as_began k h) ≡ Some task) × HasNamed k (task ∷ []) h
+
+-- A cancel by a filter named each live task that the filter lets through, by ascending id; another the task that it is about, or it found none.
+abbrev pub TellsCancel : Cluster → Script → CancelTarget → ℕ → List Event → Type 0
+TellsCancel cluster script (Matching wanted) k h = HasNamed k (targets cluster script wanted (as_began k h)) h
+TellsCancel cluster script target k h = (events_of k h ≡ events.NotFound k ∷ []) ⊎ HasNamedOne k target h
 
 -- ---- a line of a schedule
 
@@ -87,10 +91,11 @@ module _ (cluster : Cluster) (corpus : Corpus) (script : Script) where
   abbrev pub Waits : TaskId → List Event → Type 0
   Waits t past = (is_live t past ≡ true) × (next_of cluster corpus script t past ≡ None)
 
-  -- What the line of a command tells: a `deliver`, a `step` or a `list_step` of its events, or else of why nothing happened. A `settle` and a `history` tell of any number of events.
+  -- What the line of a command tells: a `deliver`, a `step` or a `list_step` of its events, or else of why nothing happened. A list tells what was noted of it; a `settle` and a `history` tell of any number of events.
   abbrev pub HasItsLine : List Event → ℕ → Command → Type 0
   HasItsLine h k (Search index node body opaque_id) = TellsSearch corpus index node body k h
-  HasItsLine h k (Cancel target reason wait) = TellsCancel target k h
+  HasItsLine h k (Cancel target reason wait) = TellsCancel cluster script target k h
+  HasItsLine h k (ListTasks wanted group detailed) = ⊤
   HasItsLine h k (Deliver nth) = Moved k h ⊎ (length (in_flight (as_began k h)) ≤ nth)
   HasItsLine h k (Step t) = Moved k h ⊎ (is_live t (as_began k h) ≡ false) ⊎ Waits t (as_began k h)
   HasItsLine h k (ListStep node parent) = Moved k h ⊎ (is_open (record { node = node; parent = parent }) (as_began k h) ≡ false)
@@ -112,7 +117,7 @@ IsLine text = (told : List ℕ) × (text ≡ told ++ 10 ∷ []) × (list_any is_
 
 -- What the output has for each command is one line.
 abbrev pub EachPrintsALine : Cluster → Corpus → Script → List Event → Type 0
-EachPrintsALine cluster corpus script h = (k : ℕ) (command : Command) → command_at script k ≡ Some command → IsLine (line_of cluster corpus script.commands h k command (idle_of command (history_before k h)))
+EachPrintsALine cluster corpus script h = (k : ℕ) (command : Command) → command_at script k ≡ Some command → IsLine (line_of cluster corpus script.commands h k command (note_of cluster script command (history_before k h)))
 
 -- ---- its reason
 
@@ -129,5 +134,5 @@ pub record TellsReasons (script : Script) (h : List Event) : Type 0 where
 pub record HasLines (cluster : Cluster) (corpus : Corpus) (script : Script) (h : List Event) : Type 0 where
   pub told : EachHasItsLine cluster corpus script h
   pub one_line : EachPrintsALine cluster corpus script h
-  pub as_many : count_by is_newline (printed cluster corpus script.commands h) ≡ length script.commands
+  pub as_many : count_by is_newline (printed cluster corpus script h) ≡ length script.commands
   pub reasons : TellsReasons script h

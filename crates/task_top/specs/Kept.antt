@@ -58,7 +58,7 @@ module _ (cluster : Cluster) where
 
   -- the lines that what is kept prints
   abbrev pub lines_of : Kept → List ℕ
-  lines_of kept = printed cluster kept.corpus kept.script.commands kept.history
+  lines_of kept = printed cluster kept.corpus kept.script kept.history
 
   -- What was written grew by exactly the lines, or by a first part of them, or not at all.
   abbrev pub WritesLines : Option (List ℕ) → Option (List ℕ) → Status → Kept → Type 0

@@ -13,7 +13,7 @@ mod words;
 
 pub use kept::Kept;
 pub use laws::{limits, one_reading};
-pub use line_print::{Idle, print_lines};
+pub use line_print::{Note, print_lines};
 pub use plans::{Plan, PlanError};
 pub use script_lang::{Command, Script};
 pub use status::Status;

@@ -4,38 +4,48 @@ ghost use Rattle.std.specs.Prelude.{◌≡◌, ◌+◌, ◌≤◌, [], None, Som
 ghost use Rattle.task_events.specs.Lawful.{Lawful};
 ghost use Rattle.world_moves.specs.Plain.{AnswersPlainly};
 ghost use Rattle.world_steps.specs.Scripts.{CanRun};
-ghost use Rattle.line_print.specs.Lines.{idle_of};
+ghost use Rattle.line_print.specs.Lines.{note_of};
 ghost use Rattle.task_top.specs.Progress.{HasCome, EndsEarly, EndsWhole};
 
-use line_print::Idle;
+use line_print::Note;
 use script_lang::{Command, Script};
 use std::alloc::Global;
 use task_events::{History, Stop};
-use task_ids::{Cluster, Corpus};
+use task_ids::{Cluster, Corpus, Items};
 use world_steps::World;
 
-/// Why a command makes nothing happen, if it does not.
-fn idle_of(world: &World<'_>, command: &Command) -> Option<Idle>
+/// What is noted of a command before it runs: what it lists, or why it makes nothing happen if it does not. It fails only for
+/// want of memory.
+fn note_of(world: &World<'_>, command: &Command) -> Result<Option<Note>, Stop>
     requires { world.now.stopped ≡ None }
-    ensures { result ≡ idle_of command.now world.now.past }
+    ensures ok { IfOk result (λ note. note ≡ note_of world.now.cluster world.now.script command.now world.now.past) }
+    ensures early { IfErr result (λ stop. stop ≡ Stop.Memory) }
 {
     match command {
+        Command::ListTasks {
+            filter,
+            group,
+            detailed,
+        } => {
+            let text = world.list(filter, *group, *detailed)?;
+            Ok(Some(Note::Listed(Items::from_vec(text))))
+        }
         Command::Deliver { .. } => {
             let in_flight = world.in_flight();
-            Some(Idle::NoSuchMessage { in_flight })
+            Ok(Some(Note::NoSuchMessage { in_flight }))
         }
-        Command::Step { task } if world.is_live(*task) => Some(Idle::Waiting),
-        Command::Step { .. } => Some(Idle::NotRunning),
-        Command::ListStep { .. } => Some(Idle::NoListing),
-        _ => None,
+        Command::Step { task } if world.is_live(*task) => Ok(Some(Note::Waiting)),
+        Command::Step { .. } => Ok(Some(Note::NotRunning)),
+        Command::ListStep { .. } => Ok(Some(Note::NoListing)),
+        _ => Ok(None),
     }
 }
 
-/// Runs the command at a place, from 0, and notes why it makes nothing happen if it does not.
+/// Runs the command at a place, from 0, and notes before what its line tells of it besides its events.
 fn run_command(
     world: &mut World<'_>,
     script: &Script,
-    found: &mut Vec<Option<Idle>>,
+    found: &mut Vec<Option<Note>>,
     place: usize,
     command: &Command,
 ) -> Result<(), Stop>
@@ -46,18 +56,18 @@ fn run_command(
     ensures early { IfErr result (λ stop. EndsEarly world.old.cluster world.old.corpus script.now world.new.past stop) }
     ensures keeps { world.new ≡ record world.old { past = world.new.past; stopped = world.new.stopped } }
 {
-    let idle = idle_of(world, command);
-    if found.push(idle).is_err() {
+    let note = note_of(world, command)?;
+    if found.push(note).is_err() {
         return Err(Stop::Memory);
     }
     world.command(place as u32 + 1)
 }
 
-/// Runs all commands, and notes of each why it makes nothing happen if it does not.
+/// Runs all commands, and notes before each what its line tells of it besides its events.
 fn run_commands(
     world: &mut World<'_>,
     script: &Script,
-    found: &mut Vec<Option<Idle>>,
+    found: &mut Vec<Option<Note>>,
 ) -> Result<(), Stop>
     requires come { HasCome script.now 0 found.old.items world.old }
     requires few { length script.now.commands ≤ 65535 }
@@ -72,7 +82,7 @@ fn run_commands(
 }
 
 /// Runs all commands and drains the world.
-fn run_all(alloc: Global, world: &mut World<'_>, script: &Script) -> Result<Vec<Option<Idle>>, Stop>
+fn run_all(alloc: Global, world: &mut World<'_>, script: &Script) -> Result<Vec<Option<Note>>, Stop>
     requires come { HasCome script.now 0 [] world.old }
     requires few { length script.now.commands ≤ 65535 }
     ensures whole { IfOk result (λ found. EndsWhole world.old.cluster world.old.corpus script.now world.new.past found.items) }
@@ -85,14 +95,14 @@ fn run_all(alloc: Global, world: &mut World<'_>, script: &Script) -> Result<Vec<
     Ok(found)
 }
 
-/// Runs a script over the documents of a corpus: what happened, and of each command why it makes nothing happen if it
-/// does not; or why the run came to an early end.
+/// Runs a script over the documents of a corpus: what happened, and what was noted before each command; or why the run came to
+/// an early end.
 pub(crate) fn run_script(
     alloc: Global,
     cluster: Cluster,
     corpus: &Corpus,
     script: &Script,
-) -> (History, Result<Vec<Option<Idle>>, Stop>)
+) -> (History, Result<Vec<Option<Note>>, Stop>)
     requires can_run { CanRun cluster.nodes script.now.commands }
     requires few { length script.now.commands ≤ 65535 }
     ensures whole { IfOk result.1 (λ found. EndsWhole cluster corpus.now script.now result.0 found.items) }

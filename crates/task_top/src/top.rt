@@ -15,7 +15,7 @@ use crate::reading::read_input;
 use crate::run::run_script;
 use crate::status::Status;
 use es_io::{ReadAll, Sink, Source, read_all, write_all_of};
-use line_print::{Idle, print_lines};
+use line_print::{Note, print_lines};
 use script_lang::{Script, ScriptError};
 use std::alloc::Global;
 use task_events::Stop;
@@ -28,7 +28,7 @@ const MAX_INPUT: usize = 67_108_864;
 /// Reads an input to its end, runs its script step by step on a cluster, and writes the line of each command.
 ///
 /// The input is documents as Elasticsearch's bulk API takes them, a line `--`, and the lines of a script. The script runs in
-/// a serial world: its nodes are simulated, and one thing happens after another. It starts searches and cancels them, and
+/// a serial world: its nodes are simulated, and one thing happens after another. It starts searches, lists and cancels them, and
 /// may say itself which message comes next, and which task or listing makes a step. After the last command the world is
 /// drained, so that nothing goes on when the call ends, and every cancel has its answer.
 ///
@@ -60,8 +60,8 @@ pub fn sim_top<S: Source, K: Sink>(
     ensures unharmed { AnswersWholly result.1.script result.1.history }
     // After a whole run nothing is live, in flight or listed, no ban stands, and every cancel that named a task is answered.
     ensures rests { Rests result.0 result.1 }
-    // So each command has its line: a search the end of its task or what refused it, a cancel its answer or that it found no task, a line of a
-    // schedule its events or why nothing happened; and what is printed for it is one line.
+    // So each command has its line: a search the end of its task or what refused it, a cancel its answer or that it found no task, a list what
+    // it lists, a line of a schedule its events or why nothing happened; and what is printed for it is one line.
     ensures each_has_its_line { TellsEach cluster.now result.0 result.1 }
     // Where the sink tells its bytes: they grew by the printed lines of the run.
     ensures output { WritesLines cluster.now (K.written out.old) (K.written out.new) result.0 result.1 }
@@ -144,7 +144,7 @@ fn write_lines<K: Sink>(
     alloc: Global,
     cluster: &Cluster,
     kept: &Kept,
-    found: &[Option<Idle>],
+    found: &[Option<Note>],
     out: &mut K,
 ) -> Status
     requires few { length kept.now.script.commands ≤ 65535 }

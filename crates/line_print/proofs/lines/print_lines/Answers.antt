@@ -11,4 +11,4 @@ returns-clause-by c =
 pub returns-clause-printed : goal.returns-clause-printed
 returns-clause-printed c = λ f.
     subst (λ (text : List ℕ). OnOk c.run_lines.result (c.run_lines.new.out.items ≡ c.args.out.now.items ++ text))
-    (printed_as_found c.args.found.now c.args.cluster.now c.args.corpus.now c.args.script.now.commands c.args.history.now f) (returns-clause-by c)
+    (printed_as_found c.args.found.now c.args.cluster.now c.args.corpus.now c.args.script.now c.args.history.now f) (returns-clause-by c)

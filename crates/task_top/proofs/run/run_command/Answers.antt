@@ -1,14 +1,14 @@
 use Rattle.std.proofs.Common.{◌≡◌, ◌+◌, List, [], ◌∷◌, ◌++◌, Option, OnOk, subst, sym, rules}
-use Rattle.line_print.specs.declared.idle.Idle.{Idle}
+use Rattle.line_print.specs.declared.note.Note.{Note}
 use Rattle.task_top.specs.Progress.{HasCome}
 use Rattle.task_top.proofs.ProgressLemmas.{has_come, stops_in_command}
 use Rattle.task_top.proofs.run.run_command.Goals as goal
 
 pub returns-clause-ok : goal.returns-clause-ok
 returns-clause-ok c =
-    let pushed : c.push.new.self.items ≡ c.args.found.now.items ++ c.idle_of-idle.result ∷ [] = search rules in
-    subst (λ (items : List (Option Idle)). OnOk c.command.result (HasCome c.args.script.now (c.args.place + 1) items c.command.new.self)) (sym pushed)
-    (has_come c.args.script.now c.args.place c.args.found.now.items c.args.world.now c.command.new.self c.requires.come c.idle_of-idle.result c.args.command.now c.requires.next c.idle_of-idle.ensures c.command.ensures.keeps
+    let pushed : c.push.new.self.items ≡ c.args.found.now.items ++ c.in_ok-note.note ∷ [] = search rules in
+    subst (λ (items : List (Option Note)). OnOk c.command.result (HasCome c.args.script.now (c.args.place + 1) items c.command.new.self)) (sym pushed)
+    (has_come c.args.script.now c.args.place c.args.found.now.items c.args.world.now c.command.new.self c.requires.come c.in_ok-note.note c.args.command.now c.requires.next c.in_ok-note.ensures.ok c.command.ensures.keeps
     c.command.result c.command.ensures.done c.command.ensures.turn c.command.ensures.number c.command.ensures.goes_on)
 
 pub returns-clause-early : goal.returns-clause-early
