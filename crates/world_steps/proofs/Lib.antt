@@ -16,5 +16,6 @@ pub mod Plans
 pub mod Readiness
 pub mod Resting
 pub mod RootsAfter
+pub mod TargetsLive
 pub mod Turning
 pub mod Unacted
