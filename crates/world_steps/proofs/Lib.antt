@@ -10,7 +10,9 @@ pub mod HadBefore
 pub mod JoinsAfter
 pub mod ListingKeys
 pub mod NamedAfter
-pub mod NoneDue
+pub mod NamesAll
+pub mod NamesNone
+pub mod NamingEnds
 pub mod Passing
 pub mod Plans
 pub mod Readiness

@@ -1,131 +1,101 @@
 //! Cancel commands.
 
-ghost use Rattle.std.specs.Prelude.{◌≡◌, ◌∷◌, ◌≤◌, true, false, length, is_some, Err, Some, IfSome, IfNone, OnOk, OnErr};
+ghost use Rattle.std.specs.Prelude.{◌≡◌, ◌∷◌, ◌≤◌, true, false, length, Err, Some, IfSome, IfNone, OnOk, OnErr};
 ghost use Rattle.task_ids.specs.Limits.{IsCancel};
-ghost use Rattle.task_events.specs.declared.history.TheConstants.{MAX_EVENTS};
 ghost use Rattle.task_events.specs.Cancels.{beginning};
-ghost use Rattle.task_events.specs.Bans.{mark_of};
 ghost use Rattle.task_events.specs.Tasks.{is_live};
-ghost use Rattle.world_moves.specs.Cancels.{after_cancel, target_of, with_answers, with_cancel};
+ghost use Rattle.world_moves.specs.Cancels.{after_cancel, after_cancel_of, after_naming, target_of, targets};
 ghost use Rattle.world_moves.specs.Moves.{IsPartOf, IsCutShort};
 ghost use Rattle.world_moves.specs.Ties.{IsTied, Keeps, KeepsLaws};
+ghost use Rattle.world_steps.specs.Naming.{CanName};
 
-use cancel_core::Waiter;
+use crate::naming::{answer_if_due, name, name_all};
 use script_lang::CancelTarget;
 use task_events::{Event, Stop};
 use task_ids::TaskId;
+use tasks_api::Filter;
 use world_moves::append::append;
-use world_moves::marks::mark;
-use world_moves::performing::perform;
+use world_moves::rows::matching;
 use world_moves::state::State;
 
-/// Whether a live task is marked.
-fn is_marked(state: &State<'_>, task: TaskId) -> bool
-    requires tied { IsTied state.now }
-    requires live { is_live task state.now.history ≡ true }
-    ensures { result ≡ is_some (mark_of task state.now.history) }
+/// A cancel that has begun names one live task, and is answered where there is nothing to wait for.
+fn cancel_task(state: &mut State<'_>, number: u32, task: TaskId, wait: bool) -> Result<(), Stop>
+    requires tied { IsTied state.old }
+    requires begun { beginning state.old.history ≡ Some number }
+    requires number { IsCancel number }
+    requires live { is_live task state.old.history ≡ true }
+    ensures happened { OnOk result (state.new.history ≡ after_naming number wait (task ∷ []) state.old.history) }
+    ensures tied { OnOk result (IsTied state.new) }
+    ensures keeps { Keeps state.old state.new }
+    ensures part { OnErr result (IsPartOf state.old.history state.new.history (after_naming number wait (task ∷ []) state.old.history)) }
+    ensures laws { OnErr result (KeepsLaws state.new) }
+    ensures full { result ≡ Err Stop.HistoryFull → IsCutShort (λ past. IsPartOf state.old.history past (after_naming number wait (task ∷ []) state.old.history)) state.new.history }
+    ensures numbers { result ≡ Err Stop.NumbersSpent → ⊥ }
 {
-    match state.tasks.get(&task) {
-        Some(running) => running.track.closed().is_some(),
-        None => unreachable!(),
+    match name(state, number, task, wait) {
+        Ok(()) => {}
+        Err(stop) => return Err(stop),
+    }
+    match answer_if_due(state, number, wait) {
+        Ok(()) => Ok(()),
+        Err(stop) => Err(stop),
     }
 }
 
-/// A cancel joins the cancellation of a live task that is marked.
-fn join(state: &mut State<'_>, number: u32, task: TaskId, wait: bool) -> Result<(), Stop>
+/// A cancel that has begun names these live tasks, and is answered where there is nothing to wait for at any of them.
+fn cancel_tasks(
+    state: &mut State<'_>,
+    number: u32,
+    tasks: &[TaskId],
+    wait: bool,
+) -> Result<(), Stop>
     requires tied { IsTied state.old }
     requires begun { beginning state.old.history ≡ Some number }
     requires number { IsCancel number }
-    requires live { is_live task state.old.history ≡ true }
-    requires marked { is_some (mark_of task state.old.history) ≡ true }
-    ensures happened { OnOk result (state.new.history ≡ with_answers task (Event.Cancel number task wait ∷ state.old.history)) }
+    requires can { CanName number tasks.now state.old.history }
+    ensures happened { OnOk result (state.new.history ≡ after_naming number wait tasks.now state.old.history) }
     ensures tied { OnOk result (IsTied state.new) }
     ensures keeps { Keeps state.old state.new }
-    ensures room { OnOk result (length state.new.history ≤ MAX_EVENTS) }
-    ensures part { OnErr result (IsPartOf state.old.history state.new.history (with_answers task (Event.Cancel number task wait ∷ state.old.history))) }
+    ensures part { OnErr result (IsPartOf state.old.history state.new.history (after_naming number wait tasks.now state.old.history)) }
     ensures laws { OnErr result (KeepsLaws state.new) }
-    ensures full { result ≡ Err Stop.HistoryFull → IsCutShort (λ past. IsPartOf state.old.history past (with_answers task (Event.Cancel number task wait ∷ state.old.history))) state.new.history }
+    ensures full { result ≡ Err Stop.HistoryFull → IsCutShort (λ past. IsPartOf state.old.history past (after_naming number wait tasks.now state.old.history)) state.new.history }
     ensures numbers { result ≡ Err Stop.NumbersSpent → ⊥ }
 {
-    let waiter = Waiter {
-        cancel: number,
-        wait,
-    };
-    let Ok(acts) = state.cores[task.node as usize - 1].joined(task, waiter) else {
-        return Err(Stop::Memory);
-    };
-    append(
-        &mut state.history,
-        Event::Cancel {
-            cancel: number,
-            task,
-            wait,
-        },
-    )?;
-    perform(
-        &mut state.flight,
-        &mut state.history,
-        task.node,
-        acts.as_slice(),
-    )?;
-    Ok(())
-}
-
-/// A cancel names a live task that has no mark, and marks it.
-fn name_and_mark(state: &mut State<'_>, number: u32, task: TaskId, wait: bool) -> Result<(), Stop>
-    requires tied { IsTied state.old }
-    requires begun { beginning state.old.history ≡ Some number }
-    requires number { IsCancel number }
-    requires live { is_live task state.old.history ≡ true }
-    requires unmarked { is_some (mark_of task state.old.history) ≡ false }
-    ensures happened { OnOk result (state.new.history ≡ with_answers task (Event.Mark task number ∷ Event.Cancel number task wait ∷ state.old.history)) }
-    ensures tied { OnOk result (IsTied state.new) }
-    ensures keeps { Keeps state.old state.new }
-    ensures room { OnOk result (length state.new.history ≤ MAX_EVENTS) }
-    ensures part { OnErr result (IsPartOf state.old.history state.new.history (with_answers task (Event.Mark task number ∷ Event.Cancel number task wait ∷ state.old.history))) }
-    ensures laws { OnErr result (KeepsLaws state.new) }
-    ensures full { result ≡ Err Stop.HistoryFull → IsCutShort (λ past. IsPartOf state.old.history past (with_answers task (Event.Mark task number ∷ Event.Cancel number task wait ∷ state.old.history))) state.new.history }
-    ensures numbers { result ≡ Err Stop.NumbersSpent → ⊥ }
-{
-    append(
-        &mut state.history,
-        Event::Cancel {
-            cancel: number,
-            task,
-            wait,
-        },
-    )?;
-    let waiter = Waiter {
-        cancel: number,
-        wait,
-    };
-    mark(state, task, number, Some(waiter))?;
-    Ok(())
-}
-
-/// A cancel names a live task, which is marked from then on.
-fn cancel_live(state: &mut State<'_>, number: u32, task: TaskId, wait: bool) -> Result<(), Stop>
-    requires tied { IsTied state.old }
-    requires begun { beginning state.old.history ≡ Some number }
-    requires number { IsCancel number }
-    requires live { is_live task state.old.history ≡ true }
-    ensures happened { OnOk result (state.new.history ≡ with_answers task (with_cancel number task wait state.old.history)) }
-    ensures tied { OnOk result (IsTied state.new) }
-    ensures keeps { Keeps state.old state.new }
-    ensures room { OnOk result (length state.new.history ≤ MAX_EVENTS) }
-    ensures part { OnErr result (IsPartOf state.old.history state.new.history (with_answers task (with_cancel number task wait state.old.history))) }
-    ensures laws { OnErr result (KeepsLaws state.new) }
-    ensures full { result ≡ Err Stop.HistoryFull → IsCutShort (λ past. IsPartOf state.old.history past (with_answers task (with_cancel number task wait state.old.history))) state.new.history }
-    ensures numbers { result ≡ Err Stop.NumbersSpent → ⊥ }
-{
-    if is_marked(state, task) {
-        join(state, number, task, wait)
-    } else {
-        name_and_mark(state, number, task, wait)
+    match name_all(state, number, tasks, wait) {
+        Ok(()) => {}
+        Err(stop) => return Err(stop),
+    }
+    match answer_if_due(state, number, wait) {
+        Ok(()) => Ok(()),
+        Err(stop) => Err(stop),
     }
 }
 
-/// The task that a cancel is about, if it is live.
+/// A cancel that has begun names the live tasks that a filter lets through, by ascending id.
+fn cancel_matching(
+    state: &mut State<'_>,
+    number: u32,
+    wanted: &Filter,
+    wait: bool,
+) -> Result<(), Stop>
+    requires tied { IsTied state.old }
+    requires begun { beginning state.old.history ≡ Some number }
+    requires number { IsCancel number }
+    ensures happened { OnOk result (state.new.history ≡ after_naming number wait (targets state.old.cluster state.old.script.now wanted.now state.old.history) state.old.history) }
+    ensures tied { OnOk result (IsTied state.new) }
+    ensures keeps { Keeps state.old state.new }
+    ensures part { OnErr result (IsPartOf state.old.history state.new.history (after_naming number wait (targets state.old.cluster state.old.script.now wanted.now state.old.history) state.old.history)) }
+    ensures laws { OnErr result (KeepsLaws state.new) }
+    ensures full { result ≡ Err Stop.HistoryFull → IsCutShort (λ past. IsPartOf state.old.history past (after_naming number wait (targets state.old.cluster state.old.script.now wanted.now state.old.history) state.old.history)) state.new.history }
+    ensures numbers { result ≡ Err Stop.NumbersSpent → ⊥ }
+{
+    let tasks = matching(state, wanted)?;
+    let done = cancel_tasks(state, number, tasks.as_slice(), wait);
+    drop(tasks);
+    done
+}
+
+/// The task that a cancel is about, if it is about one that is live.
 fn live_target(state: &State<'_>, target: &CancelTarget) -> Option<TaskId>
     requires tied { IsTied state.now }
     ensures live { IfSome result (λ task. (target_of target.now state.now.history ≡ Some task) × (is_live task state.now.history ≡ true)) }
@@ -134,6 +104,7 @@ fn live_target(state: &State<'_>, target: &CancelTarget) -> Option<TaskId>
     let task = match target {
         CancelTarget::Task(task) => *task,
         CancelTarget::Command(command) => *state.roots.get(command)?,
+        CancelTarget::Matching(_) => return None,
     };
     if state.tasks.contains_key(&task) {
         Some(task)
@@ -142,7 +113,33 @@ fn live_target(state: &State<'_>, target: &CancelTarget) -> Option<TaskId>
     }
 }
 
-/// Does what a cancel says that has begun: a live task is named and marked, or there is none.
+/// A cancel that has begun names the task that it is about where it is live, or finds none.
+fn cancel_one(
+    state: &mut State<'_>,
+    number: u32,
+    target: &CancelTarget,
+    wait: bool,
+) -> Result<(), Stop>
+    requires tied { IsTied state.old }
+    requires begun { beginning state.old.history ≡ Some number }
+    requires number { IsCancel number }
+    ensures happened { OnOk result (state.new.history ≡ after_cancel_of number wait (target_of target.now state.old.history) state.old.history) }
+    ensures tied { OnOk result (IsTied state.new) }
+    ensures keeps { Keeps state.old state.new }
+    ensures part { OnErr result (IsPartOf state.old.history state.new.history (after_cancel_of number wait (target_of target.now state.old.history) state.old.history)) }
+    ensures laws { OnErr result (KeepsLaws state.new) }
+    ensures full { result ≡ Err Stop.HistoryFull → IsCutShort (λ past. IsPartOf state.old.history past (after_cancel_of number wait (target_of target.now state.old.history) state.old.history)) state.new.history }
+    ensures numbers { result ≡ Err Stop.NumbersSpent → ⊥ }
+{
+    if let Some(task) = live_target(state, target) {
+        return cancel_task(state, number, task, wait);
+    }
+    append(&mut state.history, Event::NotFound { cancel: number })?;
+    Ok(())
+}
+
+/// Does what a cancel says that has begun: the live tasks that its filter lets through are named and marked, or the one that it
+/// is about, where that is live.
 pub(crate) fn cancel(
     state: &mut State<'_>,
     number: u32,
@@ -152,18 +149,16 @@ pub(crate) fn cancel(
     requires tied { IsTied state.old }
     requires begun { beginning state.old.history ≡ Some number }
     requires number { IsCancel number }
-    ensures happened { OnOk result (state.new.history ≡ after_cancel number target.now wait state.old.history) }
+    ensures happened { OnOk result (state.new.history ≡ after_cancel state.old.cluster state.old.script.now number target.now wait state.old.history) }
     ensures tied { OnOk result (IsTied state.new) }
     ensures keeps { Keeps state.old state.new }
-    ensures room { OnOk result (length state.new.history ≤ MAX_EVENTS) }
-    ensures part { OnErr result (IsPartOf state.old.history state.new.history (after_cancel number target.now wait state.old.history)) }
+    ensures part { OnErr result (IsPartOf state.old.history state.new.history (after_cancel state.old.cluster state.old.script.now number target.now wait state.old.history)) }
     ensures laws { OnErr result (KeepsLaws state.new) }
-    ensures full { result ≡ Err Stop.HistoryFull → IsCutShort (λ past. IsPartOf state.old.history past (after_cancel number target.now wait state.old.history)) state.new.history }
+    ensures full { result ≡ Err Stop.HistoryFull → IsCutShort (λ past. IsPartOf state.old.history past (after_cancel state.old.cluster state.old.script.now number target.now wait state.old.history)) state.new.history }
     ensures numbers { result ≡ Err Stop.NumbersSpent → ⊥ }
 {
-    if let Some(task) = live_target(state, target) {
-        return cancel_live(state, number, task, wait);
+    match target {
+        CancelTarget::Matching(wanted) => cancel_matching(state, number, wanted, wait),
+        CancelTarget::Task(_) | CancelTarget::Command(_) => cancel_one(state, number, target, wait),
     }
-    append(&mut state.history, Event::NotFound { cancel: number })?;
-    Ok(())
 }

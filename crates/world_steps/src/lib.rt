@@ -6,6 +6,7 @@ mod cancel_commands;
 mod commands;
 mod laws;
 mod moving;
+mod naming;
 mod ready;
 mod roots;
 mod world;
