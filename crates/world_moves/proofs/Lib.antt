@@ -55,6 +55,7 @@ pub mod QueryLaws
 pub mod QuietCounts
 pub mod RequestsAfter
 pub mod RequestsInFlight
+pub mod RowsOf
 pub mod SameTies
 pub mod SearchAnswers
 pub mod SearchAsks

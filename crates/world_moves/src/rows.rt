@@ -1,9 +1,8 @@
 //! The live tasks as a task list shows them.
 
-ghost use Rattle.std.specs.Prelude.{◌≡◌, ◌∷◌, [], ◌++◌, map, IfOk, IfErr, OnOk, if◌then◌else◌};
+ghost use Rattle.std.specs.Prelude.{◌≡◌, ◌++◌, map, IfOk, IfErr, OnOk};
 ghost use Rattle.std.specs.List.{flat_map};
 ghost use Rattle.command_roots.specs.Roots.{rows_of};
-ghost use Rattle.tasks_api.specs.Filters.{filter_matches};
 ghost use Rattle.tasks_api.specs.Lists.{shown};
 ghost use Rattle.world_moves.specs.Cancels.{targets};
 ghost use Rattle.world_moves.specs.Ties.{IsTied};
@@ -55,11 +54,7 @@ fn rows_in(
 }
 
 /// Their ids.
-fn ids_in(
-    alloc: Global,
-    tables: &[TaskTable],
-    wanted: &Filter,
-) -> Result<Vec<TaskId>, AllocError>
+fn ids_in(alloc: Global, tables: &[TaskTable], wanted: &Filter) -> Result<Vec<TaskId>, AllocError>
     ensures { IfOk result (λ ids. ids.items ≡ flat_map (λ table. map (λ row. row.id) (shown wanted.now table.live)) tables.now) }
 {
     let mut found = Vec::new(alloc);

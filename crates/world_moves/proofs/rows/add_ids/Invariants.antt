@@ -1,0 +1,6 @@
+use Rattle.std.proofs.Common.{◌≡◌, ◌++◌, map, take}
+use Rattle.tasks_api.specs.Lists.{shown}
+use Rattle.world_moves.proofs.rows.add_ids.Given as goal
+
+abbrev pub invariant-loop-row : goal.invariant-loop-row
+invariant-loop-row l = l.found.items ≡ l.initial.found.items ++ map (λ row. row.id) (shown l.wanted (take l.row-index l.rows))
