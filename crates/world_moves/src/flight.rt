@@ -23,7 +23,10 @@ pub enum Sent {
     },
     /// The answer to an ask, with the receipt of the child that ended or of the rejection, which stands at this place of the
     /// history (`at`, counted from 0).
-    Answer { receipt: Receipt, at: usize },
+    Answer {
+        receipt: Receipt,
+        at: usize,
+    },
     /// A message about bans.
     Notice(Notice),
 }

@@ -90,11 +90,7 @@ fn note_answer(history: &mut History, act: &Act) -> Result<(), Stop>
 }
 
 /// Where an act answers a cancel for its task, and that was the last at which the cancel waited, the answer is noted.
-fn answer_one(
-    history: &mut History,
-    left: &mut BTreeMap<u32, usize>,
-    act: &Act,
-) -> Result<(), Stop>
+fn answer_one(history: &mut History, left: &mut BTreeMap<u32, usize>, act: &Act) -> Result<(), Stop>
     requires room { length history.old ≤ MAX_EVENTS }
     ensures answered { OnOk result (history.new ≡ answers_in (act.now ∷ []) (left_in left.old) ++ history.old) }
     ensures counted { (c : ℕ) → left_in left.new c ≡ left_after (offered_in (act.now ∷ [])) (left_in left.old) c }
@@ -113,11 +109,7 @@ fn answer_one(
 }
 
 /// Notes the answers that come of acts: each comes where the cancel waited at no other task any more.
-fn answer(
-    history: &mut History,
-    left: &mut BTreeMap<u32, usize>,
-    acts: &[Act],
-) -> Result<(), Stop>
+fn answer(history: &mut History, left: &mut BTreeMap<u32, usize>, acts: &[Act]) -> Result<(), Stop>
     requires room { length history.old ≤ MAX_EVENTS }
     ensures answered { OnOk result (history.new ≡ answers_in acts.now (left_in left.old) ++ history.old) }
     ensures counted { OnOk result ((c : ℕ) → left_in left.new c ≡ left_after (offered_in acts.now) (left_in left.old) c) }

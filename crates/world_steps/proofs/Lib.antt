@@ -21,3 +21,4 @@ pub mod RootsAfter
 pub mod TargetsLive
 pub mod Turning
 pub mod Unacted
+pub mod WholeNaming

@@ -1,6 +1,6 @@
 //! Cancel commands.
 
-ghost use Rattle.std.specs.Prelude.{◌≡◌, ◌∷◌, ◌≤◌, true, false, length, Err, Some, IfSome, IfNone, OnOk, OnErr};
+ghost use Rattle.std.specs.Prelude.{◌≡◌, true, false, Err, Some, IfSome, IfNone, OnOk, OnErr};
 ghost use Rattle.task_ids.specs.Limits.{IsCancel};
 ghost use Rattle.task_events.specs.Cancels.{beginning};
 ghost use Rattle.task_events.specs.Tasks.{is_live};
@@ -9,38 +9,15 @@ ghost use Rattle.world_moves.specs.Moves.{IsPartOf, IsCutShort};
 ghost use Rattle.world_moves.specs.Ties.{IsTied, Keeps, KeepsLaws};
 ghost use Rattle.world_steps.specs.Naming.{CanName};
 
-use crate::naming::{answer_if_due, name, name_all};
+use crate::naming::{answer_if_due, name_all};
 use script_lang::CancelTarget;
+use std::slice::from_ref;
 use task_events::{Event, Stop};
 use task_ids::TaskId;
 use tasks_api::Filter;
 use world_moves::append::append;
 use world_moves::rows::matching;
 use world_moves::state::State;
-
-/// A cancel that has begun names one live task, and is answered where there is nothing to wait for.
-fn cancel_task(state: &mut State<'_>, number: u32, task: TaskId, wait: bool) -> Result<(), Stop>
-    requires tied { IsTied state.old }
-    requires begun { beginning state.old.history ≡ Some number }
-    requires number { IsCancel number }
-    requires live { is_live task state.old.history ≡ true }
-    ensures happened { OnOk result (state.new.history ≡ after_naming number wait (task ∷ []) state.old.history) }
-    ensures tied { OnOk result (IsTied state.new) }
-    ensures keeps { Keeps state.old state.new }
-    ensures part { OnErr result (IsPartOf state.old.history state.new.history (after_naming number wait (task ∷ []) state.old.history)) }
-    ensures laws { OnErr result (KeepsLaws state.new) }
-    ensures full { result ≡ Err Stop.HistoryFull → IsCutShort (λ past. IsPartOf state.old.history past (after_naming number wait (task ∷ []) state.old.history)) state.new.history }
-    ensures numbers { result ≡ Err Stop.NumbersSpent → ⊥ }
-{
-    match name(state, number, task, wait) {
-        Ok(()) => {}
-        Err(stop) => return Err(stop),
-    }
-    match answer_if_due(state, number, wait) {
-        Ok(()) => Ok(()),
-        Err(stop) => Err(stop),
-    }
-}
 
 /// A cancel that has begun names these live tasks, and is answered where there is nothing to wait for at any of them.
 fn cancel_tasks(
@@ -132,7 +109,7 @@ fn cancel_one(
     ensures numbers { result ≡ Err Stop.NumbersSpent → ⊥ }
 {
     if let Some(task) = live_target(state, target) {
-        return cancel_task(state, number, task, wait);
+        return cancel_tasks(state, number, from_ref(&task), wait);
     }
     append(&mut state.history, Event::NotFound { cancel: number })?;
     Ok(())

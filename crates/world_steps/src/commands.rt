@@ -1,13 +1,13 @@
 //! What commands do, and the closing drain.
 
-ghost use Rattle.std.specs.Prelude.{◌≡◌, ◌⊎◌, ◌↔◌, ◌∷◌, ◌+◌, ◌≤◌, length, true, false, Some, IfOk, OnOk, OnErr, IfErr};
+ghost use Rattle.std.specs.Prelude.{◌≡◌, ◌⊎◌, ◌∷◌, ◌+◌, ◌≤◌, length, true, false, Some, option_map, OnOk, OnErr, IfErr};
 ghost use Rattle.query_parse.specs.Bodies.{body_at};
 ghost use Rattle.task_events.specs.Cancels.{last_command, beginning};
 ghost use Rattle.task_events.specs.Laws.{IsDrained};
-ghost use Rattle.command_roots.specs.Roots.{body_or_none, command_at, whole_ask};
+ghost use Rattle.command_roots.specs.Roots.{body_or_none, command_at, root_request, whole_ask};
 ghost use Rattle.task_ids.specs.Limits.{IsCancel};
 ghost use Rattle.world_moves.specs.Cancels.{after_cancel, AllAnswered};
-ghost use Rattle.world_moves.specs.Moves.{DeliveryLacksNumber, IsPartly, Stops, StopsMove};
+ghost use Rattle.world_moves.specs.Moves.{DeliveryLacksNumber, IsPartly, NodeLacksNumber, Stops, StopsMove};
 ghost use Rattle.world_steps.specs.Runs.{AnswersStep};
 ghost use Rattle.world_steps.specs.Scripts.{CanDo, CanRun, can_start, StartsWhere, DeliversWhere, ListsWhere, Does, PartlyDoes, Commands, PartlyCommands, Drains, PartlyDrains, StopsDoing, StopsCommand, StopsDrain};
 ghost use Rattle.world_moves.specs.Ties.{IsTied, Keeps, HasShards, KeepsLaws};
@@ -18,63 +18,14 @@ use crate::cancel_commands::cancel;
 use crate::moving::{deliver_and_refresh, list_and_refresh, settle, step_and_refresh};
 use crate::ready::refresh;
 use crate::roots::{begin, start};
+use command_roots::{body_of, whole_ask};
 use node_parts::listing::Listing;
-use query_match::SearchBody;
-use query_parse::{BodyError, read_body};
 use script_lang::{CancelTarget, Command};
-use shared_value::Shared;
-use std::alloc::{AllocError, Global};
 use std::collections::BTreeSet;
-use task_events::{Event, SearchAsk, Stop};
+use task_events::{Event, Request, Stop};
 use task_ids::{DocSource, TaskId, Text};
 use task_laws::drained_bans;
 use world_moves::state::State;
-
-/// Whether a body could not be read for want of memory. Otherwise the fault is one of the body.
-fn lacks_memory(fault: &BodyError) -> bool
-    ensures { (result ≡ true) ↔ (fault.now ≡ BodyError.Memory) }
-{
-    matches!(fault, BodyError::Memory)
-}
-
-/// The body of a search, unless it has a fault.
-fn body_of(alloc: Global, body: &DocSource) -> Result<Option<SearchBody>, Stop>
-    ensures body { IfOk result (λ found. found ≡ body_or_none (body_at false 0 body.now)) }
-    ensures memory { IfErr result (λ stop. stop ≡ Stop.Memory) }
-{
-    match read_body(alloc, body.as_value(), false, 0) {
-        Ok(body) => Ok(Some(body)),
-        Err(fault) => {
-            let spent = lacks_memory(&fault);
-            drop(fault);
-            if spent { Err(Stop::Memory) } else { Ok(None) }
-        }
-    }
-}
-
-/// A copy of a text, to be shared.
-fn shared_copy(alloc: Global, text: &Text) -> Result<Shared<Text>, AllocError>
-    ensures { IfOk result (λ copy. copy ≡ text.now) }
-{
-    Ok(Shared::new(alloc, text.copy()?)?)
-}
-
-/// The search of all documents of an index that match, which opens no context.
-fn whole_ask(alloc: Global, index: &Text, body: SearchBody) -> Result<SearchAsk, Stop>
-    ensures ask { IfOk result (λ ask. ask ≡ whole_ask index.now body) }
-    ensures memory { IfErr result (λ stop. stop ≡ Stop.Memory) }
-{
-    let (Ok(index), Ok(body)) = (shared_copy(alloc, index), Shared::new(alloc, body)) else {
-        return Err(Stop::Memory);
-    };
-    Ok(SearchAsk {
-        index,
-        body,
-        scroll: None,
-        slice: None,
-        owner: None,
-    })
-}
 
 /// A search that has begun comes to its node, where its body has no fault and some document is of its index.
 fn search(
@@ -89,7 +40,7 @@ fn search(
     requires shards { HasShards state.old }
     requires known { HasReady state.old ready.old }
     requires begun { beginning state.old.history ≡ Some number }
-    requires there { command_at state.old.script.now number ≡ Some (Command.Search index.now node body.now) }
+    requires asked { root_request state.old.script.now number ≡ option_map Request.Search (option_map (whole_ask index.now) (body_or_none (body_at false 0 body.now))) }
     requires low { 1 ≤ node }
     requires high { node ≤ state.old.cluster.nodes }
     ensures done { OnOk result (StartsWhere state.old.cluster (can_start state.old.corpus.now index.now body.now) number node state.old.history state.new.history) }
@@ -98,16 +49,21 @@ fn search(
     ensures keeps { Keeps state.old state.new }
     ensures part { OnErr result (IsPartly (StartsWhere state.old.cluster (can_start state.old.corpus.now index.now body.now) number node) state.old.history state.new.history) }
     ensures laws { KeepsLaws state.new }
-    ensures stop { IfErr result (λ stop. StopsDoing state.old.cluster state.old.corpus.now state.old.script.now number (Command.Search index.now node body.now) state.old.history state.new.history stop) }
+    ensures stop { IfErr result (λ stop. Stops (IsPartly (StartsWhere state.old.cluster (can_start state.old.corpus.now index.now body.now) number node) state.old.history) ((can_start state.old.corpus.now index.now body.now ≡ true) × NodeLacksNumber state.old.cluster state.old.history node × (state.new.history ≡ state.old.history)) state.new.history stop) }
 {
-    let Some(body) = body_of(state.alloc, body)? else {
+    let Ok(found) = body_of(state.alloc, body) else {
+        return Err(Stop::Memory);
+    };
+    let Some(body) = found else {
         return Ok(());
     };
     if !state.shards.has(index.as_str()) {
         drop(body);
         return Ok(());
     }
-    let ask = whole_ask(state.alloc, index, body)?;
+    let Ok(ask) = whole_ask(state.alloc, index, body) else {
+        return Err(Stop::Memory);
+    };
     let before = state.history.len();
     start(state, number, node, ask)?;
     match refresh(state, ready, before) {
@@ -137,7 +93,7 @@ fn deliver(state: &mut State<'_>, ready: &mut BTreeSet<TaskId>, nth: u64) -> Res
     }
 }
 
-/// A cancel that has begun names and marks its task, or finds none, and it is noted whether the task waits.
+/// A cancel that has begun names and marks its tasks, or finds none, and it is noted which of them wait.
 fn cancel_and_refresh(
     state: &mut State<'_>,
     ready: &mut BTreeSet<TaskId>,
@@ -149,13 +105,13 @@ fn cancel_and_refresh(
     requires known { HasReady state.old ready.old }
     requires begun { beginning state.old.history ≡ Some number }
     requires number { IsCancel number }
-    ensures done { OnOk result (state.new.history ≡ after_cancel number target.now wait state.old.history) }
+    ensures done { OnOk result (state.new.history ≡ after_cancel state.old.cluster state.old.script.now number target.now wait state.old.history) }
     ensures tied { OnOk result (IsTied state.new) }
     ensures known { OnOk result (HasReady state.new ready.new) }
     ensures keeps { Keeps state.old state.new }
-    ensures part { OnErr result (IsPartly (λ h new. new ≡ after_cancel number target.now wait h) state.old.history state.new.history) }
+    ensures part { OnErr result (IsPartly (λ h new. new ≡ after_cancel state.old.cluster state.old.script.now number target.now wait h) state.old.history state.new.history) }
     ensures laws { KeepsLaws state.new }
-    ensures stop { IfErr result (λ stop. StopsMove (λ h new. new ≡ after_cancel number target.now wait h) state.old.history state.new.history stop) }
+    ensures stop { IfErr result (λ stop. StopsMove (λ h new. new ≡ after_cancel state.old.cluster state.old.script.now number target.now wait h) state.old.history state.new.history stop) }
 {
     let before = state.history.len();
     match cancel(state, number, target, wait) {
@@ -228,7 +184,9 @@ fn act_on(
     ensures stop { IfErr result (λ stop. StopsDoing state.old.cluster state.old.corpus.now state.old.script.now number command.now state.old.history state.new.history stop) }
 {
     match command {
-        Command::Search { index, node, body } => search(state, ready, number, index, *node, body),
+        Command::Search {
+            index, node, body, ..
+        } => search(state, ready, number, index, *node, body),
         Command::Deliver { nth } => deliver(state, ready, *nth),
         Command::Cancel { target, wait, .. } => cancel_and_refresh(
             state, ready, number, target, *wait,
@@ -239,7 +197,7 @@ fn act_on(
             list(state, ready, Listing { node, parent })
         }
         Command::Settle => settle(state, ready),
-        Command::History => Ok(()),
+        Command::ListTasks { .. } | Command::History => Ok(()),
     }
 }
 

@@ -1,12 +1,12 @@
 //! A cancel names live tasks, one after the other, and is answered where it has nothing to wait for once it has named them all.
 
-ghost use Rattle.std.specs.Prelude.{◌≡◌, ◌∷◌, ◌≤◌, true, false, length, is_some, Err, Some, OnOk, OnErr};
+ghost use Rattle.std.specs.Prelude.{◌≡◌, ◌∷◌, true, false, length, is_some, Err, Some, OnOk, OnErr};
 ghost use Rattle.task_ids.specs.Limits.{IsCancel};
 ghost use Rattle.task_events.specs.declared.history.TheConstants.{MAX_EVENTS};
 ghost use Rattle.task_events.specs.Bans.{mark_of};
 ghost use Rattle.task_events.specs.Cancels.{is_named};
 ghost use Rattle.task_events.specs.Tasks.{is_live};
-ghost use Rattle.world_moves.specs.Cancels.{is_due, with_answer, with_cancel, with_cancels};
+ghost use Rattle.world_moves.specs.Cancels.{answer_by, is_due, with_answer, with_cancel, with_cancels};
 ghost use Rattle.world_moves.specs.Moves.{IsPartOf, IsCutShort};
 ghost use Rattle.world_moves.specs.Ties.{HasTies, IsTied, IsTiedWhile, Keeps, KeepsLaws};
 ghost use Rattle.world_steps.specs.Naming.{CanName, IsNaming};
@@ -103,16 +103,12 @@ fn name_and_mark(state: &mut State<'_>, number: u32, task: TaskId, wait: bool) -
         cancel: number,
         wait,
     };
-    mark(state, task, number, Some(waiter))
+    mark(state, task, number, Some(waiter))?;
+    Ok(())
 }
 
 /// A cancel names a live task, which is marked from then on.
-pub(crate) fn name(
-    state: &mut State<'_>,
-    number: u32,
-    task: TaskId,
-    wait: bool,
-) -> Result<(), Stop>
+fn name(state: &mut State<'_>, number: u32, task: TaskId, wait: bool) -> Result<(), Stop>
     requires tied { IsTiedWhile (Some number) state.old }
     requires naming { IsNaming number wait state.old.history }
     requires number { IsCancel number }
@@ -161,6 +157,17 @@ pub(crate) fn name_all(
     Ok(())
 }
 
+/// The answer to a cancel, by whether it waits for the end.
+fn answer_by(number: u32, wait: bool) -> Event
+    ensures { result ≡ answer_by wait number }
+{
+    if wait {
+        Event::AnswerDone { cancel: number }
+    } else {
+        Event::AnswerPlaced { cancel: number }
+    }
+}
+
 /// Answers a cancel that has named all its tasks, where it has nothing to wait for at any of them.
 pub(crate) fn answer_if_due(state: &mut State<'_>, number: u32, wait: bool) -> Result<(), Stop>
     requires tied { IsTiedWhile (Some number) state.old }
@@ -169,17 +176,13 @@ pub(crate) fn answer_if_due(state: &mut State<'_>, number: u32, wait: bool) -> R
     ensures tied { OnOk result (IsTied state.new) }
     ensures keeps { Keeps state.old state.new }
     ensures err { OnErr result (state.new.history ≡ state.old.history) }
+    ensures laws { OnErr result (KeepsLaws state.new) }
     ensures full { result ≡ Err Stop.HistoryFull → (length state.old.history ≡ MAX_EVENTS) × (is_due state.old.history number ≡ true) }
     ensures numbers { result ≡ Err Stop.NumbersSpent → ⊥ }
 {
     if !waits_at_none(&state.left, number) {
         return Ok(());
     }
-    let answer = if wait {
-        Event::AnswerDone { cancel: number }
-    } else {
-        Event::AnswerPlaced { cancel: number }
-    };
-    append(&mut state.history, answer)?;
+    append(&mut state.history, answer_by(number, wait))?;
     Ok(())
 }

@@ -1,6 +1,6 @@
 //! Commands begin, and their roots come to their nodes.
 
-ghost use Rattle.std.specs.Prelude.{◌≡◌, ◌∷◌, ℕ, Bool, ◌+◌, ◌≤◌, length, cond, Err, Some, IfOk, IfErr, OnOk, OnErr};
+ghost use Rattle.std.specs.Prelude.{◌≡◌, ◌∷◌, ℕ, Bool, ◌+◌, ◌≤◌, length, cond, Err, Some, None, IfOk, IfErr, OnOk, OnErr};
 ghost use Rattle.std.specs.BTreeMap.{is_at, get};
 ghost use Rattle.std.specs.Ordering.{nat_cmp};
 ghost use Rattle.task_ids.specs.TaskIdOrder.{task_id_cmp};
@@ -8,16 +8,19 @@ ghost use Rattle.task_table.specs.Answer.{refused_token};
 ghost use Rattle.task_events.specs.declared.history.TheConstants.{MAX_EVENTS};
 ghost use Rattle.task_events.specs.Cancels.{beginning, last_command};
 ghost use Rattle.world_moves.specs.Moves.{Starts, NodeLacksNumber, IsPartly, IsCutShort};
-ghost use Rattle.command_roots.specs.Roots.{root_request};
+ghost use Rattle.command_roots.specs.Roots.{root_headers, root_request};
+ghost use Rattle.node_parts.specs.Starting.{task_for};
 ghost use Rattle.world_moves.specs.Ties.{IsTied, Keeps, task_at};
 
+use command_roots::headers_of;
 use node_parts::running::Running;
 use node_parts::starting::{new_task, with_work};
+use script_lang::Script;
 use shared_value::Shared;
 use std::alloc::Global;
 use std::collections::BTreeMap;
 use task_events::{Event, History, Request, SearchAsk, Stop};
-use task_ids::TaskId;
+use task_ids::{Headers, NewTask, TaskId};
 use task_table::PutError;
 use world_moves::append::append;
 use world_moves::starting::{keep_started, put_on, spend};
@@ -97,6 +100,36 @@ fn reject_root(
     }
 }
 
+/// What the request of a command carries. It fails only for want of memory (`Memory`).
+fn headers_at(script: &Script, command: u32) -> Result<Headers, Stop>
+    requires { 1 ≤ command }
+    ensures headers { IfOk result (λ headers. headers ≡ root_headers script.now command) }
+    ensures memory { IfErr result (λ stop. stop ≡ Stop.Memory) }
+{
+    let Some(command) = script.commands.as_slice().get(command as usize - 1) else {
+        return Ok(Headers::none());
+    };
+    match headers_of(command) {
+        Ok(headers) => Ok(headers),
+        Err(_) => Err(Stop::Memory),
+    }
+}
+
+/// The task of a command's request, with what that carries. It fails only for want of memory (`Memory`).
+fn root_task(
+    state: &State<'_>,
+    request: &Request,
+    headers: &Headers,
+) -> Result<NewTask, Stop>
+    ensures task { IfOk result (λ task. task ≡ task_for request.now None state.now.clock headers.now) }
+    ensures memory { IfErr result (λ stop. stop ≡ Stop.Memory) }
+{
+    match new_task(state.alloc, request, None, state.clock, headers) {
+        Ok(task) => Ok(task),
+        Err(_) => Err(Stop::Memory),
+    }
+}
+
 /// The request of a command that has begun comes to its node. It starts where a slot is free there, and is rejected
 /// where none is. The answer is whether it started.
 ///
@@ -123,10 +156,18 @@ fn start_with(
         → NodeLacksNumber state.old.cluster state.old.history node }
     ensures room { OnOk result (length state.new.history ≤ MAX_EVENTS) }
 {
-    let root = new_task(state.alloc, request, None);
+    let headers = headers_at(state.script, command)?;
+    let root = root_task(state, request, &headers)?;
     match put_on(&mut state.tables, node, root, None) {
         Ok(ticket) => {
-            let running = with_work(state.alloc, ticket, request, &state.cluster, false)?;
+            let running = with_work(
+                state.alloc,
+                ticket,
+                request,
+                &state.cluster,
+                false,
+                headers,
+            )?;
             keep_root(
                 &mut state.history,
                 &mut state.tasks,

@@ -3,7 +3,10 @@ ghost use Rattle.task_events.specs.Lawful.{Lawful};
 ghost use Rattle.task_events.specs.Cancels.{last_command};
 ghost use Rattle.task_events.specs.Laws.{IsDrained};
 ghost use Rattle.task_events.specs.Messages.{in_flight};
+ghost use Rattle.task_events.specs.TaskRows.{clock};
 ghost use Rattle.task_events.specs.Tasks.{is_live};
+ghost use Rattle.tasks_api.specs.Lists.{list_text};
+ghost use Rattle.command_roots.specs.Roots.{rows_of};
 ghost use Rattle.world_moves.specs.Cancels.{AllAnswered};
 ghost use Rattle.world_moves.specs.Listings.{ListSteps, AnswersListing};
 ghost use Rattle.world_moves.specs.Moves.{Delivers, IsPartly, StopsDelivery, StopsMove};
@@ -27,8 +30,10 @@ use std::marker::Model;
 use task_events::{History, Stop};
 use task_ids::{Cluster, Corpus, TaskId};
 use task_table::TaskTable;
+use tasks_api::{Filter, GroupBy, list_line};
 use world_moves::flight::Flight;
 use world_moves::listings::ListStep;
+use world_moves::rows::rows;
 use world_moves::state::State;
 
 /// The serial world: a cluster of nodes that runs a script, one event at a time.
@@ -168,12 +173,14 @@ impl<'a> World<'a> {
             shards,
             script,
             history: History::new(alloc),
+            clock: 0,
             tasks: BTreeMap::new(alloc),
             tables,
             flight: Flight::new(alloc),
             roots: BTreeMap::new(alloc),
             bans,
             cores,
+            left: BTreeMap::new(alloc),
             listings: BTreeSet::new(alloc),
         };
         Ok(World {
@@ -208,6 +215,29 @@ impl<'a> World<'a> {
         self.state.tasks.get(&task).is_some()
     }
 
+    /// The line of a task list, as the live tasks are now. The world has not come to an early end. It fails only for want of memory
+    /// (`Memory`).
+    pub fn list(&self, wanted: &Filter, group: GroupBy, detailed: bool) -> Result<Vec<u8>, Stop>
+        requires { self.now.stopped ≡ None }
+        ensures line { IfOk result (λ line. line.items ≡ list_text group detailed (clock self.now.past) wanted.now (rows_of self.now.cluster self.now.script self.now.past)) }
+        ensures memory { IfErr result (λ stop. stop ≡ Stop.Memory) }
+    {
+        let rows = rows(&self.state, wanted)?;
+        let line = list_line(
+            self.state.alloc,
+            rows.as_slice(),
+            wanted,
+            group,
+            detailed,
+            self.state.clock,
+        );
+        drop(rows);
+        match line {
+            Ok(line) => Ok(line),
+            Err(_) => Err(Stop::Memory),
+        }
+    }
+
     /// Gives the history away. What is live or in flight is given up.
     pub fn finish(self) -> History
         ensures past { result ≡ self.entry.past }
@@ -220,8 +250,8 @@ impl<'a> World<'a> {
     /// Begins a command of the script, the next in order, and does what it says. Commands are numbered from 1.
     ///
     /// A search starts at its node, or is rejected there, where its body has no fault and some document is of its index;
-    /// a cancel names and marks its task where it is live; a `deliver`, a `step`, a `list_step` and a `settle` make their
-    /// moves where there are such; `history` makes none.
+    /// a cancel names and marks its task where it is live, or the live tasks that its filter lets through; a `deliver`, a `step`,
+    /// a `list_step` and a `settle` make their moves where there are such; `list` and `history` make none.
     ///
     /// Once it has come to an early end, the world answers that for ever and keeps its past, which is that of a first part
     /// of the command.

@@ -11,9 +11,12 @@ pub returns-in-Err-clause-part : goal.returns-in-Err-clause-part
 returns-in-Err-clause-part c =
     let acts = c.args.acts.now in
     let left = left_in c.args.left.now in
-    let so_far = c.in-Err.ensures.err ∙ c.loop-act.invariant.answered in
-    (answers_in (drop c.loop-act.act-index acts) (left_after (offered_in (take c.loop-act.act-index acts)) left), answers_in (take c.loop-act.act-index acts) left,
-    whole_answers acts c.loop-act.act-index left c.args.history.now c.answer_one.new.history so_far, so_far)
+    let so_far = c.in-Err.ensures.err ∙ c.loop-act.invariant.answered in (
+      answers_in (drop c.loop-act.act-index acts) (left_after (offered_in (take c.loop-act.act-index acts)) left),
+      answers_in (take c.loop-act.act-index acts) left,
+      whole_answers acts c.loop-act.act-index left c.args.history.now c.answer_one.new.history so_far,
+      so_far,
+    )
 
 pub loop-act-preserved : goal.loop-act-preserved
 loop-act-preserved c = record {
