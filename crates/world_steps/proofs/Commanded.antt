@@ -12,7 +12,7 @@ use Rattle.task_ids.specs.declared.task_id.TaskId.{TaskId}
 use Rattle.task_events.specs.declared.event.Event.{Event}
 use Rattle.task_events.specs.declared.event.Event.TheVariants.{Begin}
 use Rattle.script_lang.specs.declared.command.Command.{Command}
-use Rattle.script_lang.specs.declared.command.Command.TheVariants.{Search, Cancel, Deliver, Step, ListStep, Settle, History}
+use Rattle.script_lang.specs.declared.command.Command.TheVariants.{Search, Cancel, ListTasks, Deliver, Step, ListStep, Settle, History}
 use Rattle.script_lang.specs.declared.command.Script.{Script}
 use Rattle.world_moves.specs.Moves.{Delivers, IsPartly, Starts}
 use Rattle.world_moves.specs.declared.state.State.{State}
@@ -56,6 +56,7 @@ can_do nodes (first ∷ more) all (suc place) command at = can_do nodes more all
 pub nothing_done : (cluster : Cluster) (corpus : Corpus) (script : Script) (k : ℕ) (command : Command) (h new : List Event) → new ≡ h → PartlyDoes cluster corpus script k command h new
 nothing_done cluster corpus script k (Search index node body opaque_id) h new same = inl same
 nothing_done cluster corpus script k (Cancel target reason wait) h new same = inl same
+nothing_done cluster corpus script k (ListTasks wanted group detailed) h new same = inl same
 nothing_done cluster corpus script k (Deliver nth) h new same = inl same
 nothing_done cluster corpus script k (Step task) h new same = inl same
 nothing_done cluster corpus script k (ListStep node parent) h new same = inl same
@@ -147,4 +148,5 @@ keeps_on first then = record {
   corpus = then.corpus ∙ first.corpus;
   shards = then.shards ∙ first.shards;
   script = then.script ∙ first.script;
+  clock = then.clock ∙ first.clock;
 }

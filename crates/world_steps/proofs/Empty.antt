@@ -17,6 +17,8 @@ use Rattle.world_moves.specs.Ties.{Ties, IsTableAt}
 use Rattle.node_parts.specs.declared.listing.Listing.{Listing}
 use Rattle.world_moves.specs.Cancels.{waiting_for}
 use Rattle.world_moves.specs.Cancelling.{Cancelling, IsEntryOf, IsRowOf, HasRows, HasBansAt, HasCoreAt}
+use Rattle.world_moves.specs.Describing.{Describing, DescribesAll, IsDescribed}
+use Rattle.world_moves.specs.Left.{HasLeft}
 use Rattle.world_moves.specs.Listings.{listing_cmp}
 use Rattle.world_steps.specs.World.{tables_from, cores_from, no_bans}
 
@@ -65,5 +67,17 @@ module _ (cluster : Cluster) where
     bans_are = each_node (λ p o. HasBansAt cluster p [] o) (λ p. empty) bans bans_are (λ p q. get-empty task_id_cmp q) (λ p l. l);
     cores_are = each_node (λ p o. HasCoreAt cluster (λ t. waiting_for t []) p [] o) (λ p. no_cancellations (p + 1)) cores cores_are (λ p t at. subst (IsEntryOf (waiting_for t []) t []) (sym (get-empty task_id_cmp t)) (refl, refl)) (λ p l. l);
     listings_are = none;
-    one_task = λ c t u named named_too. absurd (cc);
   }
+
+-- ---- counts and rows
+
+pub nothing_counted : (left : ℕ → ℕ) → ((c : ℕ) → left c ≡ 0) → HasLeft None [] left
+nothing_counted left none = record { counts = none; answered = λ c t n. absurd (cc) }
+
+pub nothing_told : (cluster : Cluster) (script : Script) (tables : List Table) → tables ≡ tables_from 0 cluster.nodes cluster.slots → Describing script [] tables [] 0
+nothing_told cluster script tables are = record {
+  rows_are = each_node cluster (λ p o. DescribesAll script [] o) (λ p. new_table (p + 1) cluster.slots) tables are (λ p. All-nil (IsDescribed script [])) (λ p l. tt);
+  carried = tt;
+  clock_is = refl;
+  clock_low = omega arith;
+}

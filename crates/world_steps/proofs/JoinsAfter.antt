@@ -25,6 +25,7 @@ use Rattle.task_events.specs.Cancels.{is_named}
 use Rattle.task_events.specs.Lawful.{AwaitsNoMark, Lawful}
 use Rattle.task_laws.proofs.Asks.{ask_facts}
 use Rattle.task_laws.proofs.Commands.{acted_begun}
+use Rattle.task_laws.proofs.Numbers.{both}
 use Rattle.task_laws.proofs.Same.{same_tests}
 use Rattle.node_parts.specs.declared.listing.Listing.{Listing}
 use Rattle.world_moves.specs.Acts.{offered_in, left_after}
@@ -90,9 +91,10 @@ module _ (cluster : Cluster) (h : List Event) (c : ℕ) (t : TaskId) (wait : Boo
   below v i =
       let named = sym (named_in v t h) in
       let there = in_filter (λ k. not (is_through h k t)) v (named_by t h) in
-      let begun_before = acted_begun cluster h l v (named_acted v t h (grind (arith, i))) in
+      let parts = both (not (is_through h v t)) (is_in v (named_by t h)) (sym there ∙ i) in
+      let begun_before = acted_begun cluster h l v (named_acted v t h (named ∙ parts.1)) in
       let last = naming.current in
-      omega arith
+      omega (arith, begun_before, last)
 
   -- ---- its cancellation
 
@@ -110,7 +112,7 @@ module _ (cluster : Cluster) (h : List Event) (c : ℕ) (t : TaskId) (wait : Boo
     -- it is through at once where the bans are placed and it does not wait for the end
     pub through_at_once : is_through (Cancel c t wait ∷ h) c t ≡ (is_placed e && not wait)
     through_at_once =
-        (λ i. sym (knows_placed t h e known) i && (not (waits_as_told cluster h c t wait naming l awaits live fresh i) || not_ended i)) ∙ ap (λ b. is_placed e && b) (or-false (not wait))
+        (λ i. sym (knows_placed (waiting_for t h) t h e known) i && (not (waits_as_told cluster h c t wait naming l awaits live fresh i) || not_ended i)) ∙ ap (λ b. is_placed e && b) (or-false (not wait))
 
     joined_left_by : (b : Bool) → IsCancellationOf (waiting_for t h ++ cond b [] (c ∷ [])) t (Cancel c t wait ∷ h) (cond b e (record e { waiters = with_waiter e.waiters waiter }))
     joined_left_by true = (known.0, known.1, known.2, its_waiters ∙ ap (map (waiter_of (Cancel c t wait ∷ h))) (sym (append-nil (waiting_for t h))), known.4)

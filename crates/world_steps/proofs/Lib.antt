@@ -11,8 +11,9 @@ pub mod JoinsAfter
 pub mod ListingKeys
 pub mod NamedAfter
 pub mod NamesAll
-pub mod NamesNone
+pub mod NamesOne
 pub mod NamingEnds
+pub mod NoneDue
 pub mod Passing
 pub mod Plans
 pub mod Readiness

@@ -1,7 +1,8 @@
 -- A cancel names one live task after the other.
-use Rattle.std.proofs.Common.{◌≡◌, ℕ, Bool, true, false, List, [], ◌∷◌, ◌++◌, refl, sym, ap, ◌∙◌, append_assoc, arith}
+use Rattle.std.proofs.Common.{◌≡◌, ◌<◌, ◌+◌, ℕ, Bool, true, false, List, [], ◌∷◌, ◌++◌, drop, get_or, length, refl, sym, ap, ◌∙◌, append_assoc, arith}
 use Rattle.std.specs.Prelude.{is_some, if◌then◌else◌}
 use Rattle.std.specs.List.{list_any}
+use Rattle.std.proofs.lemmas.List.{drop_more}
 use Rattle.task_ids.specs.declared.task_id.TaskId.{TaskId}
 use Rattle.task_events.specs.declared.event.Event.{Event}
 use Rattle.task_events.specs.declared.event.Event.TheVariants.{Cancel, Mark}
@@ -18,6 +19,10 @@ use Rattle.world_steps.specs.Naming.{CanName}
 pub part_within : (old h next whole new es more : List Event) → h ≡ es ++ old → whole ≡ more ++ next → IsPartOf h new next → IsPartOf old new whole
 part_within old h next whole new es more so_far to_come (later, earlier, is_next, is_new) =
     (more ++ later, earlier ++ es, to_come ∙ ap (λ g. more ++ g) is_next ∙ sym (append_assoc more later new), is_new ∙ ap (λ g. earlier ++ g) so_far ∙ sym (append_assoc earlier es old))
+
+-- the next of some tasks that a cancel can name
+pub next_of : (tasks : List TaskId) (i : ℕ) (t : TaskId) → i < length tasks → t ≡ get_or tasks i t → drop i tasks ≡ t ∷ drop (i + 1) tasks
+next_of tasks i t below is = drop_more tasks i t below ∙ ap (λ u. u ∷ drop (i + 1) tasks) (sym is)
 
 module _ (c : ℕ) (wait : Bool) where
   pub one_appends : (t : TaskId) (h : List Event) → (es : List Event) × (with_cancel c t wait h ≡ es ++ h)

@@ -2,7 +2,11 @@
 use Rattle.std.proofs.Common.{◌≡◌, ℕ, Bool, true, false, not, List, ◌∷◌, Option, Some, None, refl, sym, ap, ◌∙◌, arith}
 use Rattle.std.specs.Prelude.{◌==◌, ◌&&◌, ◌||◌}
 use Rattle.std.proofs.lemmas.Bool.Decides.{nat_tests}
+use Rattle.std.specs.BTreeSet.{BTreeSet}
+use Rattle.std.specs.FinMap.{FinMap}
+use Rattle.cancel_core.specs.Cancellations.{Cancellations}
 use Rattle.task_ids.specs.declared.task_id.TaskId.{TaskId}
+use Rattle.task_ids.specs.TaskIdOrder.{task_id_cmp}
 use Rattle.task_ids.specs.declared.cluster.Cluster.{Cluster}
 use Rattle.task_ids.specs.declared.corpus.Corpus.{Corpus}
 use Rattle.task_table.specs.Table.{Table}
@@ -15,12 +19,17 @@ use Rattle.task_events.specs.Lawful.{AwaitsNoMark, Lawful}
 use Rattle.task_laws.proofs.Commands.{beginning_first, beginning_last}
 use Rattle.task_laws.proofs.Same.{same_tests}
 use Rattle.command_roots.specs.Roots.{root_request, root_headers}
+use Rattle.node_parts.specs.declared.listing.Listing.{Listing}
 use Rattle.node_parts.specs.declared.running.Running.{Running}
 use Rattle.world_moves.specs.declared.flight.Sent.{Sent}
-use Rattle.world_moves.specs.Cancels.{answer_by, is_answered, is_due, left_of, waits_for_end, with_answer}
+use Rattle.world_moves.specs.Cancelling.{Cancelling}
+use Rattle.world_moves.specs.Cancels.{answer_by, is_answered, is_due, left_of, waiting_for, waits_for_end, with_answer}
+use Rattle.world_moves.specs.Describing.{Describing}
 use Rattle.world_moves.specs.Left.{HasLeft}
 use Rattle.world_moves.specs.Ties.{Ties}
 use Rattle.world_moves.proofs.CancelAnswersAfter.{all_through}
+use Rattle.world_moves.proofs.CancelsUntouched.{noted}
+use Rattle.world_moves.proofs.DescriptionsAfter.{quiet}
 use Rattle.world_moves.proofs.FlightAfter.{all_stay}
 use Rattle.world_moves.proofs.KeptTasks.{kept_same}
 use Rattle.world_moves.proofs.NamedCancels.{named_waits}
@@ -99,6 +108,29 @@ module _ (cluster : Cluster) (h : List Event) (c : ℕ) (wait : Bool) (naming : 
   pub ties_after_answer : is_due h c ≡ true → (corpus : Corpus) (script : Script) (tasks : TaskId → Option Running) (tables : List Table) (flight : List Sent) → Ties cluster corpus script h tasks tables flight
       → Ties cluster corpus script (answer_by wait c ∷ h) tasks tables flight
   ties_after_answer d corpus script tasks tables flight ties = ties_by corpus script tasks tables flight ties wait (answer_lawful d wait refl)
+
+  cancels_by : (tables : List Table) (roots : ℕ → Option TaskId) (bans : List (FinMap task_id_cmp ℕ)) (cores : List Cancellations) (listings : BTreeSet Listing)
+      → Cancelling cluster (λ u. waiting_for u h) h tables roots bans cores listings → (b : Bool) → Cancelling cluster (λ u. waiting_for u (answer_by b c ∷ h)) (answer_by b c ∷ h) tables roots bans cores listings
+  cancels_by tables roots bans cores listings known true = noted cluster (λ u. waiting_for u h) h tables roots bans cores listings known (AnswerDone c) refl refl
+  cancels_by tables roots bans cores listings known false = noted cluster (λ u. waiting_for u h) h tables roots bans cores listings known (AnswerPlaced c) refl refl
+
+  pub cancels_after_answer : (tables : List Table) (roots : ℕ → Option TaskId) (bans : List (FinMap task_id_cmp ℕ)) (cores : List Cancellations) (listings : BTreeSet Listing)
+      → Cancelling cluster (λ u. waiting_for u h) h tables roots bans cores listings → Cancelling cluster (λ u. waiting_for u (answer_by wait c ∷ h)) (answer_by wait c ∷ h) tables roots bans cores listings
+  cancels_after_answer tables roots bans cores listings known = cancels_by tables roots bans cores listings known wait
+
+  tells_by : (script : Script) (tables : List Table) (flight : List Sent) (now : ℕ) → Describing script h tables flight now → (b : Bool) → Describing script (answer_by b c ∷ h) tables flight now
+  tells_by script tables flight now d true = quiet script h tables flight now (AnswerDone c) refl d
+  tells_by script tables flight now d false = quiet script h tables flight now (AnswerPlaced c) refl d
+
+  pub tells_after_answer : (script : Script) (tables : List Table) (flight : List Sent) (now : ℕ) → Describing script h tables flight now → Describing script (answer_by wait c ∷ h) tables flight now
+  tells_after_answer script tables flight now d = tells_by script tables flight now d wait
+
+  no_mark_by : (b : Bool) → AwaitsNoMark (answer_by b c ∷ h)
+  no_mark_by true = tt
+  no_mark_by false = tt
+
+  pub no_mark_after : AwaitsNoMark (answer_by wait c ∷ h)
+  no_mark_after = no_mark_by wait
 
   unanswered : is_answered c h ≡ false
   unanswered = rw (naming.not_placed, naming.not_done) refl

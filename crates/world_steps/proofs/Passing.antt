@@ -1,12 +1,12 @@
 -- Some first moves and one more.
 use Rattle.std.proofs.lemmas.List.{length-append}
-use Rattle.std.proofs.Common.{◌<◌, ◌≤◌, reverse, ℕ, ◌-◌, List, [], ◌∷◌, ◌++◌, length, refl, sym, subst, ◌∙◌, inl, inr, arith}
+use Rattle.std.proofs.Common.{◌<◌, ◌≤◌, map, reverse, ℕ, ◌-◌, List, [], ◌∷◌, ◌++◌, length, refl, sym, subst, ◌∙◌, inl, inr, arith}
 use Rattle.task_ids.specs.declared.cluster.Cluster.{Cluster}
 use Rattle.task_ids.specs.declared.corpus.Corpus.{Corpus}
 use Rattle.task_events.specs.declared.event.Event.{Event}
 use Rattle.script_lang.specs.declared.command.Script.{Script}
 use Rattle.task_events.specs.declared.event.Event.TheVariants.{Refuse, Acked, End}
-use Rattle.world_moves.specs.Cancels.{due_answers, with_due}
+use Rattle.world_moves.specs.Cancels.{answer_to, due_for, with_due}
 use Rattle.task_events.specs.declared.stop.Stop.{Stop}
 use Rattle.world_moves.specs.Moves.{IsPartly, DeliveryLacksNumber}
 use Rattle.world_moves.proofs.Outcomes.{stops_as}
@@ -41,9 +41,9 @@ module _ (cluster : Cluster) (corpus : Corpus) (script : Script) where
 
 -- an event makes the past longer, with the answers that come due
 longer : (e : Event) (h : List Event) → length h < length (with_due e h)
-longer (Refuse t c) h = omega (arith, length-append (reverse (due_answers t (Refuse t c ∷ h))) (Refuse t c ∷ h))
-longer (End t reply) h = omega (arith, length-append (reverse (due_answers t (End t reply ∷ h))) (End t reply ∷ h))
-longer (Acked p n) h = omega (arith, length-append (reverse (due_answers p (Acked p n ∷ h))) (Acked p n ∷ h))
+longer (Refuse t c) h = omega (arith, length-append (reverse (map (answer_to (Refuse t c ∷ h)) (due_for t (Refuse t c ∷ h)))) (Refuse t c ∷ h))
+longer (End t reply) h = omega (arith, length-append (reverse (map (answer_to (End t reply ∷ h)) (due_for t (End t reply ∷ h)))) (End t reply ∷ h))
+longer (Acked p n) h = omega (arith, length-append (reverse (map (answer_to (Acked p n ∷ h)) (due_for p (Acked p n ∷ h)))) (Acked p n ∷ h))
 longer e h = omega arith
 
 module _ (cluster : Cluster) (corpus : Corpus) (script : Script) where
@@ -77,6 +77,7 @@ module _ (start now next : State) (ready : BTreeSet TaskId) where
       corpus = keeps.corpus ∙ s.keeps.corpus;
       shards = keeps.shards ∙ s.keeps.shards;
       script = keeps.script ∙ s.keeps.script;
+      clock = keeps.clock ∙ s.keeps.clock;
     };
     passes = one_more start.cluster start.corpus.now start.script.now start.history now.history next.history s.passes (moves_from_start s.keeps moved);
   }

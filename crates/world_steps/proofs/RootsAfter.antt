@@ -1,6 +1,7 @@
 -- The tables fit the past after a command has begun, and after its root has come to its node.
 use Rattle.std.proofs.Common.{◌≡◌, ◌+◌, ◌≤◌, ℕ, true, false, List, ◌∷◌, Option, Some, None, refl, sym, ap, ◌∙◌, arith}
 use Rattle.task_ids.specs.declared.task_id.TaskId.{TaskId}
+use Rattle.task_ids.specs.declared.task_info.Headers.{Headers}
 use Rattle.task_ids.specs.declared.task_info.NewTask.{NewTask}
 use Rattle.task_ids.specs.declared.cluster.Cluster.{Cluster}
 use Rattle.task_ids.specs.declared.corpus.Corpus.{Corpus}
@@ -64,19 +65,21 @@ module _ (cluster : Cluster) (corpus : Corpus) (script : Script) (h : List Event
       pub starts_root : IsStart cluster h command node true (Root command t)
       starts_root = (takes, node_is, refl)
 
-      pub after_root : (request : Request) (running : Running) (kept : TaskId → Option Running) → root_request script command ≡ Some request → running ≡ first t None false request cluster.shards → ((writes : List Doc) → IsWorkOn running.work writes)
+      pub after_root : (request : Request) (headers : Headers) (running : Running) (kept : TaskId → Option Running) → root_request script command ≡ Some request → headers ≡ root_headers script command
+          → running ≡ first t None false request cluster.shards headers → ((writes : List Doc) → IsWorkOn running.work writes)
           → kept t ≡ Some running → ((q : TaskId) → same_task t q ≡ false → kept q ≡ tasks q)
           → Ties cluster corpus script (Root command t ∷ h) kept after flight
-      after_root request running kept asked is on here others = record {
+      after_root request headers running kept asked carried is on here others = record {
         lawful = (record { begins = begun; in_cluster = rw node_is high; takes = takes }, ties.lawful, awaits);
-        kept = kept_after cluster corpus (root_request script) (root_headers script) t (Root command t) h tasks kept refl ties.kept (rw here (runs_first cluster corpus t None false request _ running facts is on)) others;
+        kept = kept_after cluster corpus (root_request script) (root_headers script) t (Root command t) h tasks kept refl ties.kept (rw here (runs_first cluster corpus t None false request headers _ running facts is on)) others;
         listed = put_listed cluster h tables ties.listed node low high t task after put (Root command t) (record { last = λ n. refl; live = refl });
         sent = all_stay (Root command t) h flight _ ties.sent;
         good = ties.good;
         plain = ties.plain;
       }
         where
-          facts : facts_of (root_request script) (root_headers script) t (Root command t ∷ h) ≡ started None false request
+          facts : facts_of (root_request script) (root_headers script) t (Root command t ∷ h) ≡ started None false request headers
           facts =
               let none = unborn cluster t (root_request script) (root_headers script) h ties.lawful (let next = takes.next in omega arith) in
-              at_root (root_request script) (root_headers script) t h command ∙ ap (λ (f : Facts). record f { live = true; request = root_request script command }) none ∙ ap (λ (o : Option Request). record blank { live = true; request = o }) asked
+              at_root (root_request script) (root_headers script) t h command ∙ ap (λ (f : Facts). record f { live = true; request = root_request script command; headers = root_headers script command }) none
+              ∙ (λ i. record blank { live = true; request = asked i; headers = sym carried i })

@@ -22,14 +22,15 @@ use Rattle.task_events.specs.Tasks.{is_live, is_new}
 use Rattle.task_events.specs.Turns.{is_begin}
 use Rattle.script_lang.specs.declared.command.Script.{Script}
 use Rattle.script_lang.specs.declared.command.Command.{Command}
-use Rattle.script_lang.specs.declared.command.Command.TheVariants.{Search, Cancel, Deliver, Step, ListStep, Settle, History}
+use Rattle.script_lang.specs.declared.command.Command.TheVariants.{Search, Cancel, ListTasks, Deliver, Step, ListStep, Settle, History}
 use Rattle.world_steps.specs.declared.acting.Stepped.{Stepped}
 use Rattle.world_steps.specs.declared.acting.Stepped.TheVariants.{Done, Waiting, NotRunning}
 use Rattle.script_lang.specs.declared.command.CancelTarget.{CancelTarget}
+use Rattle.script_lang.specs.declared.command.CancelTarget.TheVariants.{Task, Matching, Command as Of}
 use Rattle.node_parts.specs.declared.listing.Listing.{Listing}
 use Rattle.world_moves.specs.declared.listings.ListStep.{ListStep as ListingAnswer}
 use Rattle.world_moves.specs.declared.listings.ListStep.TheVariants.{Done as Listing_done, NoListing}
-use Rattle.world_moves.specs.Cancels.{after_cancel, after_cancel_of, answer_to, due_answers, is_due, target_of, waiting_for, waits_for_end, with_answers, with_cancel, with_due}
+use Rattle.world_moves.specs.Cancels.{after_cancel, after_cancel_of, after_naming, answer_to, due_for, is_due, root_of, targets, waits_for_end, with_answer, with_answers, with_cancel, with_cancels, with_due}
 use Rattle.world_moves.specs.Listings.{AnswersListing, IsListStep, ListSteps}
 use Rattle.world_moves.specs.Moves.{IsDelivery, Delivers, IsStart, Starts}
 use Rattle.command_roots.specs.Roots.{root_request}
@@ -62,7 +63,7 @@ none_begins h (c ∷ cs) = ap (list_any is_begin) (reverse-append (answer_to h c
     by_kind false = refl
 
 answered_after : (t : TaskId) (h : List Event) → Follows h (with_answers t h)
-answered_after t h = (reverse (due_answers t h), refl, none_begins h (filter (is_due t h) (waiting_for t h)))
+answered_after t h = (reverse (map (answer_to h) (due_for t h)), refl, none_begins h (due_for t h))
 
 pub due_after : (e : Event) (h : List Event) → is_begin e ≡ false → Follows h (with_due e h)
 due_after (Refuse t c) h b = after_both h (Refuse t c ∷ h) _ (one_event h _ (Refuse t c) refl refl) (answered_after t (Refuse t c ∷ h))
@@ -72,20 +73,37 @@ due_after e h b = one_event h _ e b refl
 
 -- ---- cancels
 
-named_after : (b : Bool) (c : ℕ) (t : TaskId) (wait : Bool) (h : List Event) → Follows h (if b then Cancel c t wait ∷ h else Mark t c ∷ Cancel c t wait ∷ h)
-named_after true c t wait h = (Cancel c t wait ∷ [], refl, refl)
-named_after false c t wait h = (Mark t c ∷ Cancel c t wait ∷ [], refl, refl)
+named_by_mark : (b : Bool) (c : ℕ) (t : TaskId) (wait : Bool) (h : List Event) → Follows h (if b then Cancel c t wait ∷ h else Mark t c ∷ Cancel c t wait ∷ h)
+named_by_mark true c t wait h = (Cancel c t wait ∷ [], refl, refl)
+named_by_mark false c t wait h = (Mark t c ∷ Cancel c t wait ∷ [], refl, refl)
 
-cancelled_after : (c : ℕ) (wait : Bool) (h : List Event) (o : Option TaskId) → Follows h (after_cancel_of c wait h o)
-cancelled_after c wait h None = (NotFound c ∷ [], refl, refl)
-cancelled_after c wait h (Some t) = by_live (is_live t h)
+names_after : (c : ℕ) (wait : Bool) (ts : List TaskId) (h : List Event) → Follows h (with_cancels c wait ts h)
+names_after c wait [] h = stays h h refl
+names_after c wait (t ∷ ts) h = after_both h (with_cancel c t wait h) _ (named_by_mark (is_some (mark_of t h)) c t wait h) (names_after c wait ts (with_cancel c t wait h))
+
+answer_after : (b wait : Bool) (c : ℕ) (h : List Event) → Follows h (if b then (if wait then AnswerDone c else AnswerPlaced c) ∷ h else h)
+answer_after true true c h = (AnswerDone c ∷ [], refl, refl)
+answer_after true false c h = (AnswerPlaced c ∷ [], refl, refl)
+answer_after false wait c h = stays h h refl
+
+naming_after : (c : ℕ) (wait : Bool) (ts : List TaskId) (h : List Event) → Follows h (after_naming c wait ts h)
+naming_after c wait ts h = after_both h (with_cancels c wait ts h) _ (names_after c wait ts h) (answer_after (is_due (with_cancels c wait ts h) c) wait c (with_cancels c wait ts h))
+
+cancelled_after : (c : ℕ) (wait : Bool) (o : Option TaskId) (h : List Event) → Follows h (after_cancel_of c wait o h)
+cancelled_after c wait None h = (NotFound c ∷ [], refl, refl)
+cancelled_after c wait (Some t) h = by_live (is_live t h)
   where
-    by_live : (b : Bool) → Follows h (if b then with_answers t (with_cancel c t wait h) else NotFound c ∷ h)
-    by_live true = after_both h (with_cancel c t wait h) _ (named_after (is_some (mark_of t h)) c t wait h) (answered_after t (with_cancel c t wait h))
+    by_live : (b : Bool) → Follows h (if b then after_naming c wait (t ∷ []) h else NotFound c ∷ h)
+    by_live true = naming_after c wait (t ∷ []) h
     by_live false = (NotFound c ∷ [], refl, refl)
 
-pub cancel_after : (c : ℕ) (target : CancelTarget) (wait : Bool) (h new : List Event) → new ≡ after_cancel c target wait h → Follows h new
-cancel_after c target wait h new same = subst (Follows h) (sym same) (cancelled_after c wait h (target_of target h))
+by_target : (cluster : Cluster) (script : Script) (c : ℕ) (target : CancelTarget) (wait : Bool) (h : List Event) → Follows h (after_cancel cluster script c target wait h)
+by_target cluster script c (Task t) wait h = cancelled_after c wait (Some t) h
+by_target cluster script c (Of k) wait h = cancelled_after c wait (root_of k h) h
+by_target cluster script c (Matching wanted) wait h = naming_after c wait (targets cluster script wanted h) h
+
+pub cancel_after : (cluster : Cluster) (script : Script) (c : ℕ) (target : CancelTarget) (wait : Bool) (h new : List Event) → new ≡ after_cancel cluster script c target wait h → Follows h new
+cancel_after cluster script c target wait h new same = subst (Follows h) (sym same) (by_target cluster script c target wait h)
 
 -- ---- listings
 
@@ -181,7 +199,8 @@ module _ (cluster : Cluster) (corpus : Corpus) (script : Script) where
 
   done : (k : ℕ) (command : Command) (h new : List Event) → Does cluster corpus script k command h new → Follows h new
   done k (Search index node body opaque_id) h new d = started_where (can_start corpus index body) k node h new d
-  done k (Cancel target reason wait) h new d = cancel_after k target wait h new d
+  done k (Cancel target reason wait) h new d = cancel_after cluster script k target wait h new d
+  done k (ListTasks wanted group detailed) h new same = stays h new same
   done k (Deliver nth) h new d = delivered_where nth h new d
   done k (Step task) h new (stepped, a) = stepped_there task h new stepped a
   done k (ListStep node parent) h new d = listed_where (record { node = node; parent = parent }) h new d

@@ -23,6 +23,13 @@ module _ (c : ℕ) (wait : Bool) where
     pub named_cut : (new : List Event) → IsCutShort (λ past. IsPartOf h past (with_cancels c wait ts h)) new → IsCutShort (λ past. IsPartOf h past (after_naming c wait ts h)) new
     named_cut new cut = cut_as (λ past. IsPartOf h past (with_cancels c wait ts h)) (λ past. IsPartOf h past (after_naming c wait ts h)) new named_part cut
 
+    -- nothing has come yet
+    pub none_yet : IsPartOf h h (after_naming c wait ts h)
+    none_yet =
+        let names = cancels_append c wait ts h in
+        let answer = answer_appends (with_cancels c wait ts h) in
+        (answer.0 ++ names.0, [], answer.1 ∙ ap (λ g. answer.0 ++ g) names.1 ∙ sym (append_assoc answer.0 names.0 h), refl)
+
     -- all tasks are named, and the answer has not come
     pub answer_part : (new : List Event) → new ≡ with_cancels c wait ts h → IsPartOf h new (after_naming c wait ts h)
     answer_part new named =

@@ -142,6 +142,7 @@ pub(crate) fn name_all(
     requires can { CanName number tasks.now state.old.history }
     ensures happened { OnOk result (state.new.history ≡ with_cancels number wait tasks.now state.old.history) }
     ensures tied { OnOk result (IsTiedWhile (Some number) state.new) }
+    ensures naming { OnOk result (IsNaming number wait state.new.history) }
     ensures keeps { Keeps state.old state.new }
     ensures part { OnErr result (IsPartOf state.old.history state.new.history (with_cancels number wait tasks.now state.old.history)) }
     ensures laws { OnErr result (KeepsLaws state.new) }

@@ -177,10 +177,13 @@ fn start_with(
             )?;
             Ok(true)
         }
-        Err(refused) => match reject_root(&mut state.history, command, node, refused) {
-            Ok(()) => Ok(false),
-            Err(stop) => Err(stop),
-        },
+        Err(refused) => {
+            drop(headers);
+            match reject_root(&mut state.history, command, node, refused) {
+                Ok(()) => Ok(false),
+                Err(stop) => Err(stop),
+            }
+        }
     }
 }
 

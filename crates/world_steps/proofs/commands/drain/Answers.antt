@@ -19,7 +19,7 @@ returns-in-Ok-settle c =
     record {
       drained = carried (λ cluster corpus script h. Settles cluster corpus script h now.history) _ _ _ _ _ _ _ _ c.in-Ok.ensures.keeps.cluster c.in-Ok.ensures.keeps.corpus c.in-Ok.ensures.keeps.script begun c.in-Ok-settle.ensures.settled;
       over = over;
-      answered = all_answered now.cluster now.history _ _ _ _ _ tied.ties.lawful tied.cancels tied.awaits (c.drained_bans.ensures.all now.cluster now.history tied.ties.lawful over).1;
+      answered = all_answered now.cluster now.history _ tied.ties.lawful tied.awaits tied.counts (c.drained_bans.ensures.all now.cluster now.history tied.ties.lawful over).1;
       tied = tied;
       known = c.in-Ok-settle.ensures.known;
       keeps = keeps_on c.in-Ok.ensures.keeps c.in-Ok-settle.ensures.keeps;

@@ -1,12 +1,11 @@
-use Rattle.std.proofs.Common.{◌∙◌, ap, sym, rules, ◌≡◌, Bool, Err}
+use Rattle.std.proofs.Common.{◌∙◌, ap, sym, rules, ◌≡◌, Bool, true, Err}
 use Rattle.corpus_shards.specs.Stored.{has_index}
-use Rattle.world_steps.specs.Scripts.{can_start, CommandLacksNumber, StartsWhere}
+use Rattle.world_steps.specs.Scripts.{can_start, StartsWhere}
 use Rattle.world_steps.proofs.Commanded.{unknown_index, comes, partly_comes, can_come}
 use Rattle.world_steps.proofs.HadBefore.{had_ready, not_past, wholly}
 use Rattle.world_steps.proofs.Turning.{started_there}
 use Rattle.task_events.specs.declared.stop.Stop.TheVariants.{HistoryFull, NumbersSpent}
-use Rattle.script_lang.specs.declared.command.Command.TheVariants.{Search}
-use Rattle.world_moves.specs.Moves.{IsPartly, Starts}
+use Rattle.world_moves.specs.Moves.{IsPartly, NodeLacksNumber, Starts}
 use Rattle.world_moves.proofs.CutShort.{cut_as}
 use Rattle.world_moves.proofs.Outcomes.{stops}
 use Rattle.world_steps.proofs.commands.search.Goals as goal
@@ -27,12 +26,12 @@ refresh-requires-clause-had c =
     let s = c.args.state.now in
     had_ready s c.start.new.state c.args.ready.now c.len-before.result c.len-before.ensures c.requires.known c.in_ok-start.ensures.keeps (started_there s.cluster s.history c.args.number c.args.node c.in_ok-start.field-0 c.start.new.state.history c.in_ok-start.ensures.started)
 
-pub returns-in-Ok-clause-done : goal.returns-in-Ok-clause-done
-returns-in-Ok-clause-done c =
+pub returns-in-Ok-refresh-clause-done : goal.returns-in-Ok-refresh-clause-done
+returns-in-Ok-refresh-clause-done c =
     let s = c.args.state.now in
     let same = ap (λ x. has_index x.corpus.lines c.args.index.now) c.requires.shards.shards_are in
     comes s.cluster s.corpus.now c.args.index.now c.args.body.now c.args.number c.args.node c.in-Some.body s.history c.start.new.state.history
-    (sym c.in_ok-body.ensures.body ∙ c.in-Some.is) (sym same ∙ sym (ap (has_index s.shards.corpus.lines) c.as_str.ensures) ∙ sym c.if-not-has.ensures) c.in_ok-start.field-0 c.in_ok-start.ensures.started
+    (sym c.in-Ok.ensures ∙ c.in-Some.is) (sym same ∙ sym (ap (has_index s.shards.corpus.lines) c.as_str.ensures) ∙ sym c.if-not-has.ensures) c.in_ok-start.field-0 c.in_ok-start.ensures.started
 
 pub returns-in-Err-clause-part : goal.returns-in-Err-clause-part
 returns-in-Err-clause-part c =
@@ -40,17 +39,17 @@ returns-in-Err-clause-part c =
     let same = ap (λ x. has_index x.corpus.lines c.args.index.now) c.requires.shards.shards_are in
     wholly (StartsWhere s.cluster (can_start s.corpus.now c.args.index.now c.args.body.now) c.args.number c.args.node) s.history c.start.new.state.history
     (comes s.cluster s.corpus.now c.args.index.now c.args.body.now c.args.number c.args.node c.in-Some.body s.history c.start.new.state.history
-    (sym c.in_ok-body.ensures.body ∙ c.in-Some.is) (sym same ∙ sym (ap (has_index s.shards.corpus.lines) c.as_str.ensures) ∙ sym c.if-not-has.ensures) c.in_ok-start.field-0 c.in_ok-start.ensures.started)
+    (sym c.in-Ok.ensures ∙ c.in-Some.is) (sym same ∙ sym (ap (has_index s.shards.corpus.lines) c.as_str.ensures) ∙ sym c.if-not-has.ensures) c.in_ok-start.field-0 c.in_ok-start.ensures.started)
     (started_there s.cluster s.history c.args.number c.args.node c.in_ok-start.field-0 c.start.new.state.history c.in_ok-start.ensures.started)
 
 pub returns-in_err-start-clause-stop : goal.returns-in_err-start-clause-stop
 returns-in_err-start-clause-stop c =
     let s = c.args.state.now in
     let same = ap (λ x. has_index x.corpus.lines c.args.index.now) c.requires.shards.shards_are in
-    let good = sym c.in_ok-body.ensures.body ∙ c.in-Some.is in
+    let good = sym c.in-Ok.ensures ∙ c.in-Some.is in
     let known = sym same ∙ sym (ap (has_index s.shards.corpus.lines) c.as_str.ensures) ∙ sym c.if-not-has.ensures in
-    stops c.from_residual-in_err-start.result (IsPartly (StartsWhere s.cluster (can_start s.corpus.now c.args.index.now c.args.body.now) c.args.number c.args.node) s.history)
-    (CommandLacksNumber s.cluster s.corpus.now s.script.now (Search c.args.index.now c.args.node c.args.body.now) s.history c.start.new.state.history) c.start.new.state.history
+    stops c.from_residual.result (IsPartly (StartsWhere s.cluster (can_start s.corpus.now c.args.index.now c.args.body.now) c.args.number c.args.node) s.history)
+    ((can_start s.corpus.now c.args.index.now c.args.body.now ≡ true) × NodeLacksNumber s.cluster s.history c.args.node × (c.start.new.state.history ≡ s.history)) c.start.new.state.history
     (λ failed. (let is_err : c.start.result ≡ Err HistoryFull = search rules in
     cut_as (IsPartly (λ h new. (started : Bool) × Starts s.cluster h c.args.number c.args.node started new) s.history) (IsPartly (StartsWhere s.cluster (can_start s.corpus.now c.args.index.now c.args.body.now) c.args.number c.args.node) s.history) c.start.new.state.history
     (λ past. partly_comes s.cluster s.corpus.now c.args.index.now c.args.body.now c.args.number c.args.node c.in-Some.body s.history past good known) (c.start.ensures.full is_err)))

@@ -86,7 +86,7 @@ returns-clause-tied c =
     let core = c.in-Ok.ensures.joined ∙ ap (λ k. with_entry c.index_mut.result.now c.args.task (Some (joined_by k who))) entry in
     let left = left_in s.left in
     let mid = left_in c.wait_at_one.new.left in
-    let counted = join_counts c.args.number c.args.task c.args.wait e.0 left mid (left_in c.count_down.new.left) c.in-Ok-wait_at_one.ensures.more (λ k. c.count_down.ensures k ∙ ap (λ as. left_after (offered_in as) mid k) acts) in
+    let counted = join_counts c.args.number c.args.task c.args.wait e.0 left mid (left_in c.count_down.new.left) c.in-Ok-wait_at_one.ensures.more (λ k. c.count_down.ensures k ∙ ap (λ list. left_after (offered_in list) mid k) acts) in
     let through = sym (through_at_once s.cluster s.history c.args.number c.args.task c.args.wait c.requires.naming c.requires.tied.ties.lawful c.requires.tied.awaits c.requires.live c.requires.fresh e.0 e.2) in
     record {
       ties = rw happened (ties_after_cancel s.cluster s.history c.args.number c.args.task c.args.wait c.requires.naming c.requires.tied.ties.lawful c.requires.tied.awaits c.requires.live c.requires.fresh s.corpus.now s.script.now _ _ s.flight c.requires.tied.ties);

@@ -18,6 +18,9 @@ use Rattle.world_moves.proofs.FirstRuns.{first}
 use Rattle.world_moves.proofs.CancelsAfterStart.{noted_root}
 use Rattle.world_moves.proofs.Tables.{IsPutOn, node_has_table, no_slot, no_number}
 use Rattle.world_moves.proofs.CancelsUntouched.{noted}
+use Rattle.world_moves.proofs.DescriptionsAfter.{quiet}
+use Rattle.world_moves.proofs.DescriptionsStart.{new_number, rows_root, carried_root}
+use Rattle.world_moves.proofs.QuietCounts.{still_counts}
 use Rattle.task_events.specs.declared.history.TheConstants.{MAX_EVENTS}
 use Rattle.world_moves.specs.Moves.{Starts}
 use Rattle.world_moves.proofs.CutShort.{cut_only}
@@ -32,7 +35,7 @@ pub returns-in_ok-keep_root-in-Ok-clause-started : goal.returns-in_ok-keep_root-
 returns-in_ok-keep_root-in-Ok-clause-started c =
     let s = c.args.state.now in
     let t = c.in-Ok.ticket.id in
-    let put : IsPutOn s.tables.items c.args.node t c.new_task-root.result c.put_on.new.tables.items = record { id = c.in-Ok.ensures.id; row = c.in-Ok.ensures.row; free = c.in-Ok.ensures.free } in
+    let put : IsPutOn s.tables.items c.args.node t c.in_ok-root.root c.put_on.new.tables.items = record { id = c.in-Ok.ensures.id; row = c.in-Ok.ensures.row; free = c.in-Ok.ensures.free } in
     let here : c.in_ok-running-in-Ok.running.ticket.id ≡ t = ap (λ (r : Running). r.ticket.id) c.in_ok-running-in-Ok.ensures.running in
     let happened = c.in_ok-keep_root-in-Ok.ensures.happened ∙ ap (λ (x : TaskId). Root c.args.command x ∷ s.history) here in
     (Root c.args.command t, starts_root s.cluster s.corpus.now s.script.now s.history (task_at s.tasks) s.tables.items s.flight c.requires.tied.ties c.requires.tied.awaits c.args.command c.args.node c.requires.begun c.requires.low c.requires.high t _ _ put, happened)
@@ -42,9 +45,11 @@ returns-in_ok-keep_root-in-Ok-clause-tied c =
     let s = c.args.state.now in
     let t = c.in-Ok.ticket.id in
     let running = c.in_ok-running-in-Ok.running in
-    let put : IsPutOn s.tables.items c.args.node t c.new_task-root.result c.put_on.new.tables.items = record { id = c.in-Ok.ensures.id; row = c.in-Ok.ensures.row; free = c.in-Ok.ensures.free } in
-    let is : running ≡ first t None false c.args.request.now s.cluster.shards = c.in_ok-running-in-Ok.ensures.running
-    ∙ ap (λ (o : Option Token). first t o false c.args.request.now s.cluster.shards) c.in-Ok.ensures.token in
+    let put : IsPutOn s.tables.items c.args.node t c.in_ok-root.root c.put_on.new.tables.items = record { id = c.in-Ok.ensures.id; row = c.in-Ok.ensures.row; free = c.in-Ok.ensures.free } in
+    let headers = c.in_ok-headers.headers in
+    let carried = c.in_ok-headers.ensures.headers in
+    let is : running ≡ first t None false c.args.request.now s.cluster.shards headers = c.in_ok-running-in-Ok.ensures.running
+    ∙ ap (λ (o : Option Token). first t o false c.args.request.now s.cluster.shards headers) c.in-Ok.ensures.token in
     let here = ap (λ (r : Running). r.ticket.id) is in
     let happened : c.keep_root.new.history ≡ Root c.args.command t ∷ s.history = c.in_ok-keep_root-in-Ok.ensures.happened ∙ ap (λ (x : TaskId). Root c.args.command x ∷ s.history) here in
     let changed = subst (λ (k : TaskId). (q : TaskId) → task_at c.keep_root.new.tasks q ≡ cond (is_at (task_id_cmp k) q) (Some running) (task_at s.tasks q)) here c.in_ok-keep_root-in-Ok.ensures.kept in
@@ -52,9 +57,18 @@ returns-in_ok-keep_root-in-Ok-clause-tied c =
     record {
       ties = same_ties s.cluster s.corpus.now s.script.now (task_at c.keep_root.new.tasks) _ _ _ _ _ _ happened refl refl
           (after_root s.cluster s.corpus.now s.script.now s.history (task_at s.tasks) s.tables.items s.flight c.requires.tied.ties c.requires.tied.awaits c.args.command c.args.node c.requires.begun c.requires.low c.requires.high t _ _ put
-          c.args.request.now running (task_at c.keep_root.new.tasks) c.requires.asked is c.in_ok-running-in-Ok.ensures.begun (at_changed t (Some running) (task_at s.tasks) _ changed) (off_changed t (Some running) (task_at s.tasks) _ changed));
+          c.args.request.now headers running (task_at c.keep_root.new.tasks) c.requires.asked carried is c.in_ok-running-in-Ok.ensures.begun (at_changed t (Some running) (task_at s.tasks) _ changed) (off_changed t (Some running) (task_at s.tasks) _ changed));
       cancels = same_cancels s.cluster _ _ _ _ _ _ _ _ happened refl
-          (noted_root s.cluster s.history s.tables.items c.requires.tied.ties.listed c.args.node c.requires.low c.requires.high t _ _ put c.requires.tied.ties.lawful (λ t. waiting_for t s.history) _ _ _ _ c.requires.tied.cancels c.args.command _ c.new_task-root.ensures.parent noted);
+          (noted_root s.cluster s.history s.tables.items c.requires.tied.ties.listed c.args.node c.requires.low c.requires.high t _ _ put c.requires.tied.ties.lawful (λ t. waiting_for t s.history) _ _ _ _ c.requires.tied.cancels c.args.command _ (ap (λ x. x.parent) c.in_ok-root.ensures.task) noted);
+      counts = rw happened (still_counts None (Root c.args.command t) s.history _ refl c.requires.tied.counts);
+      tells = rw happened (record {
+        rows_are = rows_root s.cluster s.script.now s.history s.tables.items c.requires.tied.ties.listed c.args.node c.requires.low c.requires.high t _ _ put c.requires.tied.ties.lawful
+            c.args.command c.args.request.now s.clock headers c.in_ok-root.ensures.task c.requires.asked c.requires.tied.tells.clock_is carried c.requires.tied.tells.rows_are;
+        carried = carried_root s.cluster s.corpus.now s.script.now s.history _ _ s.flight c.requires.tied.ties t
+            (new_number s.cluster s.script.now s.history s.tables.items c.requires.tied.ties.listed c.args.node c.requires.low c.requires.high t _ _ put c.requires.tied.ties.lawful) c.requires.tied.tells.carried c.args.command;
+        clock_is = c.requires.tied.tells.clock_is;
+        clock_low = c.requires.tied.tells.clock_low;
+      });
       awaits = subst AwaitsNoMark (sym happened) tt;
     }
 
@@ -75,6 +89,8 @@ returns-in-Ok-reject_root-clause-tied c =
       ties = same_ties s.cluster s.corpus.now s.script.now (task_at s.tasks) _ _ _ _ _ _ happened c.in-Err.ensures.err refl
           (after_root_rejected s.cluster s.corpus.now s.script.now s.history (task_at s.tasks) s.tables.items s.flight c.requires.tied.ties c.requires.tied.awaits c.args.command c.args.node c.requires.begun c.requires.low c.requires.high full);
       cancels = same_cancels s.cluster _ _ _ _ _ _ _ _ happened c.in-Err.ensures.err (noted s.cluster (λ t. waiting_for t s.history) s.history _ _ _ _ _ c.requires.tied.cancels (RootRejected c.args.command c.args.node) refl refl);
+      counts = rw happened (still_counts None (RootRejected c.args.command c.args.node) s.history _ refl c.requires.tied.counts);
+      tells = rw (happened, c.in-Err.ensures.err) (quiet s.script.now s.history s.tables.items s.flight s.clock (RootRejected c.args.command c.args.node) refl c.requires.tied.tells);
       awaits = subst AwaitsNoMark (sym happened) tt;
     }
 
@@ -89,7 +105,7 @@ pub returns-in_err-keep_root-in-Ok-clause-full : goal.returns-in_err-keep_root-i
 returns-in_err-keep_root-in-Ok-clause-full c = λ failed.
     let s = c.args.state.now in
     let t = c.in-Ok.ticket.id in
-    let put : IsPutOn s.tables.items c.args.node t c.new_task-root.result c.put_on.new.tables.items = record { id = c.in-Ok.ensures.id; row = c.in-Ok.ensures.row; free = c.in-Ok.ensures.free } in
+    let put : IsPutOn s.tables.items c.args.node t c.in_ok-root.root c.put_on.new.tables.items = record { id = c.in-Ok.ensures.id; row = c.in-Ok.ensures.row; free = c.in-Ok.ensures.free } in
     let full : length s.history ≡ MAX_EVENTS = search rules in
     cut_only (λ h new. (started : Bool) × Starts s.cluster h c.args.command c.args.node started new) s.history c.keep_root.new.history (Root c.args.command t)
     (true, (Root c.args.command t, starts_root s.cluster s.corpus.now s.script.now s.history (task_at s.tasks) s.tables.items s.flight c.requires.tied.ties c.requires.tied.awaits c.args.command c.args.node c.requires.begun c.requires.low c.requires.high t _ _ put, refl))

@@ -4,21 +4,25 @@ use Rattle.std.specs.BTreeMap.{is_at}
 use Rattle.std.specs.List.{list_any}
 use Rattle.std.specs.Ordering.{nat_cmp}
 use Rattle.task_ids.specs.TaskIdOrder.{task_id_cmp}
+use Rattle.std.specs.Prelude.{unwrap_or}
+use Rattle.world_moves.specs.Left.{left_in}
 use Rattle.world_moves.specs.Listings.{listing_cmp}
 use Rattle.world_moves.specs.Ties.{task_at}
-use Rattle.world_steps.proofs.Empty.{nothing_yet, nothing_cancelled}
+use Rattle.world_steps.proofs.Empty.{nothing_yet, nothing_cancelled, nothing_counted, nothing_told}
 use Rattle.world_steps.proofs.world.World.new.Goals as goal
 
 pub invariant_of-result : goal.invariant_of-result
 invariant_of-result c = record {
   tied = record {
     ties = rw c.new-2.ensures (rw c.new-4.ensures (nothing_yet c.args.cluster c.args.corpus.now c.args.script.now (task_at c.new-3.result) c.in_ok-tables.tables.items (λ t. ap (lookup (is_at (task_id_cmp t))) c.new-3.ensures.empty) c.in_ok-tables.ensures));
-    cancels = rw c.new-2.ensures (nothing_cancelled c.args.cluster c.in_ok-tables.tables.items _ c.in-Ok.bans.items c.in-Ok-new_cores.cores.items c.new-6.result c.in_ok-tables.ensures
-        (λ k. ap (lookup (is_at (nat_cmp k))) c.new-5.ensures.empty) c.in-Ok.ensures c.in-Ok-new_cores.ensures (λ l. ap (list_any (is_at (listing_cmp l))) c.new-6.ensures.empty));
+    cancels = rw c.new-2.ensures (nothing_cancelled c.args.cluster c.in_ok-tables.tables.items _ c.in-Ok.bans.items c.in-Ok-new_cores.cores.items c.new-7.result c.in_ok-tables.ensures
+        (λ k. ap (lookup (is_at (nat_cmp k))) c.new-5.ensures.empty) c.in-Ok.ensures c.in-Ok-new_cores.ensures (λ l. ap (list_any (is_at (listing_cmp l))) c.new-7.ensures.empty));
+    counts = rw c.new-2.ensures (nothing_counted (left_in c.new-6.result) (λ k. ap (λ m. unwrap_or (lookup (is_at (nat_cmp k)) m) 0) c.new-6.ensures.empty));
+    tells = rw (c.new-2.ensures, c.new-4.ensures) (nothing_told c.args.cluster c.args.script.now c.in_ok-tables.tables.items c.in_ok-tables.ensures);
     awaits = rw c.new-2.ensures tt;
   };
   shards = record { shards_are = c.in-Ok-new.ensures.ok; few = c.in-Ok-new.ensures.few };
-  ready_known = λ t. rw c.new-2.ensures (ap (list_any (is_at (task_id_cmp t))) c.new-7.ensures.empty);
+  ready_known = λ t. rw c.new-2.ensures (ap (list_any (is_at (task_id_cmp t))) c.new-8.ensures.empty);
   can_run = c.requires.can;
   few = c.requires.few;
 }
