@@ -1,5 +1,6 @@
 //! Ids and their spellings, names of actions, and copies of rows.
 
+use shared_value::Shared;
 use std::alloc::{AllocError, Global};
 use task_ids::{Action, Headers, Malformed, TaskId, TaskInfo, Text};
 

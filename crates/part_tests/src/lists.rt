@@ -2,6 +2,7 @@
 
 ghost use Rattle.task_ids.specs.Limits.{IsNode, IsNumber};
 
+use shared_value::Shared;
 use std::alloc::{AllocError, Global};
 use task_ids::{Action, Headers, TaskId, TaskInfo, Text, matches_pattern};
 use tasks_api::{Filter, GroupBy, list_line};

@@ -1,5 +1,5 @@
 -- The tables fit the past after an answer has come, where they are changed as it says.
-use Rattle.std.proofs.Common.{◌≡◌, ◌≤◌, ℕ, zero, suc, ◌+◌, ◌-◌, true, false, List, [], ◌∷◌, map, get_or, Option, Some, None, refl, sym, ap, subst, ◌∙◌, arith}
+use Rattle.std.proofs.Common.{◌≡◌, ◌≤◌, ℕ, zero, suc, ◌+◌, ◌-◌, true, false, List, ◌∷◌, map, get_or, Option, Some, None, refl, sym, ap, subst, ◌∙◌, arith}
 use Rattle.std.specs.Prelude.{is_some, IsSome, slice_get, slice_set, remove, option_map, option_and_then}
 use Rattle.task_ids.specs.declared.task_id.TaskId.{TaskId}
 use Rattle.task_ids.specs.declared.cluster.Cluster.{Cluster}
@@ -28,8 +28,6 @@ use Rattle.task_laws.proofs.Bans.{ban_facts}
 use Rattle.task_laws.proofs.Once.{once_each}
 use Rattle.task_laws.proofs.Places.{at_place}
 use Rattle.task_laws.proofs.Content.{told}
-use Rattle.search_phase.specs.Searching.{takes}
-use Rattle.task_work.specs.declared.work.Work.TheVariants as works
 use Rattle.task_work.specs.Works.{work_takes, work_with_answer}
 use Rattle.script_lang.specs.declared.command.Script.{Script}
 use Rattle.world_moves.specs.declared.flight.Sent.{Sent}

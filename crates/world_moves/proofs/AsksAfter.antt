@@ -1,5 +1,5 @@
 -- The tables fit the past after an ask, where they are changed as it says.
-use Rattle.std.proofs.Common.{◌≡◌, ◌⊎◌, ◌≤◌, ◌<◌, ℕ, ◌+◌, true, false, List, [], ◌∷◌, ◌++◌, length, map, Option, Some, None, refl, sym, ap, subst, ◌∙◌, inl, inr, arith}
+use Rattle.std.proofs.Common.{◌≡◌, ◌⊎◌, ◌≤◌, ◌<◌, ℕ, ◌+◌, true, false, List, [], ◌∷◌, ◌++◌, length, Option, Some, None, refl, sym, ap, subst, ◌∙◌, inl, inr, arith}
 use Rattle.std.specs.List.{AllByRecursion}
 use Rattle.std.proofs.lemmas.Bool.{cases_lt}
 use Rattle.std.proofs.lemmas.List.{map-append}
@@ -32,8 +32,6 @@ use Rattle.task_laws.proofs.Same.{same_tests}
 use Rattle.task_laws.proofs.Asks.{AskFacts, ask_facts}
 use Rattle.task_laws.proofs.Content.{AnswerFacts, answer_facts, told}
 use Rattle.task_laws.proofs.Reach.{reach_facts}
-use Rattle.search_phase.specs.Searching as searching
-use Rattle.task_work.specs.declared.work.Work.TheVariants as works
 use Rattle.task_work.specs.Works.{can_ask, work_with_ask}
 use Rattle.script_lang.specs.declared.command.Script.{Script}
 use Rattle.world_moves.specs.declared.flight.Sent.{Sent}

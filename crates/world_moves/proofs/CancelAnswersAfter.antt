@@ -22,7 +22,7 @@ use Rattle.node_parts.specs.declared.running.Running.{Running}
 use Rattle.node_parts.specs.declared.listing.Listing.{Listing}
 use Rattle.command_roots.specs.Roots.{root_request, root_headers}
 use Rattle.world_moves.specs.declared.flight.Sent.{Sent}
-use Rattle.world_moves.specs.Cancels.{named_by, is_answered, is_due, is_through, waiting_for, waits_for_end, due_for, left_of, with_answers}
+use Rattle.world_moves.specs.Cancels.{named_by, is_answered, is_due, waiting_for, waits_for_end, due_for, left_of, with_answers}
 use Rattle.world_moves.specs.Cancelling.{Cancelling}
 use Rattle.world_moves.specs.Describing.{Describing}
 use Rattle.world_moves.specs.Facts.{facts_of}

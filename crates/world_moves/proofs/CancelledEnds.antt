@@ -9,7 +9,6 @@ use Rattle.task_ids.specs.declared.task_id.TaskId.{TaskId}
 use Rattle.task_ids.specs.declared.cluster.Cluster.{Cluster}
 use Rattle.task_ids.specs.declared.corpus.Corpus.{Corpus}
 use Rattle.task_table.specs.Table.{Table, without_task}
-use Rattle.task_events.specs.declared.request.Request.TheVariants as asks
 use Rattle.task_events.specs.declared.reply.Reply.{Reply}
 use Rattle.task_events.specs.declared.reply.Reply.TheVariants.{Cancelled}
 use Rattle.task_events.specs.declared.event.Event.{Event}

@@ -1,11 +1,10 @@
 -- At how many tasks each cancel waits after an event about one of them, and which cancels are answered with it.
-use Rattle.std.proofs.Common.{◌≡◌, ◌≤◌, ◌-◌, ◌==◌, ◌&&◌, ◌||◌, ◌++◌, ℕ, Bool, true, false, cond, not, List, [], ◌∷◌, filter, length, map, reverse, None, refl, sym, ap, subst, ◌∙◌, append-nil, arith}
+use Rattle.std.proofs.Common.{◌≡◌, ◌-◌, ◌==◌, ◌&&◌, ◌||◌, ◌++◌, ℕ, Bool, true, false, cond, not, List, [], ◌∷◌, filter, length, map, reverse, None, refl, sym, ap, ◌∙◌, append-nil, arith}
 use Rattle.std.proofs.lemmas.Bool.Decides.{nat_tests}
 use Rattle.std.proofs.lemmas.Grind.{reverse_onto}
 use Rattle.task_ids.specs.declared.task_id.TaskId.{TaskId}
 use Rattle.task_ids.specs.declared.cluster.Cluster.{Cluster}
 use Rattle.task_events.specs.declared.event.Event.{Event}
-use Rattle.task_events.specs.declared.event.Event.TheVariants.{AnswerPlaced, AnswerDone}
 use Rattle.task_events.specs.Same.{same_task}
 use Rattle.task_events.specs.Cancels.{is_named}
 use Rattle.task_events.specs.Lawful.{Lawful}
@@ -13,7 +12,7 @@ use Rattle.task_laws.proofs.Same.{same_tests}
 use Rattle.world_moves.specs.Acts.{cancel_of, left_after, answers_of}
 use Rattle.world_moves.specs.Cancels.{is_answered, is_due, is_through, named_by, tasks_named, waiting_for, waits_for_end, answer_by, answer_to, due_for, left_of, with_answers}
 use Rattle.world_moves.specs.Left.{HasLeft, one_less}
-use Rattle.world_moves.proofs.CancelAnswersAfter.{in_due, answered_due, named_still, left_still}
+use Rattle.world_moves.proofs.CancelAnswersAfter.{answered_due, named_still, left_still}
 use Rattle.world_moves.proofs.NamedCancels.{is_in, AllDiffer, named_in, named_differ, in_filter, filter_differ, filter_same, filter_twice}
 use Rattle.world_moves.proofs.OneChange.{changed, present}
 use Rattle.world_moves.proofs.TasksNamed.{task_in, named_once, due_where_none}

@@ -1,40 +1,27 @@
 -- What task lists show after an event: of the tasks that were live before it, what they showed.
-use Rattle.std.proofs.Common.{◌≡◌, ◌≢◌, ◌<◌, ◌≤◌, ◌-◌, ◌+◌, ℕ, Bool, true, false, cond, not, List, [], ◌∷◌, ◌++◌, map, filter, get_or, Option, Some, None, refl, sym, ap, subst, ◌∙◌, arith}
-use Rattle.std.specs.Prelude.{All, slice_get, slice_set, remove}
+use Rattle.std.proofs.Common.{◌≡◌, ℕ, Bool, true, false, cond, not, List, [], ◌∷◌, ◌++◌, map, get_or, Option, Some, None, refl, sym, subst, ◌∙◌}
+use Rattle.std.specs.Prelude.{slice_get, slice_set, remove}
 use Rattle.std.specs.List.{AllByRecursion}
-use Rattle.std.proofs.lemmas.List.Elements.{All-filter, All-map, All-push}
+use Rattle.std.proofs.lemmas.List.Elements.{All-filter, All-map}
 use Rattle.task_ids.specs.declared.task_id.TaskId.{TaskId}
-use Rattle.task_ids.specs.declared.task_info.NewTask.{NewTask}
 use Rattle.task_ids.specs.declared.task_info.TaskInfo.{TaskInfo}
-use Rattle.task_ids.specs.declared.task_info.Headers.{Headers}
-use Rattle.task_ids.specs.declared.cluster.Cluster.{Cluster}
 use Rattle.node_parts.specs.declared.notice.Notice.{Notice}
 use Rattle.node_parts.specs.Notices.{notice_of}
-use Rattle.node_parts.specs.Starting.{task_for}
 use Rattle.child_track.specs.Token.{ReceiptParts}
 use Rattle.cancel_core.specs.declared.act.Act.{Act}
-use Rattle.task_table.specs.Rows.{row_for, has_number, marked}
-use Rattle.task_table.specs.Table.{Table, with_task, without_task, with_mark}
+use Rattle.task_table.specs.Rows.{has_number, marked}
+use Rattle.task_table.specs.Table.{Table, without_task, with_mark}
 use Rattle.script_lang.specs.declared.command.Script.{Script}
-use Rattle.task_events.specs.declared.request.Request.{Request}
 use Rattle.task_events.specs.declared.event.Event.{Event}
 use Rattle.task_events.specs.declared.event.Event.TheVariants.{Root, Put, Tick}
-use Rattle.task_events.specs.Same.{same_task}
-use Rattle.task_events.specs.Tasks.{last_number}
-use Rattle.task_events.specs.Asks.{request_of_ask}
-use Rattle.task_events.specs.Steps.{request_of}
-use Rattle.task_events.specs.TaskRows.{clock, started_at, headers_of}
-use Rattle.task_events.specs.Lawful.{Lawful}
-use Rattle.task_laws.proofs.Same.{same_tests}
-use Rattle.command_roots.specs.Roots.{root_request, root_headers}
+use Rattle.task_events.specs.TaskRows.{clock}
 use Rattle.world_moves.specs.declared.flight.Sent.{Sent}
 use Rattle.world_moves.specs.declared.flight.Sent.TheVariants as sent
 use Rattle.world_moves.specs.Acts.{messages_in}
 use Rattle.world_moves.specs.Flights.{told_to, told_parent}
 use Rattle.world_moves.specs.Describing.{Describing, IsDescribed, DescribesAll, Carries}
-use Rattle.world_moves.specs.Ties.{IsTableAt, IsTableOf}
 use Rattle.world_moves.proofs.AtPlace.{set_at}
-use Rattle.world_moves.proofs.ByPlace.{all_left, all_push}
+use Rattle.world_moves.proofs.ByPlace.{all_left}
 
 -- the event starts a task, or moves the clock
 abbrev pub starts_or_ticks : Event → Bool

@@ -1,6 +1,6 @@
 -- What task lists show after a task has started: of it what its request asks for, and of the others what they showed.
-use Rattle.std.proofs.Common.{◌≡◌, ◌≢◌, ◌⊎◌, ◌<◌, ◌≤◌, ◌-◌, ◌+◌, ℕ, Bool, true, false, List, [], ◌∷◌, get_or, suc, zero, Option, Some, None, refl, sym, ap, subst, ◌∙◌, inl, inr, arith}
-use Rattle.std.specs.Prelude.{All, slice_get}
+use Rattle.std.proofs.Common.{◌≡◌, ◌≢◌, ◌⊎◌, ◌<◌, ◌≤◌, ◌-◌, ◌+◌, ℕ, true, false, List, [], ◌∷◌, get_or, suc, zero, Option, Some, None, refl, sym, ap, subst, ◌∙◌, inl, inr, arith}
+use Rattle.std.specs.Prelude.{slice_get}
 use Rattle.std.specs.List.{AllByRecursion}
 use Rattle.std.proofs.lemmas.List.Elements.{All-push}
 use Rattle.task_ids.specs.declared.task_id.TaskId.{TaskId}
@@ -21,8 +21,7 @@ use Rattle.task_events.specs.declared.event.Event.TheVariants.{Root, Put}
 use Rattle.task_events.specs.Same.{same_task}
 use Rattle.task_events.specs.Tasks.{is_live, last_number}
 use Rattle.task_events.specs.Asks.{request_of_ask}
-use Rattle.task_events.specs.Steps.{request_of}
-use Rattle.task_events.specs.TaskRows.{clock, started_at, headers_of}
+use Rattle.task_events.specs.TaskRows.{clock, headers_of}
 use Rattle.task_events.specs.Lawful.{Lawful}
 use Rattle.task_laws.proofs.Asks.{ask_facts}
 use Rattle.task_laws.proofs.InFlight.{requests_in_flight}
@@ -30,12 +29,12 @@ use Rattle.task_laws.proofs.Same.{same_task_tells, same_tests}
 use Rattle.command_roots.specs.Roots.{root_request, root_headers}
 use Rattle.world_moves.specs.declared.flight.Sent.{Sent}
 use Rattle.world_moves.specs.declared.flight.Sent.TheVariants as sent
-use Rattle.world_moves.specs.Describing.{Describing, IsDescribed, DescribesAll, Carries}
+use Rattle.world_moves.specs.Describing.{IsDescribed, DescribesAll, Carries}
 use Rattle.world_moves.specs.Ties.{Ties, IsTableAt}
 use Rattle.world_moves.proofs.AtPlace.{set_at}
 use Rattle.world_moves.proofs.ByPlace.{all_here}
 use Rattle.world_moves.proofs.CancelsAfterStart.{rows_differ, is_new}
-use Rattle.world_moves.proofs.RequestsInFlight.{Arrives, arrives}
+use Rattle.world_moves.proofs.RequestsInFlight.{arrives}
 use Rattle.world_moves.proofs.Tables.{IsPutOn, table_of}
 
 itself : (t : TaskId) → same_task t t ≡ true

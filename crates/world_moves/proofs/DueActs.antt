@@ -1,6 +1,6 @@
 -- The acts that are due for a cancellation are the answers and the unbans that the past says.
 use Rattle.std.proofs.Common.{◌≡◌, ℕ, Bool, true, false, cond, not, List, [], ◌∷◌, ◌++◌, Option, Some, None, map, filter, refl, sym, ap, ◌∙◌, arith, append-nil}
-use Rattle.std.specs.Prelude.{◌&&◌, ◌||◌, is_some, reverse, filter_map}
+use Rattle.std.specs.Prelude.{◌&&◌, ◌||◌, is_some, filter_map}
 use Rattle.std.specs.List.{list_all}
 use Rattle.std.proofs.lemmas.List.Elements.{filter_map-append}
 use Rattle.task_ids.specs.declared.task_id.TaskId.{TaskId}

@@ -1,5 +1,5 @@
 -- A task that has just started runs the work that is asked of it.
-use Rattle.std.proofs.Common.{◌≡◌, ℕ, Bool, true, List, [], Option, Some, None, refl, sym, subst}
+use Rattle.std.proofs.Common.{◌≡◌, ℕ, Bool, true, List, Option, Some, None, refl, sym, subst}
 use Rattle.task_ids.specs.declared.task_id.TaskId.{TaskId}
 use Rattle.task_ids.specs.declared.task_info.Headers.{Headers}
 use Rattle.task_ids.specs.declared.cluster.Cluster.{Cluster}

@@ -1,5 +1,5 @@
 -- What the tables of a node know of a task without a mark, and where they are found.
-use Rattle.std.proofs.Common.{◌≡◌, ◌≢◌, ◌⊎◌, ◌-◌, ◌+◌, ◌≤◌, ℕ, true, false, List, [], ◌∷◌, ◌++◌, map, filter, reverse, Option, Some, None, refl, sym, ap, subst, ◌∙◌, inl, inr, arith}
+use Rattle.std.proofs.Common.{◌≡◌, ◌≢◌, ◌⊎◌, ◌-◌, ◌+◌, ◌≤◌, ℕ, true, false, List, [], Option, Some, None, refl, sym, ap, subst, ◌∙◌, inl, inr, arith}
 use Rattle.std.specs.Prelude.{slice_get}
 use Rattle.std.specs.BTreeSet.{BTreeSet}
 use Rattle.std.specs.FinMap.{FinMap, get}
@@ -10,12 +10,11 @@ use Rattle.task_table.specs.Table.{Table}
 use Rattle.cancel_core.specs.Cancellation.{Cancellation}
 use Rattle.cancel_core.specs.Cancellations.{Cancellations, has_entry}
 use Rattle.task_events.specs.declared.event.Event.{Event}
-use Rattle.task_events.specs.declared.event.Event.TheVariants.{Mark}
 use Rattle.task_events.specs.Same.{same_task}
 use Rattle.task_events.specs.Bans.{mark_of}
 use Rattle.task_laws.proofs.Same.{same_task_tells}
 use Rattle.node_parts.specs.declared.listing.Listing.{Listing}
-use Rattle.world_moves.specs.Cancels.{waiting_for, is_due, answer_to, with_answers}
+use Rattle.world_moves.specs.Cancels.{waiting_for}
 use Rattle.world_moves.specs.Cancelling.{Cancelling, HasCoreAt, IsEntryOf, waiting_but}
 use Rattle.world_moves.proofs.AtPlace.{at_node}
 use Rattle.world_moves.proofs.CancelFrame.{cores_kept}

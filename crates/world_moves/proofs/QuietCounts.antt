@@ -1,12 +1,12 @@
 -- The counts of cancels fit the past after events that let no cancel be answered.
-use Rattle.std.proofs.Common.{◌≡◌, ◌-◌, ◌==◌, ◌&&◌, ℕ, Bool, true, false, cond, not, List, ◌∷◌, Option, None, refl, sym, ap, ◌∙◌}
+use Rattle.std.proofs.Common.{◌≡◌, ◌-◌, ◌==◌, ◌&&◌, ℕ, Bool, true, false, cond, not, List, ◌∷◌, Option, refl, sym, ap, ◌∙◌}
 use Rattle.task_ids.specs.declared.task_id.TaskId.{TaskId}
 use Rattle.task_ids.specs.declared.cluster.Cluster.{Cluster}
 use Rattle.task_events.specs.declared.event.Event.{Event}
 use Rattle.task_events.specs.declared.event.Event.TheVariants.{Refuse, Cancel, Mark, Acked, End, AnswerPlaced, AnswerDone}
 use Rattle.task_events.specs.Allowed.{is_number}
 use Rattle.task_events.specs.Lawful.{Lawful}
-use Rattle.world_moves.specs.Cancels.{is_answered, left_of}
+use Rattle.world_moves.specs.Cancels.{left_of}
 use Rattle.world_moves.specs.Left.{HasLeft}
 use Rattle.world_moves.proofs.CountsAfter.{IsAt, let_go, left_then}
 use Rattle.world_moves.proofs.NamedCancels.{is_in}

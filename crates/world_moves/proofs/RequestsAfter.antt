@@ -12,8 +12,6 @@ use Rattle.child_track.specs.Token.{Token}
 use Rattle.task_table.specs.Table.{Table}
 use Rattle.task_work.specs.Works.{IsWorkOn}
 use Rattle.script_lang.specs.declared.command.Script.{Script}
-use Rattle.task_events.specs.declared.request.Request.{Request as AskedFor}
-use Rattle.task_events.specs.declared.request.Request.TheVariants as asks
 use Rattle.task_events.specs.declared.reply.Reply.TheVariants.{Rejected}
 use Rattle.task_events.specs.declared.event.Event.{Event}
 use Rattle.task_events.specs.declared.event.Event.TheVariants.{Put, Reject}

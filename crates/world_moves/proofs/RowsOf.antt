@@ -15,7 +15,7 @@ use Rattle.task_events.specs.Bans.{mark_of}
 use Rattle.task_events.specs.Kinds.{action_of, description_of}
 use Rattle.task_events.specs.Lawful.{Lawful}
 use Rattle.task_events.specs.Tasks.{is_live, parent_of}
-use Rattle.task_events.specs.TaskRows.{row_of, started_at, headers_of}
+use Rattle.task_events.specs.TaskRows.{row_of, living_on, started_at, headers_of}
 use Rattle.task_laws.proofs.Reach.{reach_facts}
 use Rattle.command_roots.specs.Roots.{root_request, root_headers, rows_of}
 use Rattle.tasks_api.specs.declared.filter.Filter.{Filter}
@@ -24,7 +24,7 @@ use Rattle.tasks_api.specs.Lists.{shown}
 use Rattle.world_moves.specs.declared.state.State.{State}
 use Rattle.world_moves.specs.Cancelling.{IsRowOf, HasRows}
 use Rattle.world_moves.specs.Describing.{IsDescribed, DescribesAll}
-use Rattle.world_moves.specs.Ties.{IsTableOf, IsTableAt, IsTied, living_on}
+use Rattle.world_moves.specs.Ties.{IsTableOf, IsTableAt, IsTied}
 use Rattle.world_moves.proofs.LiveRows.{rows_live}
 
 -- what is kept of lists end to end is what is kept of each

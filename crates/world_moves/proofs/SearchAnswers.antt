@@ -1,5 +1,5 @@
 -- A search takes the answer to an ask that has none yet.
-use Rattle.std.proofs.Common.{◌≡◌, ◌<◌, ℕ, zero, suc, ◌+◌, ◌-◌, Bool, true, false, cond, List, [], ◌∷◌, length, map, take, get_or, Option, Some, None, refl, sym, ap, subst, ◌∙◌, arith}
+use Rattle.std.proofs.Common.{◌≡◌, ◌<◌, ℕ, zero, suc, ◌+◌, Bool, true, false, cond, List, [], ◌∷◌, length, map, take, get_or, Option, Some, None, refl, sym, ap, subst, ◌∙◌, arith}
 use Rattle.std.specs.Prelude.{◌==◌, ◌&&◌, is_some, not, find, zip, slice_get, slice_set, option_map}
 use Rattle.std.specs.List.{range_with_len}
 use Rattle.std.specs.Option.{option_map_or}
@@ -20,8 +20,6 @@ use Rattle.task_events.specs.Searches.{requests_of}
 use Rattle.search_phase.specs.Searching.{Searching, IsSearching, takes, answered_by, with_answer}
 use Rattle.search_phase.proofs.Answered.{IsAwaited, EachAnswer-answer, request_stays}
 use Rattle.search_phase.proofs.Lookups.{slice_get-take}
-use Rattle.task_work.specs.declared.work.Work.TheVariants as works
-use Rattle.world_moves.specs.declared.flight.Sent.TheVariants as sent
 use Rattle.world_moves.specs.SearchRuns.{SearchesFor}
 use Rattle.world_moves.specs.Good.{IsGoodReply}
 use Rattle.world_moves.proofs.Numbered.{is_searching}

@@ -8,10 +8,8 @@ use Rattle.std.proofs.lemmas.Option.{slice_get_within}
 use Rattle.task_ids.specs.declared.task_id.TaskId.{TaskId}
 use Rattle.task_ids.specs.declared.cluster.Cluster.{Cluster}
 use Rattle.task_ids.specs.declared.corpus.Corpus.{Corpus}
-use Rattle.child_track.specs.Track.{with_ask}
 use Rattle.task_events.specs.declared.request.SearchAsk.{SearchAsk}
 use Rattle.task_events.specs.declared.request.Request.{Request}
-use Rattle.task_events.specs.declared.request.Request.TheVariants.{Search}
 use Rattle.task_events.specs.declared.reply.Reply.{Reply}
 use Rattle.task_events.specs.declared.step.Asked.{Asked}
 use Rattle.task_events.specs.declared.step.Do.TheVariants.{AskNext}
@@ -23,7 +21,6 @@ use Rattle.search_phase.proofs.Asks.{requests_of-ask, EachAnswer-ask}
 use Rattle.search_phase.proofs.Requests.{length-requests_before, length-requests_after}
 use Rattle.task_work.specs.declared.work.Work.TheVariants as works
 use Rattle.task_work.specs.Works.{can_ask}
-use Rattle.world_moves.specs.declared.flight.Sent.TheVariants as sent
 use Rattle.world_moves.specs.SearchRuns.{SearchesFor}
 use Rattle.world_moves.specs.Good.{IsGoodReply}
 use Rattle.world_moves.proofs.AsksCounted.{length-grown}

@@ -1,5 +1,5 @@
 -- At how many of the tasks that it named each cancel waits, as the world's table says.
-use Rattle.std.specs.Prelude.{◌≡◌, ℕ, ◌-◌, ◌==◌, Bool, true, ◌&&◌, not, List, Option, if◌then◌else◌, unwrap_or}
+use Rattle.std.specs.Prelude.{◌≡◌, ℕ, ◌-◌, ◌==◌, true, ◌&&◌, not, List, Option, if◌then◌else◌, unwrap_or}
 use Rattle.std.specs.BTreeMap.{BTreeMap, get}
 use Rattle.std.specs.Ordering.{nat_cmp}
 use Rattle.task_ids.specs.declared.task_id.TaskId.{TaskId}

@@ -1,5 +1,5 @@
 -- What the world's tables say of the past.
-use Rattle.std.specs.Prelude.{◌≡◌, ℕ, ◌+◌, ◌≤◌, true, false, List, [], map, filter, reverse, ◌==◌, slice_get, Option, Some, None, ⊤}
+use Rattle.std.specs.Prelude.{◌≡◌, ℕ, ◌+◌, ◌≤◌, true, false, List, [], map, slice_get, Option, Some, None, ⊤}
 use Rattle.std.specs.List.{AllByRecursion}
 use Rattle.std.specs.BTreeMap.{BTreeMap, get}
 use Rattle.std.specs.Ordering.{nat_cmp}
@@ -19,7 +19,8 @@ use Rattle.task_events.specs.declared.request.Request.TheVariants.{Search, Query
 use Rattle.task_events.specs.Documents.{writes_of}
 use Rattle.task_events.specs.declared.step.Asked.{Asked}
 use Rattle.task_events.specs.declared.event.Event.{Event}
-use Rattle.task_events.specs.Tasks.{live_tasks, last_number}
+use Rattle.task_events.specs.TaskRows.{living_on}
+use Rattle.task_events.specs.Tasks.{last_number}
 use Rattle.task_events.specs.Asks.{request_of_ask}
 use Rattle.task_events.specs.Messages.{Message, in_flight}
 use Rattle.task_events.specs.Messages.Message.{Answer, Ban}
@@ -61,10 +62,6 @@ pub record Runs (cluster : Cluster) (corpus : Corpus) (t : TaskId) (facts : Fact
 abbrev pub IsKept : Cluster → Corpus → TaskId → Facts → Option Running → Type 0
 IsKept cluster corpus t facts None = facts.live ≡ false
 IsKept cluster corpus t facts (Some running) = Runs cluster corpus t facts running
-
--- the live tasks of a node, the oldest first
-abbrev pub living_on : ℕ → List Event → List TaskId
-living_on node h = reverse (filter (λ t. node == t.node) (live_tasks h))
 
 -- a node's table lists its live tasks, and knows the last number
 pub record IsTableOf (cluster : Cluster) (node : ℕ) (h : List Event) (table : Table) : Type 0 where

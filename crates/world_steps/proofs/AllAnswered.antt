@@ -1,5 +1,5 @@
 -- Where the bans of all marked tasks are placed and they have ended, every cancel that named a task is answered.
-use Rattle.std.proofs.Common.{◌≡◌, ◌≢◌, ◌==◌, ℕ, Bool, true, List, [], ◌∷◌, None, refl, sym, ◌∙◌, arith}
+use Rattle.std.proofs.Common.{◌≡◌, ◌≢◌, ℕ, Bool, true, List, [], ◌∷◌, None, refl, sym, ◌∙◌, arith}
 use Rattle.std.specs.List.{list_any, list_all}
 use Rattle.task_ids.specs.declared.task_id.TaskId.{TaskId}
 use Rattle.task_ids.specs.declared.cluster.Cluster.{Cluster}
@@ -11,7 +11,7 @@ use Rattle.task_events.specs.Same.{same_task}
 use Rattle.task_events.specs.Tasks.{has_ended}
 use Rattle.task_laws.proofs.Named.{named_marked}
 use Rattle.task_laws.proofs.Same.{same_tests}
-use Rattle.world_moves.specs.Cancels.{is_answered, is_due, is_through, left_of, tasks_named}
+use Rattle.world_moves.specs.Cancels.{is_answered, is_through, tasks_named}
 use Rattle.world_moves.specs.Left.{HasLeft}
 use Rattle.world_moves.proofs.TasksNamed.{task_in, due_where_none}
 

@@ -1,5 +1,5 @@
 -- The tables fit the past after a cancel has joined the cancellation of a live task.
-use Rattle.std.proofs.Common.{◌≡◌, ◌≤◌, ◌-◌, ◌+◌, nat_lt, ℕ, Bool, true, false, cond, not, List, [], ◌∷◌, ◌++◌, map, filter, length, insert, Option, Some, refl, sym, ap, subst, ◌∙◌, arith, append-nil}
+use Rattle.std.proofs.Common.{◌≡◌, ◌≤◌, ◌-◌, ◌+◌, nat_lt, ℕ, Bool, true, false, cond, not, List, [], ◌∷◌, ◌++◌, map, length, insert, Option, Some, refl, sym, ap, subst, ◌∙◌, arith, append-nil}
 use Rattle.std.specs.Prelude.{◌&&◌, ◌||◌, ◌==◌, slice_get, slice_set, is_some, if◌then◌else◌}
 use Rattle.std.specs.BTreeSet.{BTreeSet}
 use Rattle.std.specs.FinMap.{FinMap, get}
@@ -20,7 +20,7 @@ use Rattle.task_events.specs.declared.event.Event.{Event}
 use Rattle.task_events.specs.declared.event.Event.TheVariants.{Cancel}
 use Rattle.task_events.specs.Same.{same_task}
 use Rattle.task_events.specs.Tasks.{is_live, has_ended}
-use Rattle.task_events.specs.Bans.{mark_of, bans_are_placed}
+use Rattle.task_events.specs.Bans.{mark_of}
 use Rattle.task_events.specs.Cancels.{is_named}
 use Rattle.task_events.specs.Lawful.{AwaitsNoMark, Lawful}
 use Rattle.task_laws.proofs.Asks.{ask_facts}
@@ -29,7 +29,7 @@ use Rattle.task_laws.proofs.Numbers.{both}
 use Rattle.task_laws.proofs.Same.{same_tests}
 use Rattle.node_parts.specs.declared.listing.Listing.{Listing}
 use Rattle.world_moves.specs.Acts.{offered_in, left_after}
-use Rattle.world_moves.specs.Cancels.{named_by, waiting_for, waits_for_end, is_through}
+use Rattle.world_moves.specs.Cancels.{named_by, waiting_for, is_through}
 use Rattle.world_moves.specs.Cancelling.{Cancelling, HasCoreAt, IsCancellationOf, IsEntryOf, is_under_way, waiter_of}
 use Rattle.world_moves.proofs.CancelFrame.{waiters_same}
 use Rattle.world_moves.proofs.CoresAfter.{marked_in, core_on, its_entry, cores_after}

@@ -18,7 +18,6 @@ use Rattle.cancel_core.specs.Cancellations.{Cancellations}
 use Rattle.script_lang.specs.declared.command.Script.{Script}
 use Rattle.task_events.specs.declared.event.Event.{Event}
 use Rattle.task_events.specs.declared.event.Event.TheVariants.{Cancel, Mark}
-use Rattle.task_events.specs.Allowed.{is_number}
 use Rattle.task_events.specs.Same.{same_task}
 use Rattle.task_events.specs.Tasks.{is_live, has_ended}
 use Rattle.task_events.specs.Bans.{mark_of, bans_are_placed}

@@ -1,6 +1,6 @@
 -- A cancel begins to name tasks, and is answered once it has named them all where it waits at none.
 use Rattle.std.proofs.Common.{◌≡◌, ℕ, Bool, true, false, not, List, ◌∷◌, Option, Some, None, refl, sym, ap, ◌∙◌, arith}
-use Rattle.std.specs.Prelude.{◌==◌, ◌&&◌, ◌||◌}
+use Rattle.std.specs.Prelude.{◌==◌, ◌&&◌}
 use Rattle.std.proofs.lemmas.Bool.Decides.{nat_tests}
 use Rattle.std.specs.BTreeSet.{BTreeSet}
 use Rattle.std.specs.FinMap.{FinMap}
@@ -13,11 +13,10 @@ use Rattle.task_table.specs.Table.{Table}
 use Rattle.script_lang.specs.declared.command.Script.{Script}
 use Rattle.task_events.specs.declared.event.Event.{Event}
 use Rattle.task_events.specs.declared.event.Event.TheVariants.{AnswerPlaced, AnswerDone}
-use Rattle.task_events.specs.Allowed.{is_number, IsDue}
+use Rattle.task_events.specs.Allowed.{IsDue}
 use Rattle.task_events.specs.Cancels.{beginning, is_named}
 use Rattle.task_events.specs.Lawful.{AwaitsNoMark, Lawful}
 use Rattle.task_laws.proofs.Commands.{beginning_first, beginning_last}
-use Rattle.task_laws.proofs.Same.{same_tests}
 use Rattle.command_roots.specs.Roots.{root_request, root_headers}
 use Rattle.node_parts.specs.declared.listing.Listing.{Listing}
 use Rattle.node_parts.specs.declared.running.Running.{Running}

@@ -15,7 +15,6 @@ use Rattle.task_events.specs.Tasks.{is_live, is_new, no_counts}
 use Rattle.task_events.specs.Steps.{event_of, first_step, cancelled_step, asked_by, turns_of, request_of}
 use Rattle.task_events.specs.Asks.{unanswered}
 use Rattle.task_events.specs.Bans.{ban_over, mark_of}
-use Rattle.task_work.specs.declared.work.Work.TheVariants as works
 use Rattle.task_work.specs.Works.{IsWorkOn, next_of, does_wait}
 use Rattle.script_lang.specs.declared.command.Script.{Script}
 use Rattle.world_moves.specs.declared.flight.Sent.{Sent}

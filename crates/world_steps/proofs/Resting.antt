@@ -5,7 +5,6 @@ use Rattle.task_ids.specs.declared.cluster.Cluster.{Cluster}
 use Rattle.task_ids.specs.declared.corpus.Corpus.{Corpus}
 use Rattle.task_table.specs.Table.{Table}
 use Rattle.task_events.specs.declared.event.Event.{Event}
-use Rattle.task_events.specs.declared.request.Request.TheVariants as asks
 use Rattle.task_events.specs.declared.step.Do.{Do}
 use Rattle.task_events.specs.declared.step.Do.TheVariants.{AskNext, Turn, Wait, Finish}
 use Rattle.task_events.specs.Asks.{unanswered}
@@ -14,7 +13,6 @@ use Rattle.task_events.specs.Laws.{IsAtRest, IsLeaf, IsDrained}
 use Rattle.task_events.specs.Steps.{request_of, event_of}
 use Rattle.task_events.specs.Tasks.{is_live, is_new}
 use Rattle.task_laws.proofs.Rest.{leaf}
-use Rattle.task_work.specs.declared.work.Work.TheVariants as works
 use Rattle.task_work.specs.Works.{next_of, does_wait}
 use Rattle.script_lang.specs.declared.command.Script.{Script}
 use Rattle.world_moves.specs.declared.flight.Sent.{Sent}

@@ -1,5 +1,5 @@
 -- No move begins a command, so what a command does is its turn.
-use Rattle.std.proofs.Common.{cond, ◌≡◌, ℕ, Bool, reverse, map, filter, true, false, ◌||◌, List, [], ◌∷◌, ◌++◌, Option, Some, None, refl, sym, ap, subst, ◌∙◌, inl, inr}
+use Rattle.std.proofs.Common.{cond, ◌≡◌, ℕ, Bool, reverse, map, true, false, ◌||◌, List, [], ◌∷◌, ◌++◌, Option, Some, None, refl, sym, ap, subst, ◌∙◌, inl, inr}
 use Rattle.std.specs.Prelude.{option_map, is_some, if◌then◌else◌}
 use Rattle.std.specs.List.{list_any}
 use Rattle.std.specs.Option.{option_map_or}
@@ -30,7 +30,7 @@ use Rattle.script_lang.specs.declared.command.CancelTarget.TheVariants.{Task, Ma
 use Rattle.node_parts.specs.declared.listing.Listing.{Listing}
 use Rattle.world_moves.specs.declared.listings.ListStep.{ListStep as ListingAnswer}
 use Rattle.world_moves.specs.declared.listings.ListStep.TheVariants.{Done as Listing_done, NoListing}
-use Rattle.world_moves.specs.Cancels.{after_cancel, after_cancel_of, after_naming, answer_to, due_for, is_due, root_of, targets, waits_for_end, with_answer, with_answers, with_cancel, with_cancels, with_due}
+use Rattle.world_moves.specs.Cancels.{after_cancel, after_cancel_of, after_naming, answer_to, due_for, is_due, root_of, targets, waits_for_end, with_answers, with_cancel, with_cancels, with_due}
 use Rattle.world_moves.specs.Listings.{AnswersListing, IsListStep, ListSteps}
 use Rattle.world_moves.specs.Moves.{IsDelivery, Delivers, IsStart, Starts}
 use Rattle.command_roots.specs.Roots.{root_request}

@@ -22,7 +22,7 @@ use Rattle.world_moves.proofs.CoresAfterLeave.{core_is, known_there, no_receipt,
 use Rattle.task_laws.proofs.Reach.{reach_facts}
 use Rattle.world_moves.proofs.CancelsAfterLeave.{noted_unmarked, noted_ended, nothing_due, core_there, counts_unmarked, starts_none}
 use Rattle.world_moves.proofs.TasksAfterLeave.{own_track, has_table, in_cluster, table_is, stands, runs}
-use Rattle.corpus_shards.proofs.Cases.{then_ok, both_ok, then_err, on_err}
+use Rattle.corpus_shards.proofs.Cases.{then_ok, then_err, on_err}
 use Rattle.world_moves.proofs.Outcomes.{all_ok}
 use Rattle.world_moves.proofs.Parts.{part_lawful, part_plain, later_part}
 use Rattle.world_moves.proofs.CutShort.{cut_as, cut_first}

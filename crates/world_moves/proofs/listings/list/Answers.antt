@@ -1,4 +1,4 @@
-use Rattle.std.proofs.Common.{◌∙◌, ◌∷◌, Err, inr, refl, ap, subst}
+use Rattle.std.proofs.Common.{◌∙◌, ◌∷◌, Err, inr, refl, ap}
 use Rattle.task_events.specs.declared.event.Event.TheVariants.{Mark, Listed}
 use Rattle.task_laws.proofs.Reach.{reach_facts}
 use Rattle.world_moves.specs.Moves.{IsPartly}

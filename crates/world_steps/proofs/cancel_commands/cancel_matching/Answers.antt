@@ -1,6 +1,5 @@
-use Rattle.std.proofs.Common.{◌≡◌, ◌∙◌, List, sym, ap, subst}
-use Rattle.task_ids.specs.declared.task_id.TaskId.{TaskId}
-use Rattle.world_moves.specs.Cancels.{after_naming, targets}
+use Rattle.std.proofs.Common.{◌∙◌, sym, subst}
+use Rattle.world_moves.specs.Cancels.{targets}
 use Rattle.corpus_shards.proofs.Cases.{on_err}
 use Rattle.world_steps.specs.Naming.{CanName}
 use Rattle.world_steps.proofs.WholeNaming.{none_yet}

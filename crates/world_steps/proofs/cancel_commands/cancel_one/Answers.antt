@@ -1,7 +1,7 @@
 use Rattle.std.proofs.Common.{◌≡◌, ◌∙◌, ◌∷◌, [], None, refl, sym, ap, subst, rules, length}
 use Rattle.task_events.specs.declared.event.Event.TheVariants.{NotFound}
 use Rattle.task_events.specs.declared.history.TheConstants.{MAX_EVENTS}
-use Rattle.world_moves.specs.Cancels.{after_cancel_of, after_naming, target_of}
+use Rattle.world_moves.specs.Cancels.{after_naming, target_of}
 use Rattle.world_moves.specs.Moves.{IsPartOf, IsCutShort}
 use Rattle.world_moves.proofs.CancelsUntouched.{noted}
 use Rattle.world_moves.proofs.CutShort.{cut_first}

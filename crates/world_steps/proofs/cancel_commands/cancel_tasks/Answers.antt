@@ -1,7 +1,5 @@
-use Rattle.std.proofs.Common.{◌≡◌, ◌∙◌, sym, ap, subst}
-use Rattle.world_moves.specs.Cancels.{after_naming, with_answer}
-use Rattle.world_steps.specs.Naming.{IsNaming}
-use Rattle.world_steps.proofs.Commanded.{keeps_on}
+use Rattle.std.proofs.Common.{◌∙◌, ap}
+use Rattle.world_moves.specs.Cancels.{with_answer}
 use Rattle.world_steps.proofs.NamingEnds.{begins_naming, counts_begin}
 use Rattle.world_steps.proofs.WholeNaming.{named_part, named_cut, answer_part, answer_cut}
 use Rattle.world_steps.proofs.cancel_commands.cancel_tasks.Goals as goal

@@ -1,4 +1,4 @@
-use Rattle.std.proofs.Common.{◌≡◌, ◌∙◌, ◌+◌, ◌∷◌, [], Some, refl, cond, sym, ap, subst, arith, length}
+use Rattle.std.proofs.Common.{◌∙◌, ◌+◌, ◌∷◌, [], Some, refl, cond, sym, ap, subst, arith, length}
 use Rattle.std.specs.Prelude.{◌==◌, is_some, unwrap_or}
 use Rattle.std.proofs.lemmas.Option.{get_or_from_slice_get}
 use Rattle.cancel_core.specs.Acts.{join_acts, joined_by}

@@ -1,6 +1,5 @@
-use Rattle.std.proofs.Common.{◌≡◌, ◌≤◌, ◌∙◌, ◌∷◌, ◌++◌, ◌+◌, [], List, drop, refl, sym, ap, subst, append_assoc}
+use Rattle.std.proofs.Common.{◌≡◌, ◌∙◌, ◌++◌, ◌+◌, [], List, drop, refl, sym, ap, subst, append_assoc}
 use Rattle.std.proofs.Math.ListN.{drop_of_length-le}
-use Rattle.task_ids.specs.declared.task_id.TaskId.{TaskId}
 use Rattle.task_events.specs.declared.event.Event.{Event}
 use Rattle.world_moves.specs.Cancels.{with_cancel, with_cancels}
 use Rattle.world_moves.specs.Moves.{IsPartOf}

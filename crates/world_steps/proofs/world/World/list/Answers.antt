@@ -1,4 +1,4 @@
-use Rattle.std.proofs.Common.{◌≡◌, ◌∙◌, ℕ, Bool, true, false, List, [], ◌∷◌, cond, filter, refl, sym, ap, subst}
+use Rattle.std.proofs.Common.{◌≡◌, ◌∙◌, ℕ, Bool, true, false, List, [], ◌∷◌, cond, refl, ap, subst}
 use Rattle.serde_json.specs.Written.{compact_text}
 use Rattle.task_ids.specs.declared.task_info.TaskInfo.{TaskInfo}
 use Rattle.task_events.specs.TaskRows.{clock}
