@@ -1,0 +1,4 @@
+mod Answered
+mod Ascending
+mod Kept
+mod Quiet

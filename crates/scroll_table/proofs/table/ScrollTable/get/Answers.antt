@@ -1,0 +1,7 @@
+use Rattle.std.proofs.Common.{sym, ap, ◌∙◌}
+use Rattle.std.specs.FinMap as finite
+use Rattle.task_ids.proofs.TaskIdKeys.{get_id}
+use Rattle.scroll_table.proofs.table.ScrollTable.get.Goals as goal
+
+pub returns : goal.returns
+returns c = c.get.ensures.value ∙ sym (get_id c.self.inside.contexts.entries c.args.id) ∙ ap (λ m. finite.get m c.args.id) c.self.view_is

@@ -1,0 +1,15 @@
+//! The contexts of scrolls on one node: a search opens one, pages use it one after the other, and it is gone once it was not used for
+//! its keep-alive, or is cleared.
+//!
+//! After Elasticsearch's search contexts.
+#![tactic(auto)]
+
+mod context;
+mod count;
+mod counts;
+mod table;
+
+pub use context::{Context, PageError};
+pub use count::ShardCount;
+pub use counts::ShardCounts;
+pub use table::ScrollTable;
