@@ -41,8 +41,7 @@ module _ (c : ℕ) (wait : Bool) where
     answer_cut past new named same full due =
         let names = cancels_append c wait ts h in
         let is = same ∙ named in
-        let due_then : is_due (with_cancels c wait ts h) c ≡ true = ap (λ g. is_due g c) (sym named) ∙ due in
-        (
+        let due_then : is_due (with_cancels c wait ts h) c ≡ true = ap (λ g. is_due g c) (sym named) ∙ due in (
           ap length same ∙ full,
           answer_by wait c,
           ([], answer_by wait c ∷ names.0, ap (λ b. cond b (answer_by wait c ∷ with_cancels c wait ts h) (with_cancels c wait ts h)) due_then ∙ ap (λ g. answer_by wait c ∷ g) (sym is), ap (λ g. answer_by wait c ∷ g) (is ∙ names.1)),

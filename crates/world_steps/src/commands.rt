@@ -185,7 +185,10 @@ fn act_on(
 {
     match command {
         Command::Search {
-            index, node, body, ..
+            index,
+            node,
+            body,
+            ..
         } => search(state, ready, number, index, *node, body),
         Command::Deliver { nth } => deliver(state, ready, *nth),
         Command::Cancel { target, wait, .. } => cancel_and_refresh(

@@ -116,11 +116,7 @@ fn headers_at(script: &Script, command: u32) -> Result<Headers, Stop>
 }
 
 /// The task of a command's request, with what that carries. It fails only for want of memory (`Memory`).
-fn root_task(
-    state: &State<'_>,
-    request: &Request,
-    headers: &Headers,
-) -> Result<NewTask, Stop>
+fn root_task(state: &State<'_>, request: &Request, headers: &Headers) -> Result<NewTask, Stop>
     ensures task { IfOk result (λ task. task ≡ task_for request.now None state.now.clock headers.now) }
     ensures memory { IfErr result (λ stop. stop ≡ Stop.Memory) }
 {
@@ -160,14 +156,7 @@ fn start_with(
     let root = root_task(state, request, &headers)?;
     match put_on(&mut state.tables, node, root, None) {
         Ok(ticket) => {
-            let running = with_work(
-                state.alloc,
-                ticket,
-                request,
-                &state.cluster,
-                false,
-                headers,
-            )?;
+            let running = with_work(state.alloc, ticket, request, &state.cluster, false, headers)?;
             keep_root(
                 &mut state.history,
                 &mut state.tasks,
