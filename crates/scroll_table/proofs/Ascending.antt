@@ -2,7 +2,7 @@
 use Rattle.std.proofs.Common.{◌≡◌, ◌↔◌, Bool, true, false, IsTrue, List, [], ◌∷◌, nat_lt, arith, rules}
 use Rattle.std.specs.List.{IsAllAdjacentAnswer}
 use Rattle.std.proofs.lemmas.Bool.Decides.{nat_tests}
-use Rattle.scroll_table.specs.declared.count.ShardCount.{ShardCount}
+use Rattle.task_events.specs.declared.reply.ShardCount.{ShardCount}
 use Rattle.scroll_table.specs.Counts.{Ascend}
 
 -- what a test of each two neighbours says

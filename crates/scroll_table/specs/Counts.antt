@@ -1,7 +1,7 @@
 -- The shards of a context.
 use Rattle.std.specs.Prelude.{ℕ, List, ◌<◌, ◌==◌, length, find, Option, option_map}
 use Rattle.std.specs.List.{AllAdjacentBelow}
-use Rattle.scroll_table.specs.declared.count.ShardCount.{ShardCount}
+use Rattle.task_events.specs.declared.reply.ShardCount.{ShardCount}
 
 -- each shard is below the next
 abbrev pub Ascend : List ShardCount → Type 0

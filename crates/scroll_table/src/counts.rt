@@ -1,8 +1,8 @@
 ghost use Rattle.std.specs.Prelude.{◌≡◌, ◌↔◌, IsTrue, IsOk, IfOk, IfErr};
 ghost use Rattle.scroll_table.specs.Counts.{Ascend, version_in};
 
-use crate::count::ShardCount;
 use std::marker::Model;
+use task_events::ShardCount;
 
 /// The shards of a search, each below the next. Contracts see them as a list.
 #[derive(Drop)]
@@ -13,8 +13,8 @@ pub struct ShardCounts {
 impl Model for ShardCounts {
     ghost use Rattle.std.specs.Prelude.{List};
     ghost use Rattle.std.specs.Coded.{coded_list};
-    ghost use Rattle.scroll_table.specs.declared.count.ShardCount.{ShardCount};
-    ghost use Rattle.scroll_table.specs.contracts.count.ShardCount as count_row;
+    ghost use Rattle.task_events.specs.declared.reply.ShardCount.{ShardCount};
+    ghost use Rattle.task_events.specs.contracts.reply.ShardCount as count_row;
 
     ghost Value = { List ShardCount };
 

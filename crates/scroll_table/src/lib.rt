@@ -5,11 +5,10 @@
 #![tactic(auto)]
 
 mod context;
-mod count;
 mod counts;
 mod table;
 
 pub use context::{Context, PageError};
-pub use count::ShardCount;
 pub use counts::ShardCounts;
 pub use table::ScrollTable;
+pub use task_events::ShardCount;
