@@ -1,14 +1,15 @@
 -- What a search finds, if one list is filtered, put in hit order and cut.
-use Rattle.std.specs.Prelude.{ℕ, ◌+◌, List, Bool, true, not, ◌&&◌, ◌||◌, ◌==◌, if◌then◌else◌, Option, Some, None, is_some, option_map, option_and_then, map, filter, filter_map, take, drop, length}
-use Rattle.std.specs.List.{list_any, flat_map, last_or}
+use Rattle.std.specs.Prelude.{ℕ, ◌+◌, List, Bool, true, not, ◌&&◌, ◌==◌, if◌then◌else◌, Option, Some, None, option_map, option_and_then, map, filter, filter_map, take, drop, length}
+use Rattle.std.specs.List.{list_any, flat_map, last_or, sum_by}
 use Rattle.std.specs.Map.{lookup}
 use Rattle.query_match.specs.declared.body.SearchBody.{SearchBody}
 use Rattle.query_match.specs.Matching.{matches}
 use Rattle.query_match.specs.Sorting.{key_of}
-use Rattle.task_ids.specs.declared.task_id.TaskId.{TaskId}
 use Rattle.task_ids.specs.declared.doc.Doc.{Doc}
 use Rattle.task_ids.specs.Placing.{slice_of}
 use Rattle.task_ids.specs.Rows.{Row, rows_at, row_at}
+use Rattle.task_events.specs.declared.reading.ShardRead.{ShardRead}
+use Rattle.task_events.specs.declared.reading.ShardRead.TheVariants.{Newest, Kept}
 use Rattle.task_events.specs.declared.request.HitKey.{HitKey}
 use Rattle.task_events.specs.declared.request.SlicePick.{SlicePick}
 use Rattle.task_events.specs.declared.request.SearchAsk.{SearchAsk}
@@ -21,6 +22,7 @@ use Rattle.task_events.specs.declared.reply.FailedShard.{FailedShard}
 use Rattle.task_events.specs.declared.reply.Reply.{Reply}
 use Rattle.task_events.specs.declared.reply.Reply.TheVariants.{Search, AllFailed}
 use Rattle.task_events.specs.HitOrder.{in_hit_order, is_after}
+use Rattle.task_events.specs.Readings.{Reading}
 
 -- ---- one shard
 
@@ -91,26 +93,27 @@ hit_of index writes answered key = option_and_then (λ version. hit_at index ver
 abbrev pub count_at : SearchAsk → (ℕ → List Doc) → ShardVersion → ShardCount
 count_at ask writes at = record { shard = at.0; version = at.1; count = length (matching_keys ask.body ask.slice at.0 at.1 (writes at.0)) }
 
--- a search opens a context where it has a keep-alive or an owner
-abbrev pub opens_context : SearchAsk → Bool
-opens_context ask = is_some ask.scroll || is_some ask.owner
+-- how many rows match in a shard that answered: as many as the context of a page keeps
+abbrev pub count_read : SearchAsk → (ℕ → List Doc) → ShardRead → ℕ → ShardCount
+count_read ask writes (Newest shard) version = count_at ask writes (shard, version)
+count_read ask writes (Kept kept) version = kept
 
--- the context that a search opens has the search's own id
-abbrev pub context_of : TaskId → SearchAsk → Option TaskId
-context_of task ask = if opens_context ask then Some task else None
+abbrev pub read_at : ShardCount → ShardVersion
+read_at n = (n.shard, n.version)
 
--- The plain answer of a search, given the writes of each shard of its index, the shards that answered the query, each at its version, and the shards that failed in the query or in the fetch.
--- The total counts all rows that match, the winners are cut from them, and the hits are the winners whose shard did not fail.
-abbrev pub plain_answer : TaskId → SearchAsk → ℕ → (ℕ → List Doc) → List ShardVersion → List FailedShard → Reply
-plain_answer task ask shards writes answered failed =
-    let found = found_keys ask writes answered in
-    let won = winners ask.body found in
-    if length failed == shards then AllFailed failed
+-- The plain answer of a search or of a page of one, given the writes of each shard, the shards that answered the query, each with the version that was read and how many rows match there, and the shards that failed in the query or in the fetch.
+-- The rows that match in the shards that answered are one list in hit order, of which those after the cursor are shown. The winners are cut from these, and the hits are the winners whose shard did not fail. The total is of all that match in the shards that answered.
+abbrev pub plain_answer : Reading → (ℕ → List Doc) → List ShardCount → List FailedShard → Reply
+plain_answer r writes answered failed =
+    let versions = map read_at answered in
+    let found = filter (is_after r.after) (found_keys r.ask writes versions) in
+    let won = winners r.ask.body found in
+    if length failed == length r.shards then AllFailed failed
     else Search (record {
-      context = context_of task ask;
-      shards = map (count_at ask writes) answered;
+      context = r.context;
+      shards = answered;
       failed = failed;
-      total = length found;
-      hits = filter_map (hit_of ask.index writes answered) (filter (λ key. not (has_failed failed key.shard)) won);
+      total = sum_by (λ n. n.count) answered;
+      hits = filter_map (hit_of r.ask.index writes versions) (filter (λ key. not (has_failed failed key.shard)) won);
       last = last_or None won;
     })

@@ -36,8 +36,7 @@ abbrev pub fetch_task : FetchAsk → Kind
 fetch_task ask = record {
   action = actions.Fetch;
   description = shard_description ask.index ask.shard;
-  index = ask.index;
-  shard = Some ask.shard;
-  step = λ cluster corpus t asked turns. fetch_step ask turns (writes_of corpus cluster.shards ask.index ask.shard);
+  place = Some (ask.index, ask.shard);
+  step = λ cluster corpus t page asked turns. fetch_step ask turns (writes_of corpus cluster.shards ask.index ask.shard);
   replies = λ shards reply. fetch_can_have ask reply;
 }

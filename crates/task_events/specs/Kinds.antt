@@ -6,18 +6,20 @@ use Rattle.task_ids.specs.declared.cluster.Cluster.{Cluster}
 use Rattle.task_ids.specs.declared.task_id.TaskId.{TaskId}
 use Rattle.task_ids.specs.Placing.{node_of}
 use Rattle.task_events.specs.declared.request.Request.{Request}
-use Rattle.task_events.specs.declared.request.Request.TheVariants.{Search, Query, Fetch}
+use Rattle.task_events.specs.declared.request.Request.TheVariants.{Search, Query, Fetch, Scroll}
 use Rattle.task_events.specs.declared.reply.Reply.{Reply}
 use Rattle.task_events.specs.declared.reply.Reply.TheVariants.{Cancelled, Rejected}
 use Rattle.task_events.specs.FetchTask.{fetch_task}
 use Rattle.task_events.specs.Kind.{Kind}
 use Rattle.task_events.specs.QueryTask.{query_task}
+use Rattle.task_events.specs.ScrollTask.{scroll_task}
 use Rattle.task_events.specs.SearchTask.{search_task}
 
 abbrev pub kind_of : Request → Kind
 kind_of (Search ask) = search_task ask
 kind_of (Query ask) = query_task ask
 kind_of (Fetch ask) = fetch_task ask
+kind_of (Scroll ask) = scroll_task ask
 
 -- the action of the task that a request asks for
 abbrev pub action_of : Request → Action
@@ -29,7 +31,7 @@ description_of request = (kind_of request).description
 
 -- the node on which a request of a task is worked: that of its shard, or else the task's own
 abbrev pub node_for : Cluster → TaskId → Request → ℕ
-node_for cluster t request = option_map_or (λ shard. node_of shard cluster.nodes) (kind_of request).shard t.node
+node_for cluster t request = option_map_or (λ place. node_of place.1 cluster.nodes) (kind_of request).place t.node
 
 -- Each request can be cancelled or rejected. Otherwise its reply is of its own kind.
 abbrev pub can_have : ℕ → Request → Reply → Bool

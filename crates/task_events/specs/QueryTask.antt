@@ -49,8 +49,7 @@ abbrev pub query_task : ShardAsk → Kind
 query_task ask = record {
   action = actions.Query;
   description = shard_description ask.index ask.shard;
-  index = ask.index;
-  shard = Some ask.shard;
-  step = λ cluster corpus t asked turns. query_step_in ask cluster corpus turns;
+  place = Some (ask.index, ask.shard);
+  step = λ cluster corpus t page asked turns. query_step_in ask cluster corpus turns;
   replies = λ shards reply. query_can_have ask reply;
 }

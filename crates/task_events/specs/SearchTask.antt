@@ -1,7 +1,6 @@
 -- A search: it asks for the query of each shard and then for fetches, and replies with the plain answer.
 use Rattle.std.specs.Prelude.{ℕ, ◌^◌, List, ◌++◌, length, codes, Bool, true, false, not, ◌&&◌, nat_lt, nat_le, Option, Some, None, is_some, slice_get}
 use Rattle.task_ids.specs.declared.action.Action.TheVariants as actions
-use Rattle.task_ids.specs.declared.task_id.TaskId.{TaskId}
 use Rattle.task_events.specs.declared.request.Request.{Request}
 use Rattle.task_events.specs.declared.request.SearchAsk.{SearchAsk}
 use Rattle.task_events.specs.declared.reply.Reply.{Reply}
@@ -10,8 +9,9 @@ use Rattle.task_events.specs.declared.reply.SearchReply.{SearchReply}
 use Rattle.task_events.specs.declared.step.Asked.{Asked}
 use Rattle.task_events.specs.declared.step.Do.{Do}
 use Rattle.task_events.specs.declared.step.Do.TheVariants.{AskNext, Wait, Finish}
-use Rattle.task_events.specs.Answers.{opens_context}
+use Rattle.task_events.specs.Contexts.{opens_context}
 use Rattle.task_events.specs.Kind.{Kind}
+use Rattle.task_events.specs.Readings.{Reading, search_reading}
 use Rattle.task_events.specs.Searches.{requests_of, are_answered, search_reply}
 
 abbrev pub ask_or_end : Option Request → Bool → Reply → Do
@@ -19,8 +19,9 @@ ask_or_end (Some request) answered reply = AskNext request
 ask_or_end None true reply = Finish reply
 ask_or_end None false reply = Wait None
 
-abbrev pub search_step : TaskId → SearchAsk → ℕ → List Asked → Do
-search_step task ask shards asked = ask_or_end (slice_get (requests_of ask shards asked) (length asked)) (are_answered asked) (search_reply task ask shards asked)
+-- so a page does, over what it reads
+abbrev pub search_step : Reading → List Asked → Do
+search_step r asked = ask_or_end (slice_get (requests_of r asked) (length asked)) (are_answered asked) (search_reply r asked)
 
 abbrev agree : Bool → Bool → Bool
 agree true b = b
@@ -41,8 +42,7 @@ abbrev pub search_task : SearchAsk → Kind
 search_task ask = record {
   action = actions.Search;
   description = codes "indices[" ++ ask.index ++ codes "]";
-  index = ask.index;
-  shard = None;
-  step = λ cluster corpus t asked turns. search_step t ask cluster.shards asked;
+  place = None;
+  step = λ cluster corpus t page asked turns. search_step (search_reading t ask cluster.shards) asked;
   replies = search_can_have ask;
 }

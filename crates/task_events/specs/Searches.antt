@@ -1,10 +1,11 @@
--- What a search asks for and replies, by what it has asked for and what was answered.
+-- What a search or a page of one asks for and replies, by what it has asked for and what was answered.
 use Rattle.std.specs.Prelude.{ℕ, List, [], ◌++◌, length, Bool, ◌&&◌, ◌==◌, nat_le, Option, Some, None, is_some, option_and_then, option_map, map, filter, filter_map, find, take, drop, zip, slice_get, if◌then◌else◌}
-use Rattle.std.specs.List.{list_any, list_all, flat_map, sum_by, last_or, range_with_len}
+use Rattle.std.specs.List.{list_any, list_all, flat_map, sum_by, last_or}
 use Rattle.std.specs.Option.{option_or}
 use Rattle.std.specs.Map.{lookup}
 use Rattle.query_match.specs.declared.body.SearchBody.{SearchBody}
-use Rattle.task_ids.specs.declared.task_id.TaskId.{TaskId}
+use Rattle.task_events.specs.declared.reading.ShardRead.{ShardRead}
+use Rattle.task_events.specs.declared.reading.ShardRead.TheVariants.{Newest, Kept}
 use Rattle.task_events.specs.declared.request.HitKey.{HitKey}
 use Rattle.task_events.specs.declared.request.SearchAsk.{SearchAsk}
 use Rattle.task_events.specs.declared.request.ShardAsk.{ShardAsk}
@@ -21,13 +22,14 @@ use Rattle.task_events.specs.declared.reply.Reply.{Reply}
 use Rattle.task_events.specs.declared.reply.Reply.TheVariants.{Search, Top, Hits, AllFailed, Cancelled, Rejected}
 use Rattle.task_events.specs.declared.step.Asked.{Asked}
 use Rattle.task_events.specs.HitOrder.{in_hit_order}
-use Rattle.task_events.specs.Answers.{winners, context_of}
+use Rattle.task_events.specs.Answers.{winners}
+use Rattle.task_events.specs.Readings.{Reading, shard_read, version_read}
 
 -- ---- what a search asks for
 
--- the query phase of a search in a shard
-abbrev pub query_of : SearchAsk → ℕ → ShardAsk
-query_of ask shard = record { index = ask.index; shard = shard; body = ask.body; version = None; after = None; slice = ask.slice }
+-- the query phase in a shard
+abbrev pub query_of : Reading → ShardRead → ShardAsk
+query_of r at = record { index = r.ask.index; shard = shard_read at; body = r.ask.body; version = version_read at; after = r.after; slice = r.ask.slice }
 
 abbrev pub top_of : Reply → Option ShardTop
 top_of (Top top) = Some top
@@ -62,11 +64,12 @@ are_answered asked = list_all (λ a. is_some a.answer) asked
 abbrev pub has_queried : ℕ → List Asked → Bool
 has_queried shards asked = nat_le shards (length asked) && are_answered (take shards asked)
 
--- What a search asks for, in order: the query of each shard, and once all are answered the fetch of each shard with a winner.
-abbrev pub requests_of : SearchAsk → ℕ → List Asked → List Request
-requests_of ask shards asked =
-    map (λ shard. Query (query_of ask shard)) (range_with_len 0 shards)
-    ++ (if has_queried shards asked then map Fetch (fetches_of ask (tops_in shards asked)) else [])
+-- What is asked for, in order: the query of each shard, and once all are answered the fetch of each shard with a winner.
+abbrev pub requests_of : Reading → List Asked → List Request
+requests_of r asked =
+    let shards = length r.shards in
+    map (λ at. Query (query_of r at)) r.shards
+    ++ (if has_queried shards asked then map Fetch (fetches_of r.ask (tops_in shards asked)) else [])
 
 -- ---- what a search replies
 
@@ -86,14 +89,14 @@ abbrev pub fetch_at : SearchAsk → ℕ → List Asked → ℕ → Option Asked
 fetch_at ask shards asked shard = lookup (λ other. shard == other) (fetches_in ask shards asked)
 
 -- why a shard failed: in the query, or else in the fetch
-abbrev pub failure_at : SearchAsk → ℕ → List Asked → ℕ → Option ShardFailure
-failure_at ask shards asked shard = option_or (option_and_then failure_of (slice_get asked shard)) (option_and_then failure_of (fetch_at ask shards asked shard))
+abbrev pub failure_at : SearchAsk → ℕ → List Asked → ShardRead → Asked → Option ShardFailure
+failure_at ask shards asked at query = option_or (failure_of query) (option_and_then failure_of (fetch_at ask shards asked (shard_read at)))
 
-abbrev pub failed_at : SearchAsk → ℕ → List Asked → ℕ → Option FailedShard
-failed_at ask shards asked shard = option_map (λ failure. record { shard = shard; failure = failure }) (failure_at ask shards asked shard)
+abbrev pub failed_at : SearchAsk → ℕ → List Asked → ShardRead → Asked → Option FailedShard
+failed_at ask shards asked at query = option_map (λ failure. record { shard = shard_read at; failure = failure }) (failure_at ask shards asked at query)
 
-abbrev pub failed_in : SearchAsk → ℕ → List Asked → List FailedShard
-failed_in ask shards asked = filter_map (failed_at ask shards asked) (range_with_len 0 shards)
+abbrev pub failed_in : Reading → List Asked → List FailedShard
+failed_in r asked = filter_map (λ p. failed_at r.ask (length r.shards) asked p.0 p.1) (zip r.shards asked)
 
 abbrev pub hits_of : Reply → List Hit
 hits_of (Hits hits) = hits
@@ -103,21 +106,27 @@ hits_of _ = []
 abbrev pub hit_in : SearchAsk → ℕ → List Asked → HitKey → Option Hit
 hit_in ask shards asked key = option_and_then (λ reply. find (λ hit. key.place == hit.place) (hits_of reply)) (option_and_then (λ a. a.answer) (fetch_at ask shards asked key.shard))
 
-abbrev pub counted : ShardTop → ShardCount
-counted top = record { shard = top.shard; version = top.version; count = top.count }
+-- how many rows match in a shard that answered: as many as the context of a page keeps, or as the query counted
+abbrev pub counted : ShardRead → ShardTop → ShardCount
+counted (Newest shard) top = record { shard = top.shard; version = top.version; count = top.count }
+counted (Kept kept) top = kept
 
--- The reply of a search whose asks are all answered.
-abbrev pub search_reply : TaskId → SearchAsk → ℕ → List Asked → Reply
-search_reply task ask shards asked =
-    let tops = tops_in shards asked in
-    let won = winners_among ask.body tops in
-    let failed = failed_in ask shards asked in
+abbrev pub counts_in : Reading → List Asked → List ShardCount
+counts_in r asked = filter_map (λ p. option_map (counted p.0) (option_and_then top_of p.1.answer)) (zip r.shards asked)
+
+-- The reply of a search or of a page whose asks are all answered.
+abbrev pub search_reply : Reading → List Asked → Reply
+search_reply r asked =
+    let shards = length r.shards in
+    let won = winners_among r.ask.body (tops_in shards asked) in
+    let counts = counts_in r asked in
+    let failed = failed_in r asked in
     if length failed == shards then AllFailed failed
     else Search (record {
-      context = context_of task ask;
-      shards = map counted tops;
+      context = r.context;
+      shards = counts;
       failed = failed;
-      total = sum_by (λ top. top.count) tops;
-      hits = filter_map (hit_in ask shards asked) won;
+      total = sum_by (λ n. n.count) counts;
+      hits = filter_map (hit_in r.ask shards asked) won;
       last = last_or None won;
     })

@@ -1,23 +1,27 @@
 -- What became of the shards of a search, as its own children tell: those that it asked for the query of a shard and for its fetch. A request that was rejected has no child.
 use Rattle.std.specs.Prelude.{ℕ, Bool, true, false, not, ◌&&◌, ◌||◌, ◌==◌, List, [], ◌∷◌, filter_map, if◌then◌else◌, Option, Some, None, is_some, option_map, option_and_then}
-use Rattle.std.specs.List.{range_with_len}
 use Rattle.std.specs.Option.{option_or, option_map_or}
+use Rattle.task_ids.specs.declared.doc.Doc.{Doc}
 use Rattle.task_ids.specs.declared.task_id.TaskId.{TaskId}
 use Rattle.task_events.specs.declared.event.Event.{Event}
 use Rattle.task_events.specs.declared.event.Event.TheVariants.{Ask}
 use Rattle.task_events.specs.declared.request.Request.{Request}
 use Rattle.task_events.specs.declared.request.Request.TheVariants.{Query, Fetch}
+use Rattle.task_events.specs.declared.reading.ShardRead.{ShardRead}
+use Rattle.task_events.specs.declared.request.SearchAsk.{SearchAsk}
 use Rattle.task_events.specs.declared.reply.FailedShard.{FailedShard}
+use Rattle.task_events.specs.declared.reply.ShardCount.{ShardCount}
 use Rattle.task_events.specs.declared.reply.ShardFailure.{ShardFailure}
 use Rattle.task_events.specs.declared.reply.ShardTop.{ShardTop}
 use Rattle.task_events.specs.declared.reply.Reply.{Reply}
 use Rattle.task_events.specs.declared.reply.Reply.TheVariants.{Hits}
-use Rattle.task_events.specs.Answers.{ShardVersion}
+use Rattle.task_events.specs.Answers.{count_read}
 use Rattle.task_events.specs.Asks.{answer_of}
+use Rattle.task_events.specs.Readings.{Reading, shard_read}
 use Rattle.task_events.specs.Same.{same_task}
 use Rattle.task_events.specs.Searches.{top_of, failure_in}
 
--- ---- the children of a search
+-- ---- the children of a search or of a page
 
 -- this asks for the query of the shard, and below for its fetch
 abbrev pub is_query_of : ℕ → Request → Bool
@@ -44,12 +48,13 @@ answer_for test t h = option_and_then (λ k. answer_of t k h) (ask_for test t h)
 abbrev pub found_in : TaskId → List Event → ℕ → Option ShardTop
 found_in t h shard = option_and_then top_of (answer_for (is_query_of shard) t h)
 
-abbrev pub version_found : TaskId → List Event → ℕ → Option ShardVersion
-version_found t h shard = option_map (λ top. (shard, top.version)) (found_in t h shard)
+-- how many rows match in a shard whose query child ended good, and the version that this child read
+abbrev pub count_found : SearchAsk → (ℕ → List Doc) → TaskId → List Event → ShardRead → Option ShardCount
+count_found ask writes t h at = option_map (λ top. count_read ask writes at top.version) (found_in t h (shard_read at))
 
--- of so many shards those whose query child ended good, each at the version that this child read
-abbrev pub answered_shards : ℕ → TaskId → List Event → List ShardVersion
-answered_shards shards t h = filter_map (version_found t h) (range_with_len 0 shards)
+-- the shards that answered, of those that are read
+abbrev pub answered_shards : Reading → (ℕ → List Doc) → TaskId → List Event → List ShardCount
+answered_shards r writes t h = filter_map (count_found r.ask writes t h) r.shards
 
 -- ---- the shards that failed
 
@@ -76,6 +81,6 @@ why_failed t h shard = option_or (failure_for (is_query_of shard) t h) (failure_
 abbrev pub failure_told : TaskId → List Event → ℕ → Option FailedShard
 failure_told t h shard = option_map (λ failure. record { shard = shard; failure = failure }) (why_failed t h shard)
 
--- of so many shards those that failed, each with why
-abbrev pub failed_shards : ℕ → TaskId → List Event → List FailedShard
-failed_shards shards t h = filter_map (failure_told t h) (range_with_len 0 shards)
+-- the shards that failed, of those that are read, each with why
+abbrev pub failed_shards : Reading → TaskId → List Event → List FailedShard
+failed_shards r t h = filter_map (λ at. failure_told t h (shard_read at)) r.shards

@@ -10,19 +10,14 @@ use Rattle.task_events.specs.declared.step.Asked.{Asked}
 use Rattle.task_events.specs.declared.step.Do.{Do}
 use Rattle.task_events.specs.declared.step.Do.TheVariants.{AskNext, Turn, Wait, Finish}
 use Rattle.task_events.specs.declared.event.Event.{Event}
-use Rattle.task_events.specs.declared.event.Event.TheVariants.{Root, Ask, Put, Pass, Refuse, Work, Answered, End}
+use Rattle.task_events.specs.declared.event.Event.TheVariants.{Ask, Pass, Refuse, Work, Answered, End}
 use Rattle.task_events.specs.Same.{same_task}
 use Rattle.task_events.specs.Tasks.{no_counts, is_new}
-use Rattle.task_events.specs.Asks.{Pending, last_ask, request_of_ask, unanswered, answer_of}
+use Rattle.task_events.specs.Asks.{Pending, last_ask, unanswered, answer_of}
 use Rattle.task_events.specs.Bans.{mark_of, ban_over}
+use Rattle.task_events.specs.Contexts.{page_of}
 use Rattle.task_events.specs.Kinds.{kind_of, node_for}
-
--- What a task was asked to do: a root by its command, a child by its parent.
-abbrev pub request_of : (ℕ → Option Request) → TaskId → List Event → Option Request
-request_of roots t [] = None
-request_of roots t (Root k u ∷ h) = if same_task t u then roots k else request_of roots t h
-request_of roots t (Put u p k ∷ h) = if same_task t u then request_of_ask p k h else request_of roots t h
-request_of roots t (_ ∷ h) = request_of roots t h
+use Rattle.task_events.specs.Requests.{Scripted, request_of}
 
 -- the ask of this number with its answer
 abbrev pub with_answer : ℕ → Option Reply → Asked → Asked
@@ -41,9 +36,9 @@ turns_of t [] = 0
 turns_of t (Work u ∷ h) = if same_task t u then 1 + turns_of t h else turns_of t h
 turns_of t (_ ∷ h) = turns_of t h
 
--- What a task's plan says, by its request, its asks with their answers, and its turns.
-abbrev pub planned_step : Cluster → Corpus → TaskId → Request → List Event → Do
-planned_step cluster corpus t request h = (kind_of request).step cluster corpus t (asked_by t h) (turns_of t h)
+-- What a task's plan says, by its request, the context of which it shows a page, its asks with their answers, and its turns.
+abbrev pub planned_step : Cluster → Corpus → Scripted → TaskId → Request → List Event → Do
+planned_step cluster corpus script t request h = (kind_of request).step cluster corpus t (page_of script t h) (asked_by t h) (turns_of t h)
 
 -- the event that a task's plan leads to, and none where it waits
 abbrev pub event_of : Cluster → TaskId → List Event → Do → Option Event
@@ -67,8 +62,8 @@ abbrev pub step_of_passed : Cluster → TaskId → List Event → Option ℕ →
 step_of_passed cluster t h (Some mark) plan = cancelled_step t mark (unanswered t h)
 step_of_passed cluster t h None plan = option_and_then (event_of cluster t h) plan
 
--- The next step of a live task, and none where it waits, given what each command's root is asked to do: a child that has not passed passes or is refused.
-abbrev pub next_step : Cluster → Corpus → (ℕ → Option Request) → TaskId → List Event → Option Event
-next_step cluster corpus roots t h =
+-- The next step of a live task, and none where it waits, given what the commands say: a child that has not passed passes or is refused.
+abbrev pub next_step : Cluster → Corpus → Scripted → TaskId → List Event → Option Event
+next_step cluster corpus script t h =
     if is_new t h then Some (first_step t (ban_over t h))
-    else step_of_passed cluster t h (mark_of t h) (option_map (λ request. planned_step cluster corpus t request h) (request_of roots t h))
+    else step_of_passed cluster t h (mark_of t h) (option_map (λ request. planned_step cluster corpus script t request h) (request_of script t h))

@@ -185,6 +185,7 @@ impl Request {
             Request::Search(ask) => Ok(Request::Search(ask.copy()?)),
             Request::Query(ask) => Ok(Request::Query(ask.copy()?)),
             Request::Fetch(ask) => Ok(Request::Fetch(ask.copy()?)),
+            Request::Scroll(ask) => Ok(Request::Scroll(*ask)),
         }
     }
 }

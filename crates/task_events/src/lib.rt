@@ -1,21 +1,27 @@
 //! The events of tasks, the history that they make, and what can be asked of it.
 #![tactic(auto)]
 
+mod context;
 mod copying;
+mod counts;
 mod event;
 mod history;
+mod reading;
 mod reply;
 mod request;
 mod step;
 mod stop;
 
+pub use context::Context;
 pub use copying::{copy_docs, copy_hits};
+pub use counts::ShardCounts;
 pub use event::{Event, Outcome};
 pub use history::{History, MAX_EVENTS, PushError};
+pub use reading::ShardRead;
 pub use reply::{Counts, FailedShard, Hit, Reply, SearchReply, ShardCount, ShardFailure, ShardTop};
 pub use request::{
-    BulkAsk, BulkShardAsk, FetchAsk, HitKey, ReindexAsk, Request, SearchAsk, ShardAsk, SliceAsk,
-    SlicePick, WriteNote,
+    BulkAsk, BulkShardAsk, FetchAsk, HitKey, ReindexAsk, Request, ScrollAsk, SearchAsk, ShardAsk,
+    SliceAsk, SlicePick, WriteNote,
 };
 pub use step::{Asked, Do};
 pub use stop::Stop;

@@ -14,6 +14,8 @@ pub enum Request {
     Query(Shared<ShardAsk>),
     /// The fetch phase of a search, of one shard.
     Fetch(Shared<FetchAsk>),
+    /// The next page of a search that opened a context.
+    Scroll(ScrollAsk),
 }
 
 /// A search of all shards of an index, after Elasticsearch's search API.
@@ -67,6 +69,17 @@ pub struct FetchAsk {
     pub version: u32,
     /// The places of the rows in the shard, from 0.
     pub places: Items<u32>,
+}
+
+/// The next page of a search that opened a context, after Elasticsearch's scroll API.
+#[derive(Clone, Copy, PartialEq, Eq)]
+pub struct ScrollAsk {
+    /// The search that opened the context.
+    pub id: TaskId,
+    /// The keep-alive that the context has from now on, in milliseconds, where it gets another.
+    pub keep: Option<u64>,
+    /// The task to which the context belongs, where it belongs to one.
+    pub owner: Option<TaskId>,
 }
 
 /// Where a row stands among all rows that a search finds. Keys are ordered by the sort, then by shard, then by place.

@@ -1,10 +1,18 @@
-ghost use Rattle.std.specs.Prelude.{◌≡◌, ◌↔◌, IsTrue, IsOk, IfOk, IfErr};
-ghost use Rattle.scroll_table.specs.Counts.{Ascend, version_in};
+ghost use Rattle.std.specs.Prelude.{◌≡◌, ◌↔◌, ◌^◌, nat_lt, IsTrue, IsOk, IfOk, IfErr};
+ghost use Rattle.std.specs.List.{list_all};
+ghost use Rattle.task_events.specs.Counts.{Ascend, AreCounts, version_in};
 
+use crate::reply::ShardCount;
 use std::marker::Model;
-use task_events::ShardCount;
 
-/// The shards of a search, each below the next. Contracts see them as a list.
+/// How many shards an index has at most.
+const MAX_SHARDS: usize = 15;
+
+/// A count of rows is below this.
+const MAX_COUNT: u64 = 4_294_967_296;
+
+/// What a context keeps of its shards, at most 15: each is below the next, and fewer than 2^32 rows match in it. Contracts see them as a
+/// list.
 #[derive(Drop)]
 pub struct ShardCounts {
     counts: Vec<ShardCount>,
@@ -20,21 +28,22 @@ impl Model for ShardCounts {
 
     ghost coded = { coded_list count_row.the_row.coded };
 
-    ghost use Rattle.scroll_table.specs.Counts.{Ascend};
+    ghost use Rattle.task_events.specs.Counts.{AreCounts};
 
     ghost view = { λ a. a.counts.items };
 
-    ghost invariant = { λ a. Ascend a.counts.items };
+    ghost invariant = { λ a. AreCounts a.counts.items };
 }
 
 impl ShardCounts {
-    /// The shards of a search, where each is below the next. Where they are not they come back.
+    /// The shards, where they are at most 15, each is below the next, and fewer than 2^32 rows match in each. Where they are not they
+    /// come back.
     pub fn new(counts: Vec<ShardCount>) -> Result<ShardCounts, Vec<ShardCount>>
-        ensures ascend { IsOk result ↔ Ascend counts.items }
+        ensures counts { IsOk result ↔ AreCounts counts.items }
         ensures value { IfOk result (λ shards. shards ≡ counts.items) }
         ensures given_back { IfErr result (λ back. back ≡ counts) }
     {
-        if ascend(counts.as_slice()) {
+        if are_counts(counts.as_slice()) {
             Ok(ShardCounts { counts })
         } else {
             Err(counts)
@@ -44,7 +53,7 @@ impl ShardCounts {
     /// The shards, of which each is below the next.
     pub fn as_slice(&self) -> &[ShardCount]
         ensures shards { result.now ≡ self.now }
-        ensures ascend { Ascend self.now }
+        ensures counts { AreCounts self.now }
     {
         self.counts.as_slice()
     }
@@ -55,6 +64,20 @@ impl ShardCounts {
     {
         version_among(self.counts.as_slice(), shard)
     }
+}
+
+/// Whether fewer than 2^32 rows match in each.
+fn are_low(counts: &[ShardCount]) -> bool
+    ensures { result ≡ list_all (λ n. nat_lt n.count (2 ^ 32)) counts.now }
+{
+    counts.iter().all(|count| count.count < MAX_COUNT)
+}
+
+/// Whether a context can keep them.
+fn are_counts(counts: &[ShardCount]) -> bool
+    ensures { IsTrue result ↔ AreCounts counts.now }
+{
+    counts.len() <= MAX_SHARDS && are_low(counts) && ascend(counts)
 }
 
 /// Whether each shard is below the next.

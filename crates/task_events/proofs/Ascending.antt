@@ -3,7 +3,7 @@ use Rattle.std.proofs.Common.{◌≡◌, ◌↔◌, Bool, true, false, IsTrue, L
 use Rattle.std.specs.List.{IsAllAdjacentAnswer}
 use Rattle.std.proofs.lemmas.Bool.Decides.{nat_tests}
 use Rattle.task_events.specs.declared.reply.ShardCount.{ShardCount}
-use Rattle.scroll_table.specs.Counts.{Ascend}
+use Rattle.task_events.specs.Counts.{Ascend}
 
 -- what a test of each two neighbours says
 pub ascend_by_answer : (counts : List ShardCount) (r : Bool) → IsAllAdjacentAnswer (λ one next b. b ≡ nat_lt one.shard next.shard) counts r → IsTrue r ↔ Ascend counts
