@@ -1,10 +1,11 @@
 -- Who is told that a context is the one to use finds that one.
 use Rattle.std.proofs.Common.{◌≡◌, ℕ, Bool, true, false, not, ◌&&◌, cond, Option, None, Some, Result, Ok, Err, IsSomeAnd, refl, ap}
 use Rattle.task_ids.specs.declared.task_id.TaskId.{TaskId}
-use Rattle.scroll_table.specs.declared.context.Context.{Context}
+use Rattle.task_events.specs.declared.context.Context.{Context}
 use Rattle.scroll_table.specs.declared.context.PageError.{PageError}
 use Rattle.scroll_table.specs.declared.context.PageError.TheVariants.{Missing, Busy}
-use Rattle.scroll_table.specs.Contexts.{answer_for, is_owned_by, is_expired, is_busy}
+use Rattle.task_events.specs.Contexts.{is_owned_by, is_expired, is_busy}
+use Rattle.scroll_table.specs.Contexts.{answer_for}
 
 abbrev missing : Result Context PageError
 missing = Err Missing

@@ -9,8 +9,8 @@ use Rattle.std.proofs.lemmas.Map.Keys.{IsDistinct-from_sorted}
 use Rattle.task_ids.specs.TaskIdOrder.{task_id_cmp}
 use Rattle.task_ids.specs.declared.task_id.TaskId.{TaskId}
 use Rattle.task_ids.proofs.TaskIdKeys.{ids_total, value_at, get_id, entries_of_rising}
-use Rattle.scroll_table.specs.declared.context.Context.{Context}
-use Rattle.scroll_table.specs.Contexts.{is_expired, unexpired}
+use Rattle.task_events.specs.declared.context.Context.{Context}
+use Rattle.task_events.specs.Contexts.{is_expired, unexpired}
 
 one_left : (c : Context) (b : Bool) → cond (not b) (Some c) None ≡ cond b None (Some c)
 one_left c true = refl

@@ -1,4 +1,5 @@
 mod Answered
-mod Ascending
 mod Kept
-mod Quiet
+mod NoneDue
+mod Places
+mod Timed

@@ -1,3 +1,3 @@
 pub mod Contexts
-pub mod Counts
-pub mod Quiet
+pub mod Ends
+pub mod Moments

@@ -1,32 +1,9 @@
-ghost use Rattle.std.specs.Prelude.{◌≡◌, ◌+◌, nat_le, Some};
-ghost use Rattle.scroll_table.specs.Quiet.{quiet_until};
-ghost use Rattle.scroll_table.specs.Contexts.{is_expired, is_owned_by, answer_for, lent, version_kept};
+ghost use Rattle.std.specs.Prelude.{◌≡◌, Some};
+ghost use Rattle.scroll_table.specs.Ends as ends;
+ghost use Rattle.scroll_table.specs.Contexts.{answer_for, lent};
 
-use crate::counts::ShardCounts;
-use shared_value::Shared;
-use task_events::{HitKey, SearchAsk};
+use task_events::Context;
 use task_ids::TaskId;
-
-/// What a search with `scroll` left for its pages.
-#[derive(Drop)]
-pub struct Context {
-    /// The search that opened it.
-    pub id: TaskId,
-    /// What that search was asked.
-    pub ask: Shared<SearchAsk>,
-    /// The shards that are read, each at its version.
-    pub shards: ShardCounts,
-    /// The cursor: the last row that was shown, where one was.
-    pub after: Option<HitKey>,
-    /// After how many milliseconds without use it expires, where it does.
-    pub keep_ms: Option<u64>,
-    /// The moment of its last use, in milliseconds.
-    pub last_ms: u64,
-    /// The task to which it belongs, where there is one.
-    pub owner: Option<TaskId>,
-    /// The task that uses it, where one does.
-    pub busy: Option<TaskId>,
-}
 
 /// Why a context is not given.
 #[derive(Clone, Copy, Debug, PartialEq, Eq)]
@@ -37,65 +14,29 @@ pub enum PageError {
     Busy,
 }
 
-impl Context {
-    /// Whether it has a keep-alive, was not used for it, and no task uses it.
-    pub fn is_expired(&self, now: u64) -> bool
-        ensures { result ≡ is_expired now self.now }
-    {
-        match self.keep_ms {
-            Some(keep_ms) => self.busy.is_none() && is_over(self.last_ms, keep_ms, now),
-            None => false,
-        }
+/// The moment at which the context expires, unless it is used before; none where it has no keep-alive, where a task uses it, or where no
+/// clock shows that moment.
+pub(crate) fn end_of(context: &Context) -> Option<u64>
+    ensures { result ≡ ends.end_of context.now }
+{
+    if context.busy.is_some() {
+        return None;
     }
-
-    /// A moment before which it does not expire, unless it is used at an earlier one.
-    pub(crate) fn quiet_until(&self) -> u64
-        ensures { result ≡ quiet_until self.now }
-    {
-        match self.keep_ms {
-            Some(keep_ms) => self.last_ms.saturating_add(keep_ms),
-            None => u64::MAX,
-        }
-    }
-
-    /// Whether this is the task to which it belongs, or it belongs to none and this is none.
-    pub fn is_owned_by(&self, by: Option<TaskId>) -> bool
-        ensures { result ≡ is_owned_by by self.now }
-    {
-        self.owner == by
-    }
-
-    /// The version that it keeps of a shard of an index, where it keeps one.
-    pub fn version_of(&self, index: &str, shard: u32) -> Option<u32>
-        ensures { result ≡ version_kept index.now shard self.now }
-    {
-        if self.ask.get().index.get().as_str() == index {
-            self.shards.version_of(shard)
-        } else {
-            None
-        }
-    }
-
-    /// The context, where this task may use it now.
-    pub(crate) fn answer(&self, by: Option<TaskId>, now: u64) -> Result<&Context, PageError>
-        ensures { lent result ≡ answer_for by now (Some self.now) }
-    {
-        if !self.is_owned_by(by) || self.is_expired(now) {
-            return Err(PageError::Missing);
-        }
-        if self.busy.is_some() {
-            return Err(PageError::Busy);
-        }
-        Ok(self)
+    match context.keep_ms {
+        Some(keep_ms) => context.last_ms.checked_add(keep_ms),
+        None => None,
     }
 }
 
-/// Whether a time that began at a moment is over.
-fn is_over(since_ms: u64, keep_ms: u64, now: u64) -> bool
-    ensures { result ≡ nat_le (since_ms + keep_ms) now }
+/// The context, where this task may use it now.
+pub(crate) fn answer(context: &Context, by: Option<TaskId>, now: u64) -> Result<&Context, PageError>
+    ensures { lent result ≡ answer_for by now (Some context.now) }
 {
-    match since_ms.checked_add(keep_ms) {
-        Some(end) => end <= now,
-        None => false,
+    if !context.is_owned_by(by) || context.is_expired(now) {
+        return Err(PageError::Missing);
     }
+    if context.busy.is_some() {
+        return Err(PageError::Busy);
+    }
+    Ok(context)
 }

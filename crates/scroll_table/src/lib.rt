@@ -5,10 +5,10 @@
 #![tactic(auto)]
 
 mod context;
-mod counts;
+mod ends;
+mod moments;
 mod table;
 
-pub use context::{Context, PageError};
-pub use counts::ShardCounts;
+pub use context::PageError;
 pub use table::ScrollTable;
-pub use task_events::ShardCount;
+pub use task_events::{Context, ShardCount, ShardCounts};

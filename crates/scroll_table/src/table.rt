@@ -5,41 +5,44 @@ ghost use Rattle.std.specs.FinMap as finite;
 ghost use Rattle.std.specs.List.{reduce};
 ghost use Rattle.task_ids.specs.TaskIdOrder.{task_id_cmp};
 ghost use Rattle.task_ids.specs.declared.task_id.TaskId.{TaskId};
-ghost use Rattle.scroll_table.specs.declared.context.Context.{Context};
+ghost use Rattle.task_events.specs.declared.context.Context.{Context};
 ghost use Rattle.scroll_table.specs.declared.context.PageError.{PageError};
-ghost use Rattle.scroll_table.specs.Quiet.{quiet_until, AreQuiet};
-ghost use Rattle.scroll_table.specs.Contexts.{answer_for, lent, with_use, given_back, can_clear, is_expired, unexpired, version_kept, oldest_of};
+ghost use Rattle.scroll_table.specs.Ends as ends;
+ghost use Rattle.scroll_table.specs.Ends.{AreEndsOf};
+ghost use Rattle.task_events.specs.Contexts.{with_use, given_back, can_clear, is_expired, unexpired, version_kept};
+ghost use Rattle.scroll_table.specs.Contexts.{answer_for, lent, oldest_of};
 
-use crate::context::{Context, PageError};
+use crate::context::{PageError, answer, end_of};
+use crate::ends::Ends;
 use std::alloc::{AllocError, Global};
 use std::collections::BTreeMap;
 use std::marker::Model;
-use task_events::HitKey;
+use task_events::{Context, HitKey};
 use task_ids::TaskId;
 
 /// The contexts that stand on one node. Contracts see a map from the searches that opened them.
 #[derive(Drop)]
 pub struct ScrollTable {
     contexts: BTreeMap<TaskId, Context>,
-    /// No context expires before this moment.
-    quiet_until: u64,
+    /// When each of them expires.
+    ends: Ends,
 }
 
 impl Model for ScrollTable {
     ghost use Rattle.std.specs.FinMap as finite;
     ghost use Rattle.task_ids.specs.TaskIdOrder.{task_id_cmp, coded_task_id};
-    ghost use Rattle.scroll_table.specs.declared.context.Context.{Context};
-    ghost use Rattle.scroll_table.specs.contracts.context.Context as context_row;
+    ghost use Rattle.task_events.specs.declared.context.Context.{Context};
+    ghost use Rattle.task_events.specs.contracts.context.Context as context_row;
 
     ghost Value = { finite.FinMap task_id_cmp Context };
 
     ghost coded = { finite.code coded_task_id context_row.the_row.coded };
 
-    ghost use Rattle.scroll_table.specs.Quiet.{AreQuiet};
+    ghost use Rattle.scroll_table.specs.Ends.{AreEndsOf};
 
     ghost view = { λ a. finite.from_entries a.contexts.entries };
 
-    ghost invariant = { λ a. AreQuiet a.quiet_until a.contexts };
+    ghost invariant = { λ a. AreEndsOf a.ends a.contexts };
 }
 
 impl ScrollTable {
@@ -49,7 +52,7 @@ impl ScrollTable {
     {
         ScrollTable {
             contexts: BTreeMap::new(alloc),
-            quiet_until: u64::MAX,
+            ends: Ends::new(alloc),
         }
     }
 
@@ -60,10 +63,14 @@ impl ScrollTable {
         ensures err { OnErr result (self.new ≡ self.old) }
     {
         let id = context.id;
-        let until = context.quiet_until();
-        self.contexts.insert(id, context)?;
-        self.quiet_until = self.quiet_until.min(until);
-        Ok(())
+        self.ends.add(id, end_of(&context))?;
+        match self.contexts.insert(id, context) {
+            Ok(_) => Ok(()),
+            Err(_) => {
+                self.ends.remove(&id);
+                Err(AllocError)
+            }
+        }
     }
 
     /// The context of that id, where one is there. A task that uses it reads it so.
@@ -78,7 +85,7 @@ impl ScrollTable {
         ensures { lent result ≡ answer_for by now (finite.get self.now id) }
     {
         match self.get(id) {
-            Some(context) => context.answer(by, now),
+            Some(context) => answer(context, by, now),
             None => Err(PageError::Missing),
         }
     }
@@ -103,6 +110,7 @@ impl ScrollTable {
             return Err(error);
         }
         note_use(&mut self.contexts, &id, now, keep, user);
+        self.ends.set(&id, None);
         Ok(())
     }
 
@@ -112,8 +120,8 @@ impl ScrollTable {
         ensures { (c : Context) → finite.get self.old id ≡ Some c
             → self.new ≡ finite.insert self.old id (given_back after now c) }
     {
-        let until = note_return(&mut self.contexts, &id, after, now);
-        self.quiet_until = self.quiet_until.min(until);
+        let end = note_return(&mut self.contexts, &id, after, now);
+        self.ends.set(&id, end);
     }
 
     /// Takes a context away, unless a task uses it, and says whether it was there.
@@ -125,6 +133,7 @@ impl ScrollTable {
             return false;
         }
         self.contexts.remove(&id);
+        self.ends.remove(&id);
         true
     }
 
@@ -145,17 +154,13 @@ impl ScrollTable {
     }
 
     /// Takes away each context that was not used for its keep-alive, unless a task uses it, and says how many these are. It looks at no
-    /// context before the moment at which the first of them may expire, and then at all.
+    /// other, and takes no memory.
     pub fn expire(&mut self, now: u64) -> u64
         ensures left { (id : TaskId) → finite.get self.new id ≡ unexpired now (finite.get self.old id) }
         ensures count { finite.len self.new + result ≡ finite.len self.old }
     {
-        if now < self.quiet_until {
-            return 0;
-        }
         let before = self.contexts.len();
-        retain_unexpired(&mut self.contexts, now);
-        self.quiet_until = first_end(&self.contexts);
+        take_expired(&mut self.contexts, &mut self.ends, now);
         (before - self.contexts.len()) as u64
     }
 }
@@ -181,16 +186,16 @@ fn note_use(
     }
 }
 
-/// The task that uses a context gives it back. Answers a moment before which the context does not expire.
+/// The task that uses a context gives it back. Answers when the context expires.
 fn note_return(
     contexts: &mut BTreeMap<TaskId, Context>,
     id: &TaskId,
     after: Option<HitKey>,
     now: u64,
-) -> u64
+) -> Option<u64>
     requires { IsSome (tree.get task_id_cmp contexts.old id.now) }
-    ensures until { (c : Context) → tree.get task_id_cmp contexts.old id.now ≡ Some c
-        → result ≡ quiet_until (given_back after now c) }
+    ensures end { (c : Context) → tree.get task_id_cmp contexts.old id.now ≡ Some c
+        → result ≡ ends.end_of (given_back after now c) }
     ensures returned { (c : Context) → tree.get task_id_cmp contexts.old id.now ≡ Some c
         → (q : TaskId) → tree.get task_id_cmp contexts.new q
         ≡ (if is_at (task_id_cmp id.now) q
@@ -205,27 +210,20 @@ fn note_return(
     }
     context.last_ms = now;
     context.busy = None;
-    context.quiet_until()
+    end_of(context)
 }
 
-/// A moment before which none of the contexts expires.
-fn first_end(contexts: &BTreeMap<TaskId, Context>) -> u64
-    ensures { AreQuiet result contexts.now }
-{
-    contexts
-        .values()
-        .map(|context| context.quiet_until())
-        .min()
-        .unwrap_or(u64::MAX)
-}
-
-/// Leaves the contexts that have not expired.
-fn retain_unexpired(contexts: &mut BTreeMap<TaskId, Context>, now: u64)
-    ensures left { contexts.new.entries
-        ≡ filter (λ e. not (is_expired now e.1)) contexts.old.entries }
+/// Takes away the contexts that have expired.
+fn take_expired(contexts: &mut BTreeMap<TaskId, Context>, ends: &mut Ends, now: u64)
+    requires { AreEndsOf ends.old contexts.old }
+    ensures ends { AreEndsOf ends.new contexts.new }
+    ensures left { (id : TaskId) → tree.get task_id_cmp contexts.new id
+        ≡ unexpired now (tree.get task_id_cmp contexts.old id) }
     ensures fewer { length contexts.new.entries ≤ length contexts.old.entries }
 {
-    contexts.retain(|_, context| !context.is_expired(now));
+    while let Some(id) = ends.take_due(now) {
+        contexts.remove(&id);
+    }
 }
 
 /// The least version that one of the contexts keeps.

@@ -1,7 +1,7 @@
 use Rattle.std.proofs.Common.{rules, tests, map, sym, ◌∙◌}
 use Rattle.std.proofs.lemmas.Iterator.Adapters.{option_map_id}
 use Rattle.std.proofs.lemmas.Iterator.Consumers.{YieldsList-at, YieldsList-from_rest, YieldsList-from_filter_map, min_from_yields_List}
-use Rattle.scroll_table.specs.Contexts.{version_kept}
+use Rattle.task_events.specs.Contexts.{version_kept}
 use Rattle.scroll_table.proofs.table.oldest_kept.Goals as goal
 
 pub returns-clause-least : goal.returns-clause-least

@@ -3,8 +3,8 @@ use Rattle.std.specs.FinMap.{entries}
 use Rattle.std.specs.List.{reduce}
 use Rattle.task_ids.specs.declared.task_id.TaskId.{TaskId}
 use Rattle.task_ids.proofs.TaskIdKeys.{entries_of_rising}
-use Rattle.scroll_table.specs.declared.context.Context.{Context}
-use Rattle.scroll_table.specs.Contexts.{version_kept}
+use Rattle.task_events.specs.declared.context.Context.{Context}
+use Rattle.task_events.specs.Contexts.{version_kept}
 use Rattle.scroll_table.proofs.table.ScrollTable.oldest.Goals as goal
 
 pub returns : goal.returns

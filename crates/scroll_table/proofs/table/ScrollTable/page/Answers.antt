@@ -1,20 +1,25 @@
-use Rattle.std.proofs.Common.{Some, refl, arith, sym, ap, ◌∙◌}
+use Rattle.std.proofs.Common.{Some, None, sym, ap, ◌∙◌}
 use Rattle.std.specs.FinMap as finite
 use Rattle.task_ids.proofs.TaskIdKeys.{get_id, one_put}
-use Rattle.scroll_table.specs.Contexts.{with_use}
+use Rattle.task_events.specs.Contexts.{with_use}
+use Rattle.scroll_table.specs.Ends.{kept_at}
 use Rattle.scroll_table.proofs.Answered.{there_to_use}
-use Rattle.scroll_table.proofs.Quiet.{one_changed, quiet_busy}
+use Rattle.scroll_table.proofs.Timed.{one_changed, set_there}
 use Rattle.scroll_table.proofs.table.ScrollTable.page.Goals as goal
 
 pub invariant_of-self : goal.invariant_of-self
 invariant_of-self c =
     let es = c.self.inside.contexts.entries in
+    let id = c.args.id in
     let context = c.in_default.field-0.now in
-    let used = with_use c.args.now c.args.keep c.args.user context in
-    let there = there_to_use c.args.by c.args.now (finite.get c.args.self.now c.args.id) context (sym c.in_default.ensures) in
-    let stands = sym (get_id es c.args.id) ∙ ap (λ m. finite.get m c.args.id) c.self.view_is ∙ there in
-    one_changed c.self.inside.quiet_until c.self.inside.quiet_until c.self.inside.contexts c.note_use.new.contexts c.args.id (Some used) (c.note_use.ensures context stands)
-    (omega arith) c.self.invariant (λ found same. quiet_busy used found c.self.inside.quiet_until same refl)
+    let there = there_to_use c.args.by c.args.now (finite.get c.args.self.now id) context (sym c.in_default.ensures) in
+    let stands = sym (get_id es id) ∙ ap (λ m. finite.get m id) c.self.view_is ∙ there in
+    record {
+      ends = c.set.ensures.ends;
+      each = one_changed c.self.inside.contexts c.note_use.new.contexts id (Some (with_use c.args.now c.args.keep c.args.user context)) (kept_at c.self.inside.ends) (kept_at c.set.new.self) c.self.invariant.each
+          (c.note_use.ensures context stands)
+          (set_there c.self.inside.contexts id context None (kept_at c.self.inside.ends) (kept_at c.set.new.self) stands c.self.invariant.each c.set.ensures.set);
+    }
 
 pub returns-clause-used : goal.returns-clause-used
 returns-clause-used c context may =
