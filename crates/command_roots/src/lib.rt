@@ -1,9 +1,9 @@
 //! What the commands of a script ask their roots to do.
 #![tactic(auto)]
 
-ghost use Rattle.std.specs.Prelude.{◌≡◌, ◌↔◌, true, false, IfOk, IfErr, option_and_then, Some};
+ghost use Rattle.std.specs.Prelude.{◌≡◌, ◌↔◌, true, IfOk, if◌then◌else◌};
 ghost use Rattle.query_parse.specs.Bodies.{body_at};
-ghost use Rattle.command_roots.specs.Roots.{body_or_none, whole_ask, opaque_id_in};
+ghost use Rattle.command_roots.specs.Roots.{body_or_none, search_ask, opaque_id_in};
 
 use query_match::SearchBody;
 use query_parse::{BodyError, read_body};
@@ -20,11 +20,15 @@ fn lacks_memory(fault: &BodyError) -> bool
     matches!(fault, BodyError::Memory)
 }
 
-/// The body of a search, unless it has a fault. It fails only for want of memory.
-pub fn body_of(alloc: Global, body: &DocSource) -> Result<Option<SearchBody>, AllocError>
-    ensures { IfOk result (λ found. found ≡ body_or_none (body_at false 0 body.now)) }
+/// The body of a search, unless it has a fault. With scrolls it shows the first hits, at least one. It fails only for want of memory.
+pub fn body_of(
+    alloc: Global,
+    body: &DocSource,
+    scrolls: bool,
+) -> Result<Option<SearchBody>, AllocError>
+    ensures { IfOk result (λ found. found ≡ body_or_none (body_at scrolls (if scrolls then 1 else 0) body.now)) }
 {
-    match read_body(alloc, body.as_value(), false, 0) {
+    match read_body(alloc, body.as_value(), scrolls, u32::from(scrolls)) {
         Ok(body) => Ok(Some(body)),
         Err(fault) => {
             let spent = lacks_memory(&fault);
@@ -41,9 +45,15 @@ fn shared_copy(alloc: Global, text: &Text) -> Result<Shared<Text>, AllocError>
     Ok(Shared::new(alloc, text.copy()?)?)
 }
 
-/// The search of all documents of an index that match, which opens no context. It fails only for want of memory.
-pub fn whole_ask(alloc: Global, index: &Text, body: SearchBody) -> Result<SearchAsk, AllocError>
-    ensures { IfOk result (λ ask. ask ≡ whole_ask index.now body) }
+/// The search of all documents of an index that match, which opens a context where it has a keep-alive, in milliseconds. It
+/// fails only for want of memory.
+pub fn search_ask(
+    alloc: Global,
+    index: &Text,
+    scroll: Option<u64>,
+    body: SearchBody,
+) -> Result<SearchAsk, AllocError>
+    ensures { IfOk result (λ ask. ask ≡ search_ask index.now scroll body) }
 {
     let (Ok(index), Ok(body)) = (shared_copy(alloc, index), Shared::new(alloc, body)) else {
         return Err(AllocError);
@@ -51,18 +61,22 @@ pub fn whole_ask(alloc: Global, index: &Text, body: SearchBody) -> Result<Search
     Ok(SearchAsk {
         index,
         body,
-        scroll: None,
+        scroll,
         slice: None,
         owner: None,
     })
 }
 
-/// What the request of a command's root carries. It takes no memory but a count.
+/// What the request of a command's root carries. It takes no memory, and fails only where the shared text has too many owners.
 pub fn headers_of(command: &Command) -> Result<Headers, AllocError>
     ensures { IfOk result (λ headers. headers ≡ record { opaque_id = opaque_id_in command.now }) }
 {
     match command {
         Command::Search {
+            opaque_id: Some(opaque_id),
+            ..
+        }
+        | Command::Scroll {
             opaque_id: Some(opaque_id),
             ..
         } => Ok(Headers {

@@ -21,7 +21,7 @@ pub seen_pair : {A B X Y : Type 0} (f : A → X) (g : B → Y) (a : Result A Cau
     → seen f a ≡ x → seen g b ≡ y → seen (λ p. (f p.0, g p.1)) (both a b) ≡ both x y
 seen_pair f g a b x y e e' = seen_both f g a b ∙ ap (λ r. both r (seen g b)) e ∙ ap (both x) e'
 
--- three fields, and four
+-- three fields, four, and five
 pub seen_three : {A B C X Y Z : Type 0} (f : A → X) (g : B → Y) (h : C → Z) (a : Result A Cause) (b : Result B Cause) (c : Result C Cause) (x : Result X Cause) (y : Result Y Cause) (z : Result Z Cause)
     → seen f a ≡ x → seen g b ≡ y → seen h c ≡ z → seen (λ p. (f p.0, (g p.1.0, h p.1.1))) (both a (both b c)) ≡ both x (both y z)
 seen_three f g h a b c x y z e e' e'' = seen_pair f (λ p. (g p.0, h p.1)) a (both b c) x (both y z) e (seen_pair g h b c y z e' e'')
@@ -31,6 +31,13 @@ pub seen_four : {A B C D X Y Z W : Type 0} (f : A → X) (g : B → Y) (h : C �
     → seen f a ≡ x → seen g b ≡ y → seen h c ≡ z → seen k d ≡ w → seen (λ p. (f p.0, (g p.1.0, (h p.1.1.0, k p.1.1.1)))) (both a (both b (both c d))) ≡ both x (both y (both z w))
 seen_four f g h k a b c d x y z w e e' e'' e''' =
     seen_pair f (λ p. (g p.0, (h p.1.0, k p.1.1))) a (both b (both c d)) x (both y (both z w)) e (seen_three g h k b c d y z w e' e'' e''')
+
+pub seen_five : {A B C D E X Y Z W V : Type 0} (f : A → X) (g : B → Y) (h : C → Z) (k : D → W) (l : E → V)
+    (a : Result A Cause) (b : Result B Cause) (c : Result C Cause) (d : Result D Cause) (s : Result E Cause) (x : Result X Cause) (y : Result Y Cause) (z : Result Z Cause) (w : Result W Cause) (v : Result V Cause)
+    → seen f a ≡ x → seen g b ≡ y → seen h c ≡ z → seen k d ≡ w → seen l s ≡ v
+    → seen (λ p. (f p.0, (g p.1.0, (h p.1.1.0, (k p.1.1.1.0, l p.1.1.1.1))))) (both a (both b (both c (both d s)))) ≡ both x (both y (both z (both w v)))
+seen_five f g h k l a b c d s x y z w v e e' e'' e''' e'''' =
+    seen_pair f (λ p. (g p.0, (h p.1.0, (k p.1.1.0, l p.1.1.1)))) a (both b (both c (both d s))) x (both y (both z (both w v))) e (seen_four g h k l b c d s y z w v e' e'' e''' e'''')
 
 -- what is made of a value, as it is seen
 pub seen_ok : {A X Y : Type 0} (f : A → X) (h : X → Y) (a : Result A Cause) (x : Result X Cause) (v : A) → seen f a ≡ x → a ≡ Ok v → Ok (h (f v)) ≡ and_then x (λ u. Ok (h u))

@@ -15,18 +15,21 @@ use Rattle.task_ids.specs.declared.cause.Cause.TheVariants.{TooManyLines, Unknow
 use Rattle.script_lang.specs.declared.command.CancelTarget.{CancelTarget}
 use Rattle.script_lang.specs.declared.command.CancelTarget.TheVariants as targets
 use Rattle.script_lang.specs.declared.command.Command.{Command}
-use Rattle.script_lang.specs.declared.command.Command.TheVariants.{Search, Cancel, ListTasks, Deliver, Step, ListStep, Settle, History}
+use Rattle.script_lang.specs.declared.command.Command.TheVariants.{Search, Scroll, ClearScroll, Cancel, ListTasks, Tick, Deliver, Step, ListStep, Settle, History}
+use Rattle.script_lang.specs.declared.command.ContextTarget.{ContextTarget}
+use Rattle.script_lang.specs.declared.command.ContextTarget.TheVariants as contexts
 use Rattle.script_lang.specs.declared.command.Mode.{Mode}
 use Rattle.script_lang.specs.declared.kind.Kind.{Kind}
 use Rattle.script_lang.specs.declared.kind.Kind.TheVariants as kinds
-use Rattle.script_lang.specs.Commands.{search_fields, built_search_fields, search_in, cancel_fields, cancel_in, list_fields, list_in, list_step_fields, list_step_in, command_of_kind, only_member, is_run, command_in}
-use Rattle.script_lang.specs.Fields.{both, fields_of, text_of, text_or, optional_text, node_in, node_or_first, task_in, group_or_nodes, flag_or_false, body_in, number_in, truth_in}
+use Rattle.script_lang.specs.Commands.{search_fields, search_in, scroll_fields, scroll_in, clear_fields, clear_in, cancel_fields, cancel_in, list_fields, list_in, list_step_fields, list_step_in, command_of_kind, only_member, is_run, command_in}
+use Rattle.script_lang.specs.Fields.{both, fields_of, text_of, text_or, optional_text, node_in, node_or_first, task_in, group_or_nodes, flag_or_false, body_in, number_in, optional_keep_alive, time_in, truth_in}
 use Rattle.script_lang.specs.Filters.{has_filter, filter_in}
-use Rattle.script_lang.specs.Fits.{IsNodeOf, NamesStart, Fits, AllFit}
+use Rattle.script_lang.specs.Fits.{IsNodeOf, NamesStart, NamesContext, Fits, AllFit}
+use Rattle.script_lang.specs.KeepAlives.{day_ms}
 use Rattle.script_lang.specs.Kinds.{kind_named, is_schedule}
 use Rattle.script_lang.specs.Names.{node_names, node_of}
 use Rattle.script_lang.specs.Script.{max_commands, command_of, commands_of}
-use Rattle.script_lang.specs.Targets.{starts_at, started_at, reference_in, target_of, target_in}
+use Rattle.script_lang.specs.Targets.{starts_task, opens_context, is_at, number_at, reference_in, target_of, target_in, context_of, context_in}
 use Rattle.script_lang.proofs.FieldLemmas.{both_first, both_second, first_ok}
 
 -- ---- nodes
@@ -65,25 +68,31 @@ node_or_first_fits : (nodes : ℕ) (field : Option Data) (node : ℕ) → 1 ≤ 
 node_or_first_fits nodes None node some e = let same : 1 ≡ node = cc in (omega arith, omega arith)
 node_or_first_fits nodes (Some value) node some e = node_in_fits nodes (Some value) node e
 
--- ---- what a cancel names
+-- ---- what is named
 
-started_is : (before : List Command) (number n : ℕ) → started_at before number ≡ Some n → starts_at before n ≡ true
-started_is before number n e = is (starts_at before number) refl e
+passes_at : (test : Command → Bool) (before : List Command) (number n : ℕ) → number_at test before number ≡ Some n → is_at test before n ≡ true
+passes_at test before number n e = is (is_at test before number) refl e
   where
-    is : (b : Bool) → starts_at before number ≡ b → cond b (Some number) None ≡ Some n → starts_at before n ≡ true
-    is true s e' = let same : number ≡ n = cc in subst (λ k. starts_at before k ≡ true) same s
+    is : (b : Bool) → is_at test before number ≡ b → cond b (Some number) None ≡ Some n → is_at test before n ≡ true
+    is true s e' = let same : number ≡ n = cc in subst (λ k. is_at test before k ≡ true) same s
     is false s e' = cc
 
 and_some : (found : Option ℕ) (f : ℕ → Option ℕ) (n : ℕ) → option_and_then f found ≡ Some n → (k : ℕ) × (f k ≡ Some n)
 and_some None f n e = cc
 and_some (Some k) f n e = (k, e)
 
+reference_fits : (test : Command → Bool) (before : List Command) (value : Data) (n : ℕ) → reference_in test before value ≡ Ok n → is_at test before n ≡ true
+unfolding reference_in
+reference_fits test before value n e =
+    let read = first_ok (ok_or (as_number value) BadField) _ n e in
+    let at = and_some (as_u64 read.0) (number_at test before) n (some_of_ok _ BadReference n read.2) in
+    passes_at test before at.0 n at.1
+
 is_alone : {A : Type 0} (beside : Bool) (found : Result A Cause) (x : A) → cond beside (Err BadField) found ≡ Ok x → found ≡ Ok x
 is_alone true found x e = cc
 is_alone false found x e = e
 
 target_of_fits : (before : List Command) (fields : Members) (task command : Option Data) (target : CancelTarget) → target_of before fields task command ≡ Ok target → NamesStart before target
-unfolding reference_in
 target_of_fits before fields None None target e =
     let filter = first_ok (filter_in fields) _ target e in
     let same : targets.Matching filter.0 ≡ target = cc (filter.2) in
@@ -93,36 +102,78 @@ target_of_fits before fields (Some task) None target e =
     let same : targets.Task id.0 ≡ target = cc (id.2) in
     subst (NamesStart before) same tt
 target_of_fits before fields None (Some command) target e =
-    let number = first_ok (reference_in before command) _ target (is_alone (has_filter fields) _ target e) in
-    let read = first_ok (ok_or (as_number command) BadField) _ number.0 number.1 in
-    let at = and_some (as_u64 read.0) (started_at before) number.0 (some_of_ok _ BadReference number.0 read.2) in
+    let number = first_ok (reference_in starts_task before command) _ target (is_alone (has_filter fields) _ target e) in
     let same : targets.Command number.0 ≡ target = cc (number.2) in
-    subst (NamesStart before) same (started_is before at.0 number.0 at.1)
+    subst (NamesStart before) same (reference_fits starts_task before command number.0 number.1)
 target_of_fits before fields (Some task) (Some command) target e = cc
 
 target_fits : (before : List Command) (fields : Members) (target : CancelTarget) → target_in before fields ≡ Ok target → NamesStart before target
 unfolding target_in
 target_fits before fields target e = target_of_fits before fields _ _ target e
 
+context_of_fits : (before : List Command) (id command : Option Data) (context : ContextTarget) → context_of before id command ≡ Ok context → NamesContext before context
+context_of_fits before None None context e = cc
+context_of_fits before (Some id) None context e =
+    let read = first_ok (task_in (Some id)) _ context e in
+    let same : contexts.Id read.0 ≡ context = cc (read.2) in
+    subst (NamesContext before) same tt
+context_of_fits before None (Some command) context e =
+    let number = first_ok (reference_in opens_context before command) _ context e in
+    let same : contexts.Command number.0 ≡ context = cc (number.2) in
+    subst (NamesContext before) same (reference_fits opens_context before command number.0 number.1)
+context_of_fits before (Some id) (Some command) context e = cc
+
+context_fits : (before : List Command) (fields : Members) (context : ContextTarget) → context_in before fields ≡ Ok context → NamesContext before context
+unfolding context_in
+context_fits before fields context e = context_of_fits before _ _ context e
+
+-- ---- times
+
+time_fits : (value : Data) (ms : ℕ) → time_in value ≡ Ok ms → ms ≤ day_ms
+time_fits value ms e =
+    let read = first_ok (number_in value) _ ms e in
+    within read.0 (nat_le read.0 day_ms) refl read.2
+  where
+    within : (n : ℕ) (b : Bool) → nat_le n day_ms ≡ b → cond b (Ok n) (Err BadField) ≡ Ok ms → ms ≤ day_ms
+    within n true is e' = let same : n ≡ ms = cc in grind (arith, is)
+    within n false is e' = cc
+
 -- ---- commands
 
 module _ (nodes : ℕ) (some : 1 ≤ nodes) (before : List Command) where
-  with_node : (index : List ℕ) (node : ℕ) (body : Data) (opaque_id : Option (List ℕ)) (command : Command) → Search index node body opaque_id ≡ command → IsNodeOf nodes node → Fits nodes before command
-  with_node index node body opaque_id command same fits = subst (Fits nodes before) same fits
+  with_node : (index : List ℕ) (node : ℕ) (scroll : Option ℕ) (body : Data) (opaque_id : Option (List ℕ)) (command : Command) → Search index node scroll body opaque_id ≡ command → IsNodeOf nodes node → Fits nodes before command
+  with_node index node scroll body opaque_id command same fits = subst (Fits nodes before) same fits
 
   search_fits : (value : Data) (command : Command) → search_in nodes value ≡ Ok command → Fits nodes before command
   unfolding search_in
   search_fits value command e =
-      let parts = first_ok (fields_of search_fields built_search_fields value) _ command e in
-      let found = first_ok (both (text_of (get_member (codes "index") parts.0)) (both (node_or_first nodes (get_member (codes "node") parts.0)) (both (body_in (get_member (codes "body") parts.0)) (optional_text (get_member (codes "opaque_id") parts.0))))) _ command parts.2 in
-      let same : Search found.0.0 found.0.1.0 found.0.1.1.0 found.0.1.1.1 ≡ command = cc (found.2) in
+      let parts = first_ok (fields_of search_fields value) _ command e in
+      let found = first_ok (both (text_of (get_member (codes "index") parts.0)) (both (node_or_first nodes (get_member (codes "node") parts.0)) (both (optional_keep_alive (get_member (codes "scroll") parts.0)) (both (body_in (get_member (codes "body") parts.0)) (optional_text (get_member (codes "opaque_id") parts.0)))))) _ command parts.2 in
+      let same : Search found.0.0 found.0.1.0 found.0.1.1.0 found.0.1.1.1.0 found.0.1.1.1.1 ≡ command = cc (found.2) in
       let node = both_first _ _ found.0.1 (both_second _ _ found.0 found.1) in
-      with_node found.0.0 found.0.1.0 found.0.1.1.0 found.0.1.1.1 command same (node_or_first_fits nodes (get_member (codes "node") parts.0) found.0.1.0 some node)
+      with_node found.0.0 found.0.1.0 found.0.1.1.0 found.0.1.1.1.0 found.0.1.1.1.1 command same (node_or_first_fits nodes (get_member (codes "node") parts.0) found.0.1.0 some node)
+
+  scroll_fits : (value : Data) (command : Command) → scroll_in before value ≡ Ok command → Fits nodes before command
+  unfolding scroll_in
+  scroll_fits value command e =
+      let parts = first_ok (fields_of scroll_fields value) _ command e in
+      let found = first_ok (both (context_in before parts.0) (both (optional_keep_alive (get_member (codes "scroll") parts.0)) (optional_text (get_member (codes "opaque_id") parts.0)))) _ command parts.2 in
+      let same : Scroll found.0.0 found.0.1.0 found.0.1.1 ≡ command = cc (found.2) in
+      let context = both_first _ _ found.0 found.1 in
+      subst (Fits nodes before) same (context_fits before parts.0 found.0.0 context)
+
+  clear_fits : (value : Data) (command : Command) → clear_in before value ≡ Ok command → Fits nodes before command
+  unfolding clear_in
+  clear_fits value command e =
+      let parts = first_ok (fields_of clear_fields value) _ command e in
+      let found = first_ok (context_in before parts.0) _ command parts.2 in
+      let same : ClearScroll found.0 ≡ command = cc (found.2) in
+      subst (Fits nodes before) same (context_fits before parts.0 found.0 found.1)
 
   cancel_fits : (value : Data) (command : Command) → cancel_in before value ≡ Ok command → Fits nodes before command
   unfolding cancel_in
   cancel_fits value command e =
-      let parts = first_ok (fields_of cancel_fields cancel_fields value) _ command e in
+      let parts = first_ok (fields_of cancel_fields value) _ command e in
       let found = first_ok (both (target_in before parts.0) (both (text_or (codes "by user request") (get_member (codes "reason") parts.0)) (flag_or_false (get_member (codes "wait_for_completion") parts.0)))) _ command parts.2 in
       let same : Cancel found.0.0 found.0.1.0 found.0.1.1 ≡ command = cc (found.2) in
       let target = both_first _ _ found.0 found.1 in
@@ -131,7 +182,7 @@ module _ (nodes : ℕ) (some : 1 ≤ nodes) (before : List Command) where
   list_fits : (value : Data) (command : Command) → list_in value ≡ Ok command → Fits nodes before command
   unfolding list_in
   list_fits value command e =
-      let parts = first_ok (fields_of list_fields list_fields value) _ command e in
+      let parts = first_ok (fields_of list_fields value) _ command e in
       let found = first_ok (both (filter_in parts.0) (both (group_or_nodes (get_member (codes "group_by") parts.0)) (flag_or_false (get_member (codes "detailed") parts.0)))) _ command parts.2 in
       let same : ListTasks found.0.0 found.0.1.0 found.0.1.1 ≡ command = cc (found.2) in
       subst (Fits nodes before) same tt
@@ -139,7 +190,7 @@ module _ (nodes : ℕ) (some : 1 ≤ nodes) (before : List Command) where
   list_step_fits : (value : Data) (command : Command) → list_step_in nodes value ≡ Ok command → Fits nodes before command
   unfolding list_step_in
   list_step_fits value command e =
-      let parts = first_ok (fields_of list_step_fields list_step_fields value) _ command e in
+      let parts = first_ok (fields_of list_step_fields value) _ command e in
       let found = first_ok (both (node_in nodes (get_member (codes "node") parts.0)) (task_in (get_member (codes "parent") parts.0))) _ command parts.2 in
       let same : ListStep found.0.0 found.0.1 ≡ command = cc (found.2) in
       let node = both_first _ _ found.0 found.1 in
@@ -147,6 +198,11 @@ module _ (nodes : ℕ) (some : 1 ≤ nodes) (before : List Command) where
 
   of_kind_fits : (kind : Kind) (value : Data) (command : Command) → command_of_kind nodes before kind value ≡ Ok command → Fits nodes before command
   of_kind_fits kinds.Search value command e = search_fits value command e
+  of_kind_fits kinds.Scroll value command e = scroll_fits value command e
+  of_kind_fits kinds.ClearScroll value command e = clear_fits value command e
+  of_kind_fits kinds.Tick value command e =
+      let found = first_ok (time_in value) _ command e in
+      let same : Tick found.0 ≡ command = cc (found.2) in subst (Fits nodes before) same (time_fits value found.0 found.1)
   of_kind_fits kinds.Cancel value command e = cancel_fits value command e
   of_kind_fits kinds.ListTasks value command e = list_fits value command e
   of_kind_fits kinds.ListStep value command e = list_step_fits value command e

@@ -10,10 +10,10 @@ use Rattle.serde_json.specs.Written.{has_float}
 use Rattle.shard_docs.proofs.FloatLemmas.{found_whole}
 use Rattle.shard_docs.specs.Fault.{and_then}
 use Rattle.task_ids.specs.Source.{IsSource}
-use Rattle.task_ids.specs.declared.cause.Cause.TheVariants.{BadField, UnknownField, NotBuilt}
+use Rattle.task_ids.specs.declared.cause.Cause.TheVariants.{BadField, UnknownField}
 use Rattle.script_lang.specs.declared.command.Command.TheVariants.{Search}
-use Rattle.script_lang.specs.Fields.{both, are_among, expects, fields_of, text_of, optional_text, node_or_first, body_in}
-use Rattle.script_lang.specs.Commands.{search_fields, built_search_fields, search_in}
+use Rattle.script_lang.specs.Fields.{both, are_among, expects, fields_of, text_of, optional_text, node_or_first, optional_keep_alive, body_in}
+use Rattle.script_lang.specs.Commands.{search_fields, search_in}
 use Rattle.script_lang.proofs.FieldLemmas.{both_first, both_second, first_ok}
 
 -- a member nests no deeper than the members
@@ -35,20 +35,19 @@ object_is (string s) fields e = cc
 object_is (array ds) fields e = cc
 object_is (object ms) fields e = let same : ms ≡ fields = cc in ap object same
 
-named : (known built : Members → Bool) (found : Option Members) (fields : Members)
-    → and_then (ok_or found BadField) (λ ms. and_then (expects (known ms) UnknownField) (λ _. and_then (expects (built ms) NotBuilt) (λ _. Ok ms))) ≡ Ok fields → found ≡ Some fields
-named known built None fields e = cc
-named known built (Some ms) fields e = chosen (known ms) (built ms) e
+named : (known : Members → Bool) (found : Option Members) (fields : Members)
+    → and_then (ok_or found BadField) (λ ms. and_then (expects (known ms) UnknownField) (λ _. Ok ms)) ≡ Ok fields → found ≡ Some fields
+named known None fields e = cc
+named known (Some ms) fields e = chosen (known ms) e
   where
-    chosen : (k b : Bool) → and_then (expects k UnknownField) (λ _. and_then (expects b NotBuilt) (λ _. Ok ms)) ≡ Ok fields → Some ms ≡ Some fields
-    chosen false b e' = cc
-    chosen true false e' = cc
-    chosen true true e' = let same : ms ≡ fields = cc in ap Some same
+    chosen : (k : Bool) → and_then (expects k UnknownField) (λ _. Ok ms) ≡ Ok fields → Some ms ≡ Some fields
+    chosen false e' = cc
+    chosen true e' = let same : ms ≡ fields = cc in ap Some same
 
 -- the fields of a command are those of its object
-fields_are : (known built : List (List ℕ)) (value : Data) (fields : Members) → fields_of known built value ≡ Ok fields → value ≡ object fields
+fields_are : (known : List (List ℕ)) (value : Data) (fields : Members) → fields_of known value ≡ Ok fields → value ≡ object fields
 unfolding fields_of
-fields_are known built value fields e = object_is value fields (named (are_among known) (are_among built) (as_object value) fields e)
+fields_are known value fields e = object_is value fields (named (are_among known) (as_object value) fields e)
 
 kept : (b : Bool) (value body : Data) → cond b (Ok value) (Err BadField) ≡ Ok body → (b ≡ true) × (value ≡ body)
 kept true value body e = (refl, cc)
@@ -65,16 +64,16 @@ body_found (Some value) body found e =
     subst IsSource is.1 (record { is_object = is.0; is_whole = within.0; nests = within.1 })
 
 -- the body of a search is a source, where the search is of whole numbers and nests no deeper than 127
-pub body_is_source : (nodes : ℕ) (value : Data) (index : List ℕ) (node : ℕ) (body : Data) (opaque_id : Option (List ℕ)) → has_float value ≡ false → depth value ≤ max_depth
-    → search_in nodes value ≡ Ok (Search index node body opaque_id) → IsSource body
+pub body_is_source : (nodes : ℕ) (value : Data) (index : List ℕ) (node : ℕ) (scroll : Option ℕ) (body : Data) (opaque_id : Option (List ℕ)) → has_float value ≡ false → depth value ≤ max_depth
+    → search_in nodes value ≡ Ok (Search index node scroll body opaque_id) → IsSource body
 unfolding search_in
-body_is_source nodes value index node body opaque_id whole nests e =
-    let step = first_ok (fields_of search_fields built_search_fields value) _ (Search index node body opaque_id) e in
-    let is : value ≡ object step.0 = fields_are search_fields built_search_fields value step.0 step.1 in
+body_is_source nodes value index node scroll body opaque_id whole nests e =
+    let step = first_ok (fields_of search_fields value) _ (Search index node scroll body opaque_id) e in
+    let is : value ≡ object step.0 = fields_are search_fields value step.0 step.1 in
     let below : depth (object step.0) ≤ max_depth = subst (λ d. depth d ≤ max_depth) is nests in
-    let found = first_ok (both (text_of (get_member (codes "index") step.0)) (both (node_or_first nodes (get_member (codes "node") step.0)) (both (body_in (get_member (codes "body") step.0)) (optional_text (get_member (codes "opaque_id") step.0))))) _ (Search index node body opaque_id) step.2 in
-    let same : found.0.1.1.0 ≡ body = cc (found.2) in
-    let at = both_first _ _ found.0.1.1 (both_second _ _ found.0.1 (both_second _ _ found.0 found.1)) in
-    subst IsSource same (body_found (get_member (codes "body") step.0) found.0.1.1.0 (λ d at.
+    let found = first_ok (both (text_of (get_member (codes "index") step.0)) (both (node_or_first nodes (get_member (codes "node") step.0)) (both (optional_keep_alive (get_member (codes "scroll") step.0)) (both (body_in (get_member (codes "body") step.0)) (optional_text (get_member (codes "opaque_id") step.0)))))) _ (Search index node scroll body opaque_id) step.2 in
+    let same : found.0.1.1.1.0 ≡ body = cc (found.2) in
+    let at = both_first _ _ found.0.1.1.1 (both_second _ _ found.0.1.1 (both_second _ _ found.0.1 (both_second _ _ found.0 found.1))) in
+    subst IsSource same (body_found (get_member (codes "body") step.0) found.0.1.1.1.0 (λ d at.
     let inside = member_depth (codes "body") step.0 d at in
     (found_whole (codes "body") (object step.0) d (subst (λ d. has_float d ≡ false) is whole) at, omega arith)) at)

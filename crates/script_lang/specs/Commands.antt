@@ -7,23 +7,26 @@ use Rattle.task_ids.specs.declared.cause.Cause.{Cause}
 use Rattle.task_ids.specs.declared.cause.Cause.TheVariants.{NotObject, ScheduleLineInRun}
 use Rattle.shard_docs.specs.Fault.{◌>>=◌}
 use Rattle.script_lang.specs.declared.command.Command.{Command}
-use Rattle.script_lang.specs.declared.command.Command.TheVariants.{Search, Cancel, ListTasks, Deliver, Step, ListStep, Settle, History}
+use Rattle.script_lang.specs.declared.command.Command.TheVariants.{Search, Scroll, ClearScroll, Cancel, ListTasks, Tick, Deliver, Step, ListStep, Settle, History}
 use Rattle.script_lang.specs.declared.command.Mode.{Mode}
 use Rattle.script_lang.specs.declared.command.Mode.TheVariants.{Sim, Run}
 use Rattle.script_lang.specs.declared.kind.Kind.{Kind}
 use Rattle.script_lang.specs.declared.kind.Kind.TheVariants as kinds
-use Rattle.script_lang.specs.Fields.{both, fields_of, text_of, text_or, optional_text, node_in, node_or_first, task_in, group_or_nodes, flag_or_false, body_in, number_in, truth_in}
+use Rattle.script_lang.specs.Fields.{both, fields_of, text_of, text_or, optional_text, node_in, node_or_first, task_in, group_or_nodes, flag_or_false, body_in, number_in, optional_keep_alive, time_in, truth_in}
 use Rattle.script_lang.specs.Filters.{filter_in}
 use Rattle.script_lang.specs.Kinds.{kind_named, is_schedule}
-use Rattle.script_lang.specs.Targets.{target_in}
+use Rattle.script_lang.specs.Targets.{target_in, context_in}
 
--- ---- the fields of the commands: those that there are, and those that are built
-
-abbrev pub built_search_fields : List (List ℕ)
-built_search_fields = codes "index" ∷ codes "node" ∷ codes "body" ∷ codes "opaque_id" ∷ []
+-- ---- the fields of the commands
 
 abbrev pub search_fields : List (List ℕ)
-search_fields = codes "index" ∷ codes "node" ∷ codes "body" ∷ codes "scroll" ∷ codes "opaque_id" ∷ []
+search_fields = codes "index" ∷ codes "node" ∷ codes "scroll" ∷ codes "body" ∷ codes "opaque_id" ∷ []
+
+abbrev pub scroll_fields : List (List ℕ)
+scroll_fields = codes "scroll_id" ∷ codes "command" ∷ codes "scroll" ∷ codes "opaque_id" ∷ []
+
+abbrev pub clear_fields : List (List ℕ)
+clear_fields = codes "scroll_id" ∷ codes "command" ∷ []
 
 abbrev pub cancel_fields : List (List ℕ)
 cancel_fields = codes "task_id" ∷ codes "command" ∷ codes "reason" ∷ codes "wait_for_completion" ∷ codes "actions" ∷ codes "nodes" ∷ codes "parent_task_id" ∷ []
@@ -39,36 +42,53 @@ list_step_fields = codes "node" ∷ codes "parent" ∷ []
 -- a search on a cluster of so many nodes
 unfoldable pub search_in : ℕ → Data → Result Command Cause
 search_in nodes value = do
-  fields ← fields_of search_fields built_search_fields value
-  found ← both (text_of (get_member (codes "index") fields)) (both (node_or_first nodes (get_member (codes "node") fields)) (both (body_in (get_member (codes "body") fields)) (optional_text (get_member (codes "opaque_id") fields))))
-  Ok (Search found.0 found.1.0 found.1.1.0 found.1.1.1)
+  fields ← fields_of search_fields value
+  found ← both (text_of (get_member (codes "index") fields)) (both (node_or_first nodes (get_member (codes "node") fields)) (both (optional_keep_alive (get_member (codes "scroll") fields)) (both (body_in (get_member (codes "body") fields)) (optional_text (get_member (codes "opaque_id") fields)))))
+  Ok (Search found.0 found.1.0 found.1.1.0 found.1.1.1.0 found.1.1.1.1)
+
+-- a scroll after some commands
+unfoldable pub scroll_in : List Command → Data → Result Command Cause
+scroll_in before value = do
+  fields ← fields_of scroll_fields value
+  found ← both (context_in before fields) (both (optional_keep_alive (get_member (codes "scroll") fields)) (optional_text (get_member (codes "opaque_id") fields)))
+  Ok (Scroll found.0 found.1.0 found.1.1)
+
+-- a clear after some commands
+unfoldable pub clear_in : List Command → Data → Result Command Cause
+clear_in before value = do
+  fields ← fields_of clear_fields value
+  context ← context_in before fields
+  Ok (ClearScroll context)
 
 -- a cancel after some commands
 unfoldable pub cancel_in : List Command → Data → Result Command Cause
 cancel_in before value = do
-  fields ← fields_of cancel_fields cancel_fields value
+  fields ← fields_of cancel_fields value
   found ← both (target_in before fields) (both (text_or (codes "by user request") (get_member (codes "reason") fields)) (flag_or_false (get_member (codes "wait_for_completion") fields)))
   Ok (Cancel found.0 found.1.0 found.1.1)
 
 -- a list of tasks
 unfoldable pub list_in : Data → Result Command Cause
 list_in value = do
-  fields ← fields_of list_fields list_fields value
+  fields ← fields_of list_fields value
   found ← both (filter_in fields) (both (group_or_nodes (get_member (codes "group_by") fields)) (flag_or_false (get_member (codes "detailed") fields)))
   Ok (ListTasks found.0 found.1.0 found.1.1)
 
 -- a step of a listing on a cluster of so many nodes
 unfoldable pub list_step_in : ℕ → Data → Result Command Cause
 list_step_in nodes value = do
-  fields ← fields_of list_step_fields list_step_fields value
+  fields ← fields_of list_step_fields value
   found ← both (node_in nodes (get_member (codes "node") fields)) (task_in (get_member (codes "parent") fields))
   Ok (ListStep found.0 found.1)
 
 -- the command of a kind, from what stands at its key, after other commands
 abbrev pub command_of_kind : ℕ → List Command → Kind → Data → Result Command Cause
 command_of_kind nodes before kinds.Search value = search_in nodes value
+command_of_kind nodes before kinds.Scroll value = scroll_in before value
+command_of_kind nodes before kinds.ClearScroll value = clear_in before value
 command_of_kind nodes before kinds.Cancel value = cancel_in before value
 command_of_kind nodes before kinds.ListTasks value = list_in value
+command_of_kind nodes before kinds.Tick value = time_in value >>= λ ms. Ok (Tick ms)
 command_of_kind nodes before kinds.Deliver value = number_in value >>= λ nth. Ok (Deliver nth)
 command_of_kind nodes before kinds.Step value = task_in (Some value) >>= λ task. Ok (Step task)
 command_of_kind nodes before kinds.ListStep value = list_step_in nodes value

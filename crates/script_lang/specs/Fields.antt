@@ -1,5 +1,5 @@
 -- The fields of a command: each is read for itself, and the earliest of the causes counts, wherever it stands in the line.
-use Rattle.std.specs.Prelude.{ℕ, List, Bool, true, false, Option, Some, None, option_and_then, is_some, Result, Ok, Err, nat_lt, if◌then◌else◌}
+use Rattle.std.specs.Prelude.{ℕ, List, Bool, true, false, Option, Some, None, option_and_then, is_some, Result, Ok, Err, nat_lt, nat_le, if◌then◌else◌}
 use Rattle.std.specs.Option.{ok_or}
 use Rattle.serde_json.specs.Data.{Data, object, Members, no_members, member}
 use Rattle.serde_json.specs.Find.{as_object, as_str, as_bool, as_number, as_u64}
@@ -9,6 +9,7 @@ use Rattle.task_ids.specs.declared.task_id.TaskId.{TaskId}
 use Rattle.shard_docs.specs.Fault.{◌>>=◌}
 use Rattle.tasks_api.specs.declared.list.GroupBy.{GroupBy}
 use Rattle.tasks_api.specs.declared.list.GroupBy.TheVariants.{Nodes}
+use Rattle.script_lang.specs.KeepAlives.{keep_alive_of, day_ms}
 use Rattle.script_lang.specs.Names.{task_id_of, is_one_of, node_of, group_named}
 
 -- ---- which cause counts
@@ -62,12 +63,11 @@ abbrev pub are_among : List (List ℕ) → Members → Bool
 are_among names no_members = true
 are_among names (member name value fields) = if is_one_of name names then are_among names fields else false
 
--- the fields of a command, which are among those that there are, and among those that are built
-unfoldable pub fields_of : List (List ℕ) → List (List ℕ) → Data → Result Members Cause
-fields_of known built value = do
+-- the fields of a command, which are among those that there are
+unfoldable pub fields_of : List (List ℕ) → Data → Result Members Cause
+fields_of known value = do
   fields ← ok_or (as_object value) BadField
   _ ← expects (are_among known fields) UnknownField
-  _ ← expects (are_among built fields) NotBuilt
   Ok fields
 
 -- ---- the kinds of fields, each of what stands at its key, if it is there
@@ -124,6 +124,15 @@ body_in (Some value) = if is_some (as_object value) then Ok value else Err BadFi
 -- a whole number from 0
 abbrev pub number_in : Data → Result ℕ Cause
 number_in value = ok_or (option_and_then as_u64 (as_number value)) BadField
+
+-- a keep-alive
+abbrev pub optional_keep_alive : Option Data → Result (Option ℕ) Cause
+optional_keep_alive None = Ok None
+optional_keep_alive (Some value) = text_of (Some value) >>= λ text. ok_or (keep_alive_of text) BadField >>= λ ms. Ok (Some ms)
+
+-- a whole number of milliseconds from 0, of 24 hours at most
+abbrev pub time_in : Data → Result ℕ Cause
+time_in value = number_in value >>= λ ms. if nat_le ms day_ms then Ok ms else Err BadField
 
 -- the value `true`
 abbrev pub truth_of : Option Bool → Result (Unit {0}) Cause

@@ -3,8 +3,11 @@ use Rattle.std.specs.Prelude.{◌≡◌, ℕ, ◌≤◌, List, [], ◌∷◌, �
 use Rattle.script_lang.specs.declared.command.CancelTarget.{CancelTarget}
 use Rattle.script_lang.specs.declared.command.CancelTarget.TheVariants as targets
 use Rattle.script_lang.specs.declared.command.Command.{Command}
-use Rattle.script_lang.specs.declared.command.Command.TheVariants.{Search, Cancel, ListTasks, Deliver, Step, ListStep, Settle, History}
-use Rattle.script_lang.specs.Targets.{starts_at}
+use Rattle.script_lang.specs.declared.command.Command.TheVariants.{Search, Scroll, ClearScroll, Cancel, ListTasks, Tick, Deliver, Step, ListStep, Settle, History}
+use Rattle.script_lang.specs.declared.command.ContextTarget.{ContextTarget}
+use Rattle.script_lang.specs.declared.command.ContextTarget.TheVariants as contexts
+use Rattle.script_lang.specs.KeepAlives.{day_ms}
+use Rattle.script_lang.specs.Targets.{starts_task, opens_context, is_at}
 
 -- a node of a cluster of so many
 abbrev pub IsNodeOf : ℕ → ℕ → Type 0
@@ -14,13 +17,21 @@ IsNodeOf nodes node = (1 ≤ node) × (node ≤ nodes)
 abbrev pub NamesStart : List Command → CancelTarget → Type 0
 NamesStart before (targets.Task id) = Unit {0}
 NamesStart before (targets.Matching filter) = Unit {0}
-NamesStart before (targets.Command number) = starts_at before number ≡ true
+NamesStart before (targets.Command number) = is_at starts_task before number ≡ true
+
+-- a command that is named comes before and is a search with a keep-alive
+abbrev pub NamesContext : List Command → ContextTarget → Type 0
+NamesContext before (contexts.Id id) = Unit {0}
+NamesContext before (contexts.Command number) = is_at opens_context before number ≡ true
 
 -- a command after others, on a cluster of so many nodes
 abbrev pub Fits : ℕ → List Command → Command → Type 0
-Fits nodes before (Search index node body opaque_id) = IsNodeOf nodes node
+Fits nodes before (Search index node scroll body opaque_id) = IsNodeOf nodes node
+Fits nodes before (Scroll context keep opaque_id) = NamesContext before context
+Fits nodes before (ClearScroll context) = NamesContext before context
 Fits nodes before (Cancel target reason wait) = NamesStart before target
 Fits nodes before (ListTasks filter group detailed) = Unit {0}
+Fits nodes before (Tick ms) = ms ≤ day_ms
 Fits nodes before (Deliver nth) = Unit {0}
 Fits nodes before (Step task) = Unit {0}
 Fits nodes before (ListStep node parent) = IsNodeOf nodes node

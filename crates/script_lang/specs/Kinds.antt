@@ -4,30 +4,36 @@ use Rattle.std.specs.Str.{bytes_eq}
 use Rattle.task_ids.specs.declared.cause.Cause.{Cause}
 use Rattle.task_ids.specs.declared.cause.Cause.TheVariants.{UnknownCommand, NotBuilt}
 use Rattle.script_lang.specs.declared.kind.Kind.{Kind}
-use Rattle.script_lang.specs.declared.kind.Kind.TheVariants.{Search, Cancel, ListTasks, Deliver, Step, ListStep, Settle, History}
+use Rattle.script_lang.specs.declared.kind.Kind.TheVariants.{Search, Scroll, ClearScroll, Cancel, ListTasks, Tick, Deliver, Step, ListStep, Settle, History}
 use Rattle.script_lang.specs.Names.{is_one_of}
 
 -- the commands that are still to come
 abbrev pub later_commands : List (List ℕ)
-later_commands = codes "scroll" ∷ codes "clear_scroll" ∷ codes "reindex" ∷ codes "tick" ∷ codes "wait_for" ∷ codes "summary" ∷ codes "shuffle" ∷ []
+later_commands = codes "reindex" ∷ codes "wait_for" ∷ codes "summary" ∷ codes "shuffle" ∷ []
 
 abbrev pub kind_named : List ℕ → Result Kind Cause
 kind_named name =
     if bytes_eq name (codes "search") then Ok Search else
+    (if bytes_eq name (codes "scroll") then Ok Scroll else
+    (if bytes_eq name (codes "clear_scroll") then Ok ClearScroll else
     (if bytes_eq name (codes "cancel") then Ok Cancel else
     (if bytes_eq name (codes "list") then Ok ListTasks else
+    (if bytes_eq name (codes "tick") then Ok Tick else
     (if bytes_eq name (codes "deliver") then Ok Deliver else
     (if bytes_eq name (codes "step") then Ok Step else
     (if bytes_eq name (codes "list_step") then Ok ListStep else
     (if bytes_eq name (codes "settle") then Ok Settle else
     (if bytes_eq name (codes "history") then Ok History else
-    (if is_one_of name later_commands then Err NotBuilt else Err UnknownCommand))))))))
+    (if is_one_of name later_commands then Err NotBuilt else Err UnknownCommand)))))))))))
 
 -- it writes a schedule, which threads do not take
 abbrev pub is_schedule : Kind → Bool
 is_schedule Search = false
+is_schedule Scroll = false
+is_schedule ClearScroll = false
 is_schedule Cancel = false
 is_schedule ListTasks = false
+is_schedule Tick = false
 is_schedule Deliver = true
 is_schedule Step = true
 is_schedule ListStep = true

@@ -3,6 +3,7 @@ pub mod Commands
 pub mod Fields
 pub mod Filters
 pub mod Fits
+pub mod KeepAlives
 pub mod Kinds
 pub mod Names
 pub mod Script

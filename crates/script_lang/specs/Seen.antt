@@ -7,9 +7,10 @@ use Rattle.script_lang.specs.declared.cancels.CancelParts.{CancelParts}
 use Rattle.script_lang.specs.declared.command.CancelTarget.{CancelTarget}
 use Rattle.script_lang.specs.declared.command.CancelTarget.TheVariants as targets
 use Rattle.script_lang.specs.declared.command.Command.{Command}
-use Rattle.script_lang.specs.declared.command.Command.TheVariants.{Search, Cancel, ListTasks}
+use Rattle.script_lang.specs.declared.command.Command.TheVariants.{Search, Scroll, Cancel, ListTasks}
 use Rattle.script_lang.specs.declared.filters.FilterParts.{FilterParts}
 use Rattle.script_lang.specs.declared.lists.ListParts.{ListParts}
+use Rattle.script_lang.specs.declared.scrolls.ScrollParts.{ScrollParts}
 use Rattle.script_lang.specs.declared.searches.SearchParts.{SearchParts}
 use Rattle.script_lang.specs.declared.targets.NamedTarget.{NamedTarget}
 use Rattle.script_lang.specs.declared.targets.NamedTarget.TheVariants as named
@@ -24,7 +25,10 @@ target_seen (named.Command number) = targets.Command number
 target_seen (named.Matching filter) = targets.Matching (filter_seen filter)
 
 abbrev pub search_seen : SearchParts → Command
-search_seen parts = Search parts.index.now parts.node (body_or_empty (option_map (λ v. view v.now) parts.body)) (option_map (λ text. text.now) parts.opaque_id)
+search_seen parts = Search parts.index.now parts.node parts.scroll (body_or_empty (option_map (λ v. view v.now) parts.body)) (option_map (λ text. text.now) parts.opaque_id)
+
+abbrev pub scroll_seen : ScrollParts → Command
+scroll_seen parts = Scroll parts.context parts.keep (option_map (λ text. text.now) parts.opaque_id)
 
 abbrev pub cancel_seen : CancelParts → Command
 cancel_seen parts = Cancel (target_seen parts.target) parts.reason.now parts.wait

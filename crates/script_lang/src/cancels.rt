@@ -44,7 +44,7 @@ fn cancel_parts<'v>(before: &[Command], value: &'v Value) -> Result<CancelParts<
     requires { length before.now < 2 ^ 32 }
     ensures { seen cancel_seen result ≡ spec.cancel_in before.now (view value.now) }
 {
-    let fields = fields_of(value, &CANCEL_FIELDS, &CANCEL_FIELDS)?;
+    let fields = fields_of(value, &CANCEL_FIELDS)?;
     let target = target_in(before, fields);
     let reason = text_or(DEFAULT_REASON, field(fields, "reason"));
     let wait = flag_or_false(field(fields, "wait_for_completion"));

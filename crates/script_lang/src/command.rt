@@ -22,6 +22,15 @@ pub enum CancelTarget {
     Matching(Filter),
 }
 
+/// The context that a command is about.
+#[derive(Clone, Copy, PartialEq, Eq)]
+pub enum ContextTarget {
+    /// That of a search, by the search's id, whose node need not be of the cluster.
+    Id(TaskId),
+    /// That of an earlier command's search, by the command's number, from 1.
+    Command(u32),
+}
+
 /// A command of a script, its defaults filled in.
 #[derive(Drop)]
 pub enum Command {
@@ -31,10 +40,26 @@ pub enum Command {
         index: Text,
         /// The node that it starts on, from 1, which is what stands where it is not written.
         node: u32,
+        /// The keep-alive of the context that it opens, from 1 to 86,400,000 ms, if it is written.
+        scroll: Option<u64>,
         /// The query and what else a search has, which may have faults. It is empty where it is not written.
         body: DocSource,
         /// The text by which a client knows what it started, if it is written. Each task that the search asks for carries it on.
         opaque_id: Option<Shared<Text>>,
+    },
+    /// Shows the next page of a search with `scroll`, after Elasticsearch's scroll API.
+    Scroll {
+        /// The context that is read.
+        context: ContextTarget,
+        /// The keep-alive that the context has from now on, from 1 to 86,400,000 ms, if it is written. Else it keeps its own.
+        keep: Option<u64>,
+        /// The text by which a client knows what it started, if it is written.
+        opaque_id: Option<Shared<Text>>,
+    },
+    /// Frees a context, after Elasticsearch's clear scroll API.
+    ClearScroll {
+        /// The context that is freed.
+        context: ContextTarget,
     },
     /// A cancel, after Elasticsearch's task cancellation.
     Cancel {
@@ -53,6 +78,11 @@ pub enum Command {
         group: GroupBy,
         /// Whether it tells what each works on; false where it is not written.
         detailed: bool,
+    },
+    /// Moves the clock.
+    Tick {
+        /// By how many milliseconds, from 0 to 86,400,000.
+        ms: u64,
     },
     /// Delivers a message.
     Deliver {

@@ -11,9 +11,10 @@ ghost use Rattle.script_lang.specs.Commands as spec;
 use crate::cancels::cancel_in;
 use crate::command::{Command, Mode};
 use crate::error::CommandError;
-use crate::fields::{both, field, fields_of, node_in, number_in, task_in, truth_in};
+use crate::fields::{both, field, fields_of, node_in, number_in, task_in, time_in, truth_in};
 use crate::kind::Kind;
 use crate::lists::list_in;
+use crate::scrolls::{clear_in, scroll_in};
 use crate::searches::search_in;
 use serde_json::{Map, Value};
 use std::alloc::Global;
@@ -51,7 +52,7 @@ fn list_step_in(nodes: u32, value: &Value) -> Result<Command, Cause>
     requires { nodes ≤ 15 }
     ensures { result ≡ spec.list_step_in nodes (view value.now) }
 {
-    let fields = fields_of(value, &LIST_STEP_FIELDS, &LIST_STEP_FIELDS)?;
+    let fields = fields_of(value, &LIST_STEP_FIELDS)?;
     let node = node_in(nodes, field(fields, "node"));
     let parent = task_in(field(fields, "parent"));
     let (node, parent) = both(node, parent)?;
@@ -74,8 +75,13 @@ fn command_of_kind(
 {
     match kind {
         Kind::Search => search_in(alloc, nodes, value),
+        Kind::Scroll => scroll_in(alloc, before, value),
+        Kind::ClearScroll => Ok(clear_in(before, value)?),
         Kind::Cancel => cancel_in(alloc, before, value),
         Kind::ListTasks => list_in(alloc, value),
+        Kind::Tick => Ok(Command::Tick {
+            ms: time_in(value)?,
+        }),
         Kind::Deliver => Ok(Command::Deliver {
             nth: number_in(value)?,
         }),

@@ -6,6 +6,7 @@ ghost use Rattle.serde_json.specs.View.{view, members_view};
 ghost use Rattle.script_lang.specs.Fields as spec;
 ghost use Rattle.script_lang.specs.Fields.{seen};
 
+use crate::keep_alives::{DAY_MS, keep_alive_of};
 use crate::names::{group_named, is_one_of, node_of, task_id_of};
 use serde_json::{Map, Value};
 use task_ids::{Cause, TaskId};
@@ -75,25 +76,20 @@ fn are_among(members: &Map<String, Value>, names: &[&str]) -> bool
     true
 }
 
-/// The fields of a command, an object. They are refused where one is not among those known, and where one of these is not
-/// built yet.
+/// The fields of a command, an object. They are refused where one is not among those known.
 #[tactic(auto, unfolding(crate::specs::Fields::fields_of))]
 pub(crate) fn fields_of<'v>(
     value: &'v Value,
     known: &[&str],
-    built: &[&str],
 ) -> Result<&'v Map<String, Value>, Cause>
     ensures { seen (λ ms. members_view ms.now.entries) result
-        ≡ spec.fields_of (map (λ n. n.now) known.now) (map (λ n. n.now) built.now) (view value.now) }
+        ≡ spec.fields_of (map (λ n. n.now) known.now) (view value.now) }
 {
     let Some(members) = value.as_object() else {
         return Err(Cause::BadField);
     };
     if !are_among(members, known) {
         return Err(Cause::UnknownField);
-    }
-    if !are_among(members, built) {
-        return Err(Cause::NotBuilt);
     }
     Ok(members)
 }
@@ -224,6 +220,29 @@ pub(crate) fn number_in(value: &Value) -> Result<u64, Cause>
     match value.as_u64() {
         Some(number) => Ok(number),
         None => Err(Cause::BadField),
+    }
+}
+
+/// A keep-alive in milliseconds, if it is there.
+pub(crate) fn optional_keep_alive(value: Option<&Value>) -> Result<Option<u64>, Cause>
+    ensures { result ≡ spec.optional_keep_alive (option_map (λ v. view v.now) value.entry) }
+{
+    match value {
+        None => Ok(None),
+        Some(_) => match keep_alive_of(text_of(value)?) {
+            Some(ms) => Ok(Some(ms)),
+            None => Err(Cause::BadField),
+        },
+    }
+}
+
+/// A whole number of milliseconds from 0, of 24 hours at most.
+pub(crate) fn time_in(value: &Value) -> Result<u64, Cause>
+    ensures { result ≡ spec.time_in (view value.now) }
+{
+    match number_in(value)? {
+        ms if ms <= DAY_MS => Ok(ms),
+        _ => Err(Cause::BadField),
     }
 }
 

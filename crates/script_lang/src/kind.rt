@@ -5,22 +5,17 @@ use crate::names::is_one_of;
 use task_ids::Cause;
 
 /// The commands that are still to come.
-const LATER_COMMANDS: [&str; 7] = [
-    "scroll",
-    "clear_scroll",
-    "reindex",
-    "tick",
-    "wait_for",
-    "summary",
-    "shuffle",
-];
+const LATER_COMMANDS: [&str; 4] = ["reindex", "wait_for", "summary", "shuffle"];
 
 /// The kind of a command, which the key of its line names.
 #[derive(Clone, Copy, PartialEq, Eq)]
 pub(crate) enum Kind {
     Search,
+    Scroll,
+    ClearScroll,
     Cancel,
     ListTasks,
+    Tick,
     Deliver,
     Step,
     ListStep,
@@ -35,8 +30,11 @@ impl Kind {
     {
         match name {
             "search" => Ok(Kind::Search),
+            "scroll" => Ok(Kind::Scroll),
+            "clear_scroll" => Ok(Kind::ClearScroll),
             "cancel" => Ok(Kind::Cancel),
             "list" => Ok(Kind::ListTasks),
+            "tick" => Ok(Kind::Tick),
             "deliver" => Ok(Kind::Deliver),
             "step" => Ok(Kind::Step),
             "list_step" => Ok(Kind::ListStep),
@@ -52,7 +50,12 @@ impl Kind {
         ensures { result ≡ is_schedule self }
     {
         match self {
-            Kind::Search | Kind::Cancel | Kind::ListTasks => false,
+            Kind::Search
+            | Kind::Scroll
+            | Kind::ClearScroll
+            | Kind::Cancel
+            | Kind::ListTasks
+            | Kind::Tick => false,
             Kind::Deliver | Kind::Step | Kind::ListStep | Kind::Settle | Kind::History => true,
         }
     }

@@ -7,14 +7,16 @@ mod commands;
 mod error;
 mod fields;
 mod filters;
+mod keep_alives;
 mod kind;
 mod lists;
 mod names;
 mod script;
+mod scrolls;
 mod searches;
 mod targets;
 mod texts;
 
-pub use command::{CancelTarget, Command, Mode, Script};
+pub use command::{CancelTarget, Command, ContextTarget, Mode, Script};
 pub use error::ScriptError;
 pub use script::read_script;

@@ -32,7 +32,7 @@ struct ListParts<'v> {
 fn list_parts(value: &Value) -> Result<ListParts<'_>, Cause>
     ensures { seen list_seen result ≡ spec.list_in (view value.now) }
 {
-    let fields = fields_of(value, &LIST_FIELDS, &LIST_FIELDS)?;
+    let fields = fields_of(value, &LIST_FIELDS)?;
     let filter = filter_parts(fields);
     let group = group_or_nodes(field(fields, "group_by"));
     let detailed = flag_or_false(field(fields, "detailed"));

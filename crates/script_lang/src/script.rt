@@ -47,8 +47,8 @@ fn command_of_line(
 /// Elasticsearch's search, task management and cancellation APIs.
 ///
 /// The error is the first bad line and the first of its causes in the order of `Cause`, over all fields of the line, or
-/// want of memory. `NotBuilt` stands in the place of `UnknownCommand` for a command that is still to come, and directly
-/// after `UnknownField` for a field that is. A body may be any object.
+/// want of memory. `NotBuilt` stands in the place of `UnknownCommand` for a command that is still to come. A body may be
+/// any object.
 pub fn read_script(
     alloc: Global,
     bytes: &[u8],
@@ -61,7 +61,7 @@ pub fn read_script(
     // The commands are those that the lines spell, and an error tells their first fault.
     ensures gives { Gives (λ script. script.commands) result (script_of mode cluster.now.nodes line (lines bytes.now)) }
 
-    // Each node is of the cluster, and each command that is named comes before and starts a task.
+    // Each node is of the cluster, and each command that is named comes before and has what it is named for.
     ensures fits { IfOk result (λ script. AllFit cluster.now.nodes [] script.commands) }
     ensures few { IfOk result (λ script. length script.commands ≤ 65535) }
 {

@@ -13,22 +13,23 @@ ghost use Rattle.script_lang.specs.Seen.{search_seen};
 
 use crate::command::Command;
 use crate::error::CommandError;
-use crate::fields::{body_in, both, field, fields_of, node_or_first, optional_text, text_of};
+use crate::fields::{
+    body_in, both, field, fields_of, node_or_first, optional_keep_alive, optional_text, text_of,
+};
 use crate::texts::{shared_from, text_from};
 use serde_json::{Map, Value};
 use std::alloc::Global;
 use task_ids::{Cause, DocSource, NotSource};
 
-/// The fields of a search: those that there are, and those that are built.
-const SEARCH_FIELDS: [&str; 5] = ["index", "node", "body", "scroll", "opaque_id"];
-
-const BUILT_SEARCH_FIELDS: [&str; 4] = ["index", "node", "body", "opaque_id"];
+/// The fields of a search.
+const SEARCH_FIELDS: [&str; 5] = ["index", "node", "scroll", "body", "opaque_id"];
 
 /// A search, as its line says it.
 #[derive(Clone, Copy)]
 struct SearchParts<'v> {
     index: &'v str,
     node: u32,
+    scroll: Option<u64>,
     body: Option<&'v Value>,
     opaque_id: Option<&'v str>,
 }
@@ -55,15 +56,18 @@ fn search_parts(nodes: u32, value: &Value) -> Result<SearchParts<'_>, Cause>
     requires { nodes ≤ 15 }
     ensures { seen search_seen result ≡ spec.search_in nodes (view value.now) }
 {
-    let fields = fields_of(value, &SEARCH_FIELDS, &BUILT_SEARCH_FIELDS)?;
+    let fields = fields_of(value, &SEARCH_FIELDS)?;
     let index = text_of(field(fields, "index"));
     let node = node_or_first(nodes, field(fields, "node"));
+    let scroll = optional_keep_alive(field(fields, "scroll"));
     let body = body_in(field(fields, "body"));
     let opaque_id = optional_text(field(fields, "opaque_id"));
-    let (index, (node, (body, opaque_id))) = both(index, both(node, both(body, opaque_id)))?;
+    let rest = both(scroll, both(body, opaque_id));
+    let (index, (node, (scroll, (body, opaque_id)))) = both(index, both(node, rest))?;
     Ok(SearchParts {
         index,
         node,
+        scroll,
         body,
         opaque_id,
     })
@@ -80,6 +84,7 @@ pub(crate) fn search_in(alloc: Global, nodes: u32, value: &Value) -> Result<Comm
     Ok(Command::Search {
         index: text_from(alloc, parts.index)?,
         node: parts.node,
+        scroll: parts.scroll,
         body: body_from(alloc, parts.body)?,
         opaque_id: shared_from(alloc, parts.opaque_id)?,
     })

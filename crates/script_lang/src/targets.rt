@@ -1,4 +1,4 @@
-//! What a cancel names.
+//! What a cancel names, and how a command names an earlier one.
 
 ghost use Rattle.std.specs.Prelude.{◌≡◌, ◌<◌, ◌^◌, length, Ok};
 ghost use Rattle.serde_json.specs.View.{view, members_view};
@@ -23,37 +23,56 @@ pub(crate) enum NamedTarget<'v> {
     Matching(FilterParts<'v>),
 }
 
-/// Whether a command starts a task.
-fn starts_task(command: &Command) -> bool
-    ensures { result ≡ spec.starts_task command.now }
-{
-    matches!(command, Command::Search { .. })
+/// What an earlier command is named for.
+#[derive(Clone, Copy)]
+pub(crate) enum NamedFor {
+    /// The task that it started.
+    Task,
+    /// The context that its search opened.
+    Context,
 }
 
-/// Whether one of the commands has this number, from 1, and starts a task.
-fn starts_at(commands: &[Command], number: u64) -> bool
-    ensures { result ≡ spec.starts_at commands.now number }
+impl NamedFor {
+    /// Whether a command has what it is named for.
+    fn allows(self, command: &Command) -> bool
+        ensures { result ≡ spec.allows self command.now }
+    {
+        match (self, command) {
+            (NamedFor::Task, Command::Search { .. } | Command::Scroll { .. }) => true,
+            (NamedFor::Context, Command::Search { scroll, .. }) => scroll.is_some(),
+            _ => false,
+        }
+    }
+}
+
+/// Whether one of the commands has this number, from 1, and has what it is named for.
+fn is_at(wanted: NamedFor, commands: &[Command], number: u64) -> bool
+    ensures { result ≡ spec.is_at (spec.allows wanted) commands.now number }
 {
     let Some(place) = number.checked_sub(1) else {
         return false;
     };
     match commands.get(place as usize) {
-        Some(command) => starts_task(command),
+        Some(command) => wanted.allows(command),
         None => false,
     }
 }
 
-/// The number of an earlier command that starts a task.
+/// The number of an earlier command that has what it is named for.
 #[tactic(auto, unfolding(crate::specs::Targets::reference_in))]
-fn reference_in(before: &[Command], value: &Value) -> Result<u32, Cause>
+pub(crate) fn reference_in(
+    wanted: NamedFor,
+    before: &[Command],
+    value: &Value,
+) -> Result<u32, Cause>
     requires { length before.now < 2 ^ 32 }
-    ensures { result ≡ spec.reference_in before.now (view value.now) }
+    ensures { result ≡ spec.reference_in (spec.allows wanted) before.now (view value.now) }
 {
     if !value.is_number() {
         return Err(Cause::BadField);
     }
     match value.as_u64() {
-        Some(number) if starts_at(before, number) => Ok(number as u32),
+        Some(number) if is_at(wanted, before, number) => Ok(number as u32),
         _ => Err(Cause::BadReference),
     }
 }
@@ -73,7 +92,7 @@ pub(crate) fn target_in<'v>(
         (None, None) => Ok(NamedTarget::Matching(filter_parts(fields)?)),
         (Some(_), None) if !has_filter(fields) => Ok(NamedTarget::Task(task_in(task)?)),
         (None, Some(command)) if !has_filter(fields) => {
-            Ok(NamedTarget::Command(reference_in(before, command)?))
+            Ok(NamedTarget::Command(reference_in(NamedFor::Task, before, command)?))
         }
         _ => Err(Cause::BadField),
     }
