@@ -1,3 +1,4 @@
 pub mod Notices
+pub mod Opening
 pub mod Running
 pub mod Starting

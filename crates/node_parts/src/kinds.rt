@@ -1,6 +1,7 @@
 //! What is so of a request by its kind: the action of its task, and where it is worked.
 
-ghost use Rattle.std.specs.Prelude.{◌≡◌, IfOk};
+ghost use Rattle.std.specs.Prelude.{◌≡◌, ◌++◌, codes, IfOk, option_map};
+ghost use Rattle.task_ids.specs.TaskId.{task_id_text};
 ghost use Rattle.task_events.specs.Kinds.{kind_of, action_of, description_of, node_for};
 ghost use Rattle.task_events.specs.Looking.{shard_description};
 
@@ -17,6 +18,7 @@ pub fn action_of(request: &Request) -> Action
         Request::Search(_) => Action::Search,
         Request::Query(_) => Action::Query,
         Request::Fetch(_) => Action::Fetch,
+        Request::Scroll(_) => Action::Scroll,
     }
 }
 
@@ -25,6 +27,13 @@ fn shard_description(alloc: Global, index: &str, shard: u32) -> Result<Text, All
     ensures { IfOk result (λ text. text ≡ shard_description index.now shard) }
 {
     Ok(Text::new(format!(in alloc; "shardId[[{index}][{shard}]]")?))
+}
+
+/// What a page of a context is called.
+fn scroll_description(alloc: Global, id: TaskId) -> Result<Text, AllocError>
+    ensures { IfOk result (λ text. text ≡ codes "scrollId[" ++ task_id_text id ++ codes "]") }
+{
+    Ok(Text::new(format!(in alloc; "scrollId[n{}:{}]", id.node, id.number)?))
 }
 
 /// What the task that a request asks for works on, as a detailed task list shows it. It fails only for want of memory.
@@ -44,15 +53,16 @@ pub fn description_of(alloc: Global, request: &Request) -> Result<Text, AllocErr
             let ask = ask.get();
             shard_description(alloc, ask.index.get().as_str(), ask.shard)
         }
+        Request::Scroll(ask) => scroll_description(alloc, ask.id),
     }
 }
 
 /// The shard on which a request is worked, from 0, if it is one of a shard.
 pub fn shard_of(request: &Request) -> Option<u32>
-    ensures { result ≡ (kind_of request.now).shard }
+    ensures { result ≡ option_map (λ place. place.1) (kind_of request.now).place }
 {
     match request {
-        Request::Search(_) => None,
+        Request::Search(_) | Request::Scroll(_) => None,
         Request::Query(ask) => Some(ask.get().shard),
         Request::Fetch(ask) => Some(ask.get().shard),
     }

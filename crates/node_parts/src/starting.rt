@@ -1,16 +1,16 @@
 //! What a request makes: a task of its kind, with its work.
 
-ghost use Rattle.std.specs.Prelude.{◌≡◌, List, IfOk, IfErr};
+ghost use Rattle.std.specs.Prelude.{◌≡◌, List, Some, IfOk, IfErr, is_some, option_copied};
 ghost use Rattle.child_track.specs.Track.{new_track};
 ghost use Rattle.node_parts.specs.Starting.{task_for};
 ghost use Rattle.task_ids.specs.declared.doc.Doc.{Doc};
-ghost use Rattle.task_work.specs.Works.{IsWorkOn, new_work};
+ghost use Rattle.task_work.specs.Works.{IsWorkOn, is_page, new_work};
 
 use crate::kinds::{action_of, description_of};
 use crate::running::Running;
 use child_track::ChildTrack;
 use std::alloc::{AllocError, Global};
-use task_events::{Request, Stop};
+use task_events::{Context, Request, Stop};
 use task_ids::{Cluster, Headers, NewTask, TaskId};
 use task_table::Ticket;
 use task_work::Work;
@@ -37,28 +37,32 @@ pub fn new_task(
     })
 }
 
-/// The task of a ticket, with the work that is asked of it and what its request carried. Where memory runs out (`Memory`) the ticket
-/// is given up.
+/// The task of a ticket, with the work that is asked of it and what its request carried. A page is given the context that it shows.
+/// Where memory runs out (`Memory`) the ticket is given up.
 pub fn with_work(
     alloc: Global,
     ticket: Ticket,
     request: &Request,
     cluster: &Cluster,
+    context: Option<&Context>,
     is_new: bool,
     headers: Headers,
 ) -> Result<Running, Stop>
+    requires given { is_some context ≡ is_page request.now }
     ensures running { IfOk result (λ running. running ≡ record {
       ticket = ticket;
       track = new_track ticket.id;
-      work = new_work ticket.id request.now cluster.now.shards;
+      work = running.work;
       is_new = is_new;
       headers = headers;
     }) }
+    ensures work { IfOk result (λ running.
+        new_work ticket.id request.now cluster.now.shards (option_copied context.entry) ≡ Some running.work) }
     ensures begun { (writes : List Doc) → IfOk result (λ running. IsWorkOn running.work writes) }
     ensures err { IfErr result (λ stop. stop ≡ Stop.Memory) }
 {
     let task = ticket.id();
-    match Work::new(alloc, task, request, cluster) {
+    match Work::new(alloc, task, request, cluster, context) {
         Ok(work) => Ok(Running {
             ticket,
             track: ChildTrack::new(alloc, task),

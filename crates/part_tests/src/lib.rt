@@ -9,11 +9,15 @@ mod bytes;
 #[cfg(test)]
 mod cancels;
 #[cfg(test)]
+mod contexts;
+#[cfg(test)]
 mod histories;
 #[cfg(test)]
 mod ids;
 #[cfg(test)]
 mod lists;
+#[cfg(test)]
+mod pages;
 #[cfg(test)]
 mod phases;
 #[cfg(test)]

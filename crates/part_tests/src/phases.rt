@@ -20,11 +20,11 @@ a {"n":2}
 d {"n":1}
 e {"n":5}"#;
 
-fn text(alloc: Global, text: &str) -> Result<Text, AllocError> {
+pub(crate) fn text(alloc: Global, text: &str) -> Result<Text, AllocError> {
     Ok(Text::new(String::from_str(alloc, text)?))
 }
 
-fn write(alloc: Global, shard: &mut Shard, line: &str) -> Option<()> {
+pub(crate) fn write(alloc: Global, shard: &mut Shard, line: &str) -> Option<()> {
     let (id, source) = line.split_once(" ")?;
     let id = text(alloc, id).ok()?;
     let source = DocSource::new(alloc, Value::from_str(alloc, source).ok()?).ok()?;
@@ -41,7 +41,7 @@ fn shard(alloc: Global) -> Shard {
 }
 
 /// A search by `n`.
-fn by_n(alloc: Global) -> Option<SearchBody> {
+pub(crate) fn by_n(alloc: Global) -> Option<SearchBody> {
     let field = query_match::Text::from_str(alloc, "n").ok()?;
     let mut sort = query_match::Items::new(alloc);
     sort.push(SortBy {
@@ -87,7 +87,7 @@ fn turned(query: &mut ShardQuery, shard: &Shard) -> Option<ShardTop>
 }
 
 /// What a query finds in its first turn.
-fn top_in(alloc: Global, shard: &Shard, ask: ShardAsk) -> Option<ShardTop> {
+pub(crate) fn top_in(alloc: Global, shard: &Shard, ask: ShardAsk) -> Option<ShardTop> {
     let mut query = ShardQuery::new(alloc, ask);
     turned(&mut query, shard)
 }
@@ -152,7 +152,7 @@ fn a_cursor_passes_over_itself_and_what_stands_before(rt: HostRuntime) {
 }
 
 /// The hits of a fetch.
-fn hits_in(alloc: Global, shard: &Shard, ask: FetchAsk) -> Option<Items<Hit>> {
+pub(crate) fn hits_in(alloc: Global, shard: &Shard, ask: FetchAsk) -> Option<Items<Hit>> {
     let mut fetch = ShardFetch::new(alloc, ask);
     match fetch.turn(shard) {
         Ok(FetchAnswer::Ready(hits)) => Some(hits),

@@ -1,6 +1,6 @@
-//! Scripts for threads, which take no schedule, and the fields of lists, cancels and searches.
+//! Scripts for threads, which take no schedule, and the fields of lists, cancels, searches and scrolls.
 
-use script_lang::{Mode, ScriptError, read_script};
+use script_lang::{Command, Mode, ScriptError, read_script};
 use std::alloc::Global;
 use task_ids::{Cause, Cluster};
 
@@ -90,6 +90,181 @@ fn reads_opaque_ids(rt: HostRuntime) {
     assert!(rt; counted(alloc, search) == Ok(1));
     let number = r#"{"search":{"index":"a","opaque_id":7}}"#;
     assert!(rt; counted(alloc, number) == bad(Cause::BadField));
-    let scroll = r#"{"search":{"opaque_id":7,"scroll":"1m"}}"#;
-    assert!(rt; counted(alloc, scroll) == bad(Cause::NotBuilt));
+}
+
+/// Keep-alives that are written wrongly, are too short or are too long. The last but one would be 34,448,384 ms if it wrapped.
+const BAD_KEEP_ALIVES: &str = r#"{"search":{"index":"a","scroll":1}}
+{"search":{"index":"a","scroll":null}}
+{"search":{"index":"a","scroll":""}}
+{"search":{"index":"a","scroll":"m"}}
+{"search":{"index":"a","scroll":"1"}}
+{"search":{"index":"a","scroll":"0"}}
+{"search":{"index":"a","scroll":"0s"}}
+{"search":{"index":"a","scroll":"0ms"}}
+{"search":{"index":"a","scroll":"01m"}}
+{"search":{"index":"a","scroll":"+1m"}}
+{"search":{"index":"a","scroll":"-1m"}}
+{"search":{"index":"a","scroll":"1.5m"}}
+{"search":{"index":"a","scroll":"1 m"}}
+{"search":{"index":"a","scroll":" 1m"}}
+{"search":{"index":"a","scroll":"1m "}}
+{"search":{"index":"a","scroll":"1M"}}
+{"search":{"index":"a","scroll":"1w"}}
+{"search":{"index":"a","scroll":"1mm"}}
+{"search":{"index":"a","scroll":"1sm"}}
+{"search":{"index":"a","scroll":"1m1s"}}
+{"search":{"index":"a","scroll":"25h"}}
+{"search":{"index":"a","scroll":"86401s"}}
+{"search":{"index":"a","scroll":"86400001ms"}}
+{"search":{"index":"a","scroll":"18446744073709551616ms"}}
+{"search":{"index":"a","scroll":"213503982335d"}}
+{"scroll":{"scroll_id":"n1:1","scroll":"2d"}}"#;
+
+/// The keep-alive of a line, in milliseconds.
+fn keep_alive_of(alloc: Global, line: &str) -> Option<u64> {
+    if line.len() > 67_108_864 {
+        return None;
+    }
+    let script = read_script(alloc, line.as_bytes(), 2, Mode::Sim, &CLUSTER).ok()?;
+    match script.commands.as_slice().first() {
+        Some(Command::Search { scroll, .. }) => *scroll,
+        Some(Command::Scroll { keep, .. }) => *keep,
+        _ => None,
+    }
+}
+
+#[test]
+fn reads_keep_alives(rt: HostRuntime) {
+    let alloc = rt.alloc();
+    for (line, want) in [
+        (r#"{"search":{"index":"a"}}"#, None),
+        (r#"{"search":{"index":"a","scroll":"1ms"}}"#, Some(1)),
+        (r#"{"search":{"index":"a","scroll":"90s"}}"#, Some(90_000)),
+        (
+            r#"{"search":{"index":"a","scroll":"1440m"}}"#,
+            Some(86_400_000),
+        ),
+        (
+            r#"{"search":{"index":"a","scroll":"23h"}}"#,
+            Some(82_800_000),
+        ),
+        (
+            r#"{"search":{"index":"a","scroll":"1d"}}"#,
+            Some(86_400_000),
+        ),
+        (r#"{"scroll":{"scroll_id":"n9:1"}}"#, None),
+        (
+            r#"{"scroll":{"scroll_id":"n9:1","scroll":"5m"}}"#,
+            Some(300_000),
+        ),
+    ] {
+        assert_eq!(rt; counted(alloc, line), Ok(1));
+        assert_eq!(rt; keep_alive_of(alloc, line), want);
+    }
+    for line in BAD_KEEP_ALIVES.lines() {
+        assert_eq!(rt; counted(alloc, line), bad(Cause::BadField));
+    }
+}
+
+#[test]
+fn reads_contexts(rt: HostRuntime) {
+    let alloc = rt.alloc();
+    for (line, cause) in [
+        (r#"{"scroll":{}}"#, Cause::BadField),
+        (r#"{"scroll":5}"#, Cause::BadField),
+        (
+            r#"{"scroll":{"scroll_id":"n1:1","command":1}}"#,
+            Cause::BadField,
+        ),
+        (r#"{"scroll":{"scroll_id":5}}"#, Cause::BadField),
+        (r#"{"scroll":{"scroll_id":"x"}}"#, Cause::BadTaskId),
+        (r#"{"scroll":{"scroll_id":"unset"}}"#, Cause::BadTaskId),
+        (
+            r#"{"scroll":{"scroll_id":"x","opaque_id":5}}"#,
+            Cause::BadField,
+        ),
+        (r#"{"scroll":{"command":9,"scroll":"1"}}"#, Cause::BadField),
+        (
+            r#"{"scroll":{"command":9,"index":"a"}}"#,
+            Cause::UnknownField,
+        ),
+        (r#"{"clear_scroll":{}}"#, Cause::BadField),
+        (
+            r#"{"clear_scroll":{"scroll_id":"n1:1","command":1}}"#,
+            Cause::BadField,
+        ),
+        (
+            r#"{"clear_scroll":{"scroll_id":"n1:01"}}"#,
+            Cause::BadTaskId,
+        ),
+        (
+            r#"{"clear_scroll":{"scroll_id":"n1:1","scroll":"1m"}}"#,
+            Cause::UnknownField,
+        ),
+    ] {
+        assert_eq!(rt; counted(alloc, line), bad(cause));
+    }
+    assert_eq!(rt;
+        counted(alloc, r#"{"clear_scroll":{"scroll_id":"n15:1"}}"#),
+        Ok(1)
+    );
+}
+
+/// A search with a context, a page of it, a search without one, and a clear.
+const SCROLLS: &str = r#"{"search":{"index":"a","scroll":"1m"}}
+{"scroll":{"command":1,"opaque_id":"q"}}
+{"search":{"index":"a"}}
+{"clear_scroll":{"command":1}}
+{"cancel":{"command":2}}
+"#;
+
+/// How many commands are read of those and a sixth line, or why they are refused.
+fn after_scrolls(alloc: Global, line: &str) -> Result<usize, ScriptError> {
+    match format!(in alloc; "{SCROLLS}{line}") {
+        Ok(script) => counted(alloc, script.as_str()),
+        Err(_) => Err(ScriptError::Memory),
+    }
+}
+
+#[test]
+fn names_earlier_commands(rt: HostRuntime) {
+    let alloc = rt.alloc();
+    assert_eq!(rt; counted(alloc, SCROLLS), Ok(5));
+    for line in [
+        r#"{"scroll":{"command":1}}"#,
+        r#"{"clear_scroll":{"command":1}}"#,
+        r#"{"cancel":{"command":1}}"#,
+    ] {
+        assert_eq!(rt; after_scrolls(alloc, line), Ok(6));
+    }
+    for (line, cause) in [
+        (r#"{"scroll":{"command":0}}"#, Cause::BadReference),
+        (r#"{"scroll":{"command":2}}"#, Cause::BadReference),
+        (r#"{"scroll":{"command":3}}"#, Cause::BadReference),
+        (r#"{"clear_scroll":{"command":4}}"#, Cause::BadReference),
+        (r#"{"clear_scroll":{"command":6}}"#, Cause::BadReference),
+        (r#"{"clear_scroll":{"command":-1}}"#, Cause::BadReference),
+        (r#"{"clear_scroll":{"command":"1"}}"#, Cause::BadField),
+        (r#"{"cancel":{"command":4}}"#, Cause::BadReference),
+        (r#"{"cancel":{"command":5}}"#, Cause::BadReference),
+    ] {
+        assert_eq!(rt;
+            after_scrolls(alloc, line),
+            Err(ScriptError::Bad { line: 7, cause })
+        );
+    }
+}
+
+#[test]
+fn reads_ticks(rt: HostRuntime) {
+    let alloc = rt.alloc();
+    assert_eq!(rt; counted(alloc, "{\"tick\":0}\n{\"tick\":86400000}"), Ok(2));
+    for line in [
+        r#"{"tick":86400001}"#,
+        r#"{"tick":-1}"#,
+        r#"{"tick":"1s"}"#,
+        r#"{"tick":true}"#,
+    ] {
+        assert_eq!(rt; counted(alloc, line), bad(Cause::BadField));
+    }
 }

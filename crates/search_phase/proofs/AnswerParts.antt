@@ -1,16 +1,14 @@
 -- The reply of a search, by its parts, and what is read off the fields of its root.
-use Rattle.std.specs.Prelude.{◌≡◌, ℕ, zero, suc, ◌-◌, ◌<◌, List, [], ◌∷◌, true, false, Option, Some, None, map, filter_map, length, position, slice_get, slice_set, refl}
+use Rattle.std.specs.Prelude.{◌≡◌, ℕ, zero, suc, ◌-◌, ◌<◌, List, [], ◌∷◌, true, false, Option, Some, None, filter_map, length, position, slice_get, slice_set, refl}
 use Rattle.std.proofs.Common.{sym, ◌∙◌, ap, arith}
 use Rattle.std.proofs.lemmas.List.{length-set}
 use Rattle.std.specs.List.{sum_by, last_or}
-use Rattle.task_ids.specs.declared.task_id.TaskId.{TaskId}
-use Rattle.task_events.specs.declared.request.SearchAsk.{SearchAsk}
-use Rattle.task_events.specs.declared.reply.ShardTop.{ShardTop}
+use Rattle.task_events.specs.declared.reply.ShardCount.{ShardCount}
 use Rattle.task_events.specs.declared.reply.SearchReply.{SearchReply}
 use Rattle.task_events.specs.declared.reply.Reply.{Reply}
 use Rattle.task_events.specs.declared.step.Asked.{Asked}
-use Rattle.task_events.specs.Answers.{context_of}
-use Rattle.task_events.specs.Searches.{tops_in, winners_among, failed_in, hit_in, counted}
+use Rattle.task_events.specs.Readings.{Reading}
+use Rattle.task_events.specs.Searches.{tops_in, winners_among, counts_in, failed_in, hit_in}
 use Rattle.search_phase.specs.Searching.{Searching, IsSearching, search_answer, is_open, takes, with_answer, has_ended, next_step}
 use Rattle.search_phase.proofs.Roots.{takes_none, takes_place, answer_at_place}
 use Rattle.search_phase.specs.declared.fetching.Fetching.{Fetching}
@@ -18,11 +16,11 @@ use Rattle.search_phase.specs.FetchPhase.{fetching_of}
 use Rattle.search_phase.specs.Roots.{IsRoot}
 use Rattle.search_phase.proofs.Requests.{slice_get_below, ended}
 
-pub answer_by_parts : (task : TaskId) (ask : SearchAsk) (shards : ℕ) (asked : List Asked) (answer : SearchReply) → answer.context ≡ context_of task ask → answer.shards ≡ map counted (tops_in shards asked)
-    → answer.failed ≡ failed_in ask shards asked → answer.total ≡ sum_by (λ (t : ShardTop). t.count) (tops_in shards asked)
-    → answer.hits ≡ filter_map (hit_in ask shards asked) (winners_among ask.body (tops_in shards asked)) → answer.last ≡ last_or None (winners_among ask.body (tops_in shards asked))
-    → answer ≡ search_answer task ask shards asked
-answer_by_parts task ask shards asked answer ec es ef et eh el = λ i. record { context = ec i; shards = es i; failed = ef i; total = et i; hits = eh i; last = el i }
+pub answer_by_parts : (r : Reading) (asked : List Asked) (answer : SearchReply) → answer.context ≡ r.context → answer.shards ≡ counts_in r asked → answer.failed ≡ failed_in r asked
+    → answer.total ≡ sum_by (λ (n : ShardCount). n.count) (counts_in r asked)
+    → answer.hits ≡ filter_map (hit_in r.ask (length r.shards) asked) (winners_among r.ask.body (tops_in (length r.shards) asked))
+    → answer.last ≡ last_or None (winners_among r.ask.body (tops_in (length r.shards) asked)) → answer ≡ search_answer r asked
+answer_by_parts r asked answer ec es ef et eh el = λ i. record { context = ec i; shards = es i; failed = ef i; total = et i; hits = eh i; last = el i }
 
 pub last_or_read : {X : Type 0} (xs : List X) (x : X) → slice_get xs (length xs - 1) ≡ Some x → last_or None xs ≡ Some x
 last_or_read [] x e = absurd cc
@@ -110,6 +108,6 @@ still_below asked place xs b l e = let f : length asked ≡ length (slice_set xs
 -- what the fetch phase is about is known once the search has ended
 pub ended_is_known : (s : Searching) (fetching : Option Fetching) (capacity : ℕ) → IsRoot s fetching capacity → has_ended (next_step s) ≡ true → fetching ≡ None → ⊥
 ended_is_known s fetching capacity h e none =
-    let known : fetching ≡ Some (fetching_of s.ask (tops_in s.shards s.asked)) = h.fetching_is ∙ rw (ended s e).queried refl in
-    let f : None ≡ Some (fetching_of s.ask (tops_in s.shards s.asked)) = sym none ∙ known in
+    let known : fetching ≡ Some (fetching_of s.reading.ask (tops_in (length s.reading.shards) s.asked)) = h.fetching_is ∙ rw (ended s e).queried refl in
+    let f : None ≡ Some (fetching_of s.reading.ask (tops_in (length s.reading.shards) s.asked)) = sym none ∙ known in
     cc

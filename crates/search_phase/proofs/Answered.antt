@@ -14,14 +14,14 @@ use Rattle.task_events.specs.Kinds.{can_have}
 use Rattle.task_events.specs.Searches.{tops_in, fetches_of, are_answered, has_queried, requests_of}
 use Rattle.search_phase.specs.Searching.{Searching, IsSearching, EachAnswer, AreRising, awaited, takes, answered_by, with_answer}
 use Rattle.search_phase.proofs.Sorting.{by_test}
-use Rattle.search_phase.proofs.Requests.{query_requests, request_of_query, length-requests_before, shards_requested, slice_get_below, list_all-slice_get}
+use Rattle.search_phase.proofs.Requests.{query_requests, request_below, length-requests_before, shards_requested, slice_get_below, list_all-slice_get}
 
 -- ---- the place of an ask
 
 -- the ask of this number, which has no answer yet, stands at a place and asks for this
 pub record IsAwaited (s : Searching) (ask : ℕ) (request : Request) (place : ℕ) (a : Asked) : Type 0 where
   pub at : slice_get s.asked place ≡ Some a
-  pub asks_for : slice_get (requests_of s.ask s.shards s.asked) place ≡ Some request
+  pub asks_for : slice_get (requests_of s.reading s.asked) place ≡ Some request
   pub number : a.ask ≡ ask
   pub open_yet : is_some a.answer ≡ false
 
@@ -46,17 +46,17 @@ module _ (ask : ℕ) where
       (λ other. one_later a asked r requests request (place_of asked requests request (rw other at e)))
 
 pub awaited_at : (s : Searching) (ask : ℕ) (request : Request) → awaited s ask ≡ Some request → (place : ℕ) × (a : Asked) × IsAwaited s ask request place a
-awaited_at s ask request e = of_place (place_of ask s.asked (requests_of s.ask s.shards s.asked) request e)
+awaited_at s ask request e = of_place (place_of ask s.asked (requests_of s.reading s.asked) request e)
   where
-    of_place : AtPlace s.asked (requests_of s.ask s.shards s.asked) ask request → (place : ℕ) × (a : Asked) × IsAwaited s ask request place a
+    of_place : AtPlace s.asked (requests_of s.reading s.asked) ask request → (place : ℕ) × (a : Asked) × IsAwaited s ask request place a
     of_place (place, a, at, asks, number, open_yet) = (place, a, record { at = at; asks_for = asks; number = number; open_yet = open_yet })
 
 taken_by : (shards : ℕ) (reply : Reply) (o : Option Request) → option_map_or (λ request. can_have shards request reply) o false ≡ true → (request : Request) × (o ≡ Some request) × (can_have shards request reply ≡ true)
 taken_by shards reply None e = absurd cc
 taken_by shards reply (Some request) e = (request, refl, e)
 
-pub taken : (s : Searching) (ask : ℕ) (reply : Reply) → takes s ask reply ≡ true → (request : Request) × (awaited s ask ≡ Some request) × (can_have s.shards request reply ≡ true)
-taken s ask reply e = taken_by s.shards reply (awaited s ask) e
+pub taken : (s : Searching) (ask : ℕ) (reply : Reply) → takes s ask reply ≡ true → (request : Request) × (awaited s ask ≡ Some request) × (can_have (length s.reading.shards) request reply ≡ true)
+taken s ask reply e = taken_by (length s.reading.shards) reply (awaited s ask) e
 
 -- ---- numbers that rise
 
@@ -136,11 +136,11 @@ module _ (s : Searching) (ask : ℕ) (reply : Reply) (request : Request) (place 
   later = map (answered_by ask reply) s.asked
 
   -- where all queries are answered, the ask is a fetch
-  not_a_query : has_queried s.shards s.asked ≡ true → s.shards ≤ place
-  not_a_query q = of_place (cases_lt place s.shards)
+  not_a_query : has_queried (length s.reading.shards) s.asked ≡ true → length s.reading.shards ≤ place
+  not_a_query q = of_place (cases_lt place (length s.reading.shards))
     where
-      all : are_answered (take s.shards s.asked) ≡ true
-      all = by_test (nat_le s.shards (length s.asked)) (λ long. rw long at q) (λ short. absurd (let f : false ≡ true = rw short at q in cc))
+      all : are_answered (take (length s.reading.shards) s.asked) ≡ true
+      all = by_test (nat_le (length s.reading.shards) (length s.asked)) (λ long. rw long at q) (λ short. absurd (let f : false ≡ true = rw short at q in cc))
 
       in_take : (n i : ℕ) (l : List Asked) → i < n → slice_get (take n l) i ≡ slice_get l i
       in_take zero i l k = absurd (omega arith)
@@ -148,51 +148,51 @@ module _ (s : Searching) (ask : ℕ) (reply : Reply) (request : Request) (place 
       in_take (suc n) zero (b ∷ l) k = refl
       in_take (suc n) (suc i) (b ∷ l) k = in_take n i l (omega arith)
 
-      of_place : (place < s.shards) ⊎ (s.shards ≤ place) → s.shards ≤ place
-      of_place (inl below) = absurd (let f : is_some a.answer ≡ true = list_all-slice_get (λ (b : Asked). is_some b.answer) (take s.shards s.asked) place a all (in_take s.shards place s.asked below ∙ here.at) in let g : false ≡ true = sym here.open_yet ∙ f in cc)
+      of_place : (place < length s.reading.shards) ⊎ (length s.reading.shards ≤ place) → length s.reading.shards ≤ place
+      of_place (inl below) = absurd (let f : is_some a.answer ≡ true = list_all-slice_get (λ (b : Asked). is_some b.answer) (take (length s.reading.shards) s.asked) place a all (in_take (length s.reading.shards) place s.asked below ∙ here.at) in let g : false ≡ true = sym here.open_yet ∙ f in cc)
       of_place (inr past) = past
 
-  pub queries_stay : has_queried s.shards s.asked ≡ true → take s.shards later ≡ take s.shards s.asked
+  pub queries_stay : has_queried (length s.reading.shards) s.asked ≡ true → take (length s.reading.shards) later ≡ take (length s.reading.shards) s.asked
   queries_stay q =
-      let P : ℕ → Type 0 = λ n. list_all (λ (b : Asked). nat_lt b.ask n) (take s.shards s.asked) ≡ true in
-      take-map (answered_by ask reply) s.shards s.asked
-      ∙ untouched ask reply (take s.shards s.asked) (subst P here.number (lower_before s.asked place s.shards a h.numbers here.at (not_a_query q)))
+      let P : ℕ → Type 0 = λ n. list_all (λ (b : Asked). nat_lt b.ask n) (take (length s.reading.shards) s.asked) ≡ true in
+      take-map (answered_by ask reply) (length s.reading.shards) s.asked
+      ∙ untouched ask reply (take (length s.reading.shards) s.asked) (subst P here.number (lower_before s.asked place (length s.reading.shards) a h.numbers here.at (not_a_query q)))
 
-  pub still_queried : has_queried s.shards s.asked ≡ true → has_queried s.shards later ≡ true
-  still_queried q = ap (λ n. nat_le s.shards n && are_answered (take s.shards later)) (length-map s.asked (answered_by ask reply)) ∙ ap (λ l. nat_le s.shards (length s.asked) && are_answered l) (queries_stay q) ∙ q
+  pub still_queried : has_queried (length s.reading.shards) s.asked ≡ true → has_queried (length s.reading.shards) later ≡ true
+  still_queried q = ap (λ n. nat_le (length s.reading.shards) n && are_answered (take (length s.reading.shards) later)) (length-map s.asked (answered_by ask reply)) ∙ ap (λ l. nat_le (length s.reading.shards) (length s.asked) && are_answered l) (queries_stay q) ∙ q
 
-  pub tops_stay : has_queried s.shards s.asked ≡ true → tops_in s.shards later ≡ tops_in s.shards s.asked
+  pub tops_stay : has_queried (length s.reading.shards) s.asked ≡ true → tops_in (length s.reading.shards) later ≡ tops_in (length s.reading.shards) s.asked
   tops_stay q = rw (queries_stay q) refl
 
-  requests_stay : has_queried s.shards s.asked ≡ true → requests_of s.ask s.shards later ≡ requests_of s.ask s.shards s.asked
+  requests_stay : has_queried (length s.reading.shards) s.asked ≡ true → requests_of s.reading later ≡ requests_of s.reading s.asked
   requests_stay q =
-      let same : tops_in s.shards later ≡ tops_in s.shards s.asked = tops_stay q in
-      let still : has_queried s.shards later ≡ true = still_queried q in
-      rw (still, q) (ap (λ (l : List ShardTop). query_requests s.ask s.shards ++ map Fetch (fetches_of s.ask l)) same)
+      let same : tops_in (length s.reading.shards) later ≡ tops_in (length s.reading.shards) s.asked = tops_stay q in
+      let still : has_queried (length s.reading.shards) later ≡ true = still_queried q in
+      rw (still, q) (ap (λ (l : List ShardTop). query_requests s.reading ++ map Fetch (fetches_of s.reading.ask l)) same)
 
-  pub request_stays : (i : ℕ) → i < length s.asked → slice_get (requests_of s.ask s.shards later) i ≡ slice_get (requests_of s.ask s.shards s.asked) i
+  pub request_stays : (i : ℕ) → i < length s.asked → slice_get (requests_of s.reading later) i ≡ slice_get (requests_of s.reading s.asked) i
   request_stays i below =
-      by_test (has_queried s.shards s.asked)
+      by_test (has_queried (length s.reading.shards) s.asked)
       (λ q. ap (λ l. slice_get l i) (requests_stay q))
       (λ waiting.
-      let few : length (requests_of s.ask s.shards s.asked) ≡ s.shards = length-requests_before s.ask s.shards s.asked waiting in
-      let room : length s.asked ≤ length (requests_of s.ask s.shards s.asked) = h.in_order in
-      let of_query : i < s.shards = omega arith in
-      request_of_query s.ask s.shards later i of_query ∙ sym (request_of_query s.ask s.shards s.asked i of_query))
+      let few : length (requests_of s.reading s.asked) ≡ length s.reading.shards = length-requests_before s.reading s.asked waiting in
+      let room : length s.asked ≤ length (requests_of s.reading s.asked) = h.in_order in
+      let of_query : i < length s.reading.shards = omega arith in
+      request_below s.reading later i of_query ∙ sym (request_below s.reading s.asked i of_query))
 
   pub EachAnswer-answer : (P : Request → Reply → Type 0) → EachAnswer P s → P request reply → EachAnswer P (with_answer s ask reply)
   EachAnswer-answer P each new i b r q at asks answered = of_ask (slice_get-answer ask reply s.asked i b at)
     where
       of_ask : (c : Asked) × (slice_get s.asked i ≡ Some c) × (answered_by ask reply c ≡ b) → P r q
       of_ask (c, before, is) =
-          let asks_before : slice_get (requests_of s.ask s.shards s.asked) i ≡ Some r = sym (request_stays i (slice_get_below s.asked i c before)) ∙ asks in
+          let asks_before : slice_get (requests_of s.reading s.asked) i ≡ Some r = sym (request_stays i (slice_get_below s.asked i c before)) ∙ asks in
           by_test (c.ask == ask)
           (λ same.
           let number : c.ask ≡ a.ask = eqb-true c.ask ask same ∙ sym here.number in
           let at_place : i ≡ place = same_place s.asked i place c a h.numbers before here.at number in
           let new_answer : record c { answer = Some reply } ≡ b = rw same at is in
           let is_reply : Some reply ≡ Some q = ap (λ (d : Asked). d.answer) new_answer ∙ answered in
-          let is_request : Some request ≡ Some r = sym here.asks_for ∙ ap (slice_get (requests_of s.ask s.shards s.asked)) (sym at_place) ∙ asks_before in
+          let is_request : Some request ≡ Some r = sym here.asks_for ∙ ap (slice_get (requests_of s.reading s.asked)) (sym at_place) ∙ asks_before in
           let r_is : request ≡ r = cc in
           let q_is : reply ≡ q = cc in
           let Q : Request → Type 0 = λ x. P x q in
@@ -201,17 +201,17 @@ module _ (s : Searching) (ask : ℕ) (reply : Reply) (request : Request) (place 
           let same : c ≡ b = rw other at is in
           each i c r q before asks_before (ap (λ (d : Asked). d.answer) same ∙ answered))
 
-  pub IsSearching-answer : can_have s.shards request reply ≡ true → IsSearching (with_answer s ask reply)
+  pub IsSearching-answer : can_have (length s.reading.shards) request reply ≡ true → IsSearching (with_answer s ask reply)
   IsSearching-answer can =
       let as_long : length later ≡ length s.asked = length-map s.asked (answered_by ask reply) in
       record {
-        shards_in_range = h.shards_in_range;
+        reading = h.reading;
         numbers = AreRising-answer ask reply s.asked h.numbers;
-        in_order = by_test (has_queried s.shards s.asked)
-            (λ q. let same : length (requests_of s.ask s.shards later) ≡ length (requests_of s.ask s.shards s.asked) = ap length (requests_stay q) in
-            let room : length s.asked ≤ length (requests_of s.ask s.shards s.asked) = h.in_order in omega arith)
-            (λ waiting. let few : length (requests_of s.ask s.shards s.asked) ≡ s.shards = length-requests_before s.ask s.shards s.asked waiting in
-            let room : length s.asked ≤ length (requests_of s.ask s.shards s.asked) = h.in_order in
-            let least : s.shards ≤ length (requests_of s.ask s.shards later) = shards_requested s.ask s.shards later in omega arith);
-        possible = EachAnswer-answer (λ request reply. can_have s.shards request reply ≡ true) h.possible can;
+        in_order = by_test (has_queried (length s.reading.shards) s.asked)
+            (λ q. let same : length (requests_of s.reading later) ≡ length (requests_of s.reading s.asked) = ap length (requests_stay q) in
+            let room : length s.asked ≤ length (requests_of s.reading s.asked) = h.in_order in omega arith)
+            (λ waiting. let few : length (requests_of s.reading s.asked) ≡ length s.reading.shards = length-requests_before s.reading s.asked waiting in
+            let room : length s.asked ≤ length (requests_of s.reading s.asked) = h.in_order in
+            let least : length s.reading.shards ≤ length (requests_of s.reading later) = shards_requested s.reading later in omega arith);
+        possible = EachAnswer-answer (λ request reply. can_have (length s.reading.shards) request reply ≡ true) h.possible can;
       }

@@ -1,14 +1,16 @@
 -- The answers to fetches, by what the fetches ask for.
-use Rattle.std.specs.Prelude.{◌≡◌, ℕ, zero, suc, ◌+◌, ◌<◌, ◌≤◌, ◌==◌, List, [], ◌∷◌, ◌++◌, true, ◌&&◌, Option, Some, None, option_map, option_and_then, map, filter_map, find, zip, take, drop, length, slice_get, refl}
+use Rattle.std.specs.Prelude.{◌≡◌, ℕ, zero, suc, min, ◌+◌, ◌<◌, ◌≤◌, ◌==◌, List, [], ◌∷◌, ◌++◌, true, ◌&&◌, Option, Some, None, option_map, option_and_then, map, filter_map, find, zip, take, drop, length, refl}
 use Rattle.std.proofs.lemmas.Bool.{eqb-true, eqb-false, eq-eqb, ne_eqb}
-use Rattle.std.proofs.lemmas.List.{take_more, drop_all, append-nil}
+use Rattle.std.proofs.lemmas.List.{take_more, take_all, drop_all, append-nil}
+use Rattle.std.proofs.lemmas.Slice.Zip.{length-zip, get_or-zip}
 use Rattle.std.proofs.lemmas.Grind.{flat_map-append}
 use Rattle.std.proofs.lemmas.List.Elements.{filter_map-append}
 use Rattle.std.specs.Ordering.{is_lt}
 use Rattle.std.proofs.Common.{sym, ◌∙◌, ap, arith, get_or}
-use Rattle.std.specs.List.{range_with_len, cons_option, flat_map}
+use Rattle.std.specs.List.{cons_option, flat_map}
 use Rattle.std.specs.Option.{option_or}
 use Rattle.std.specs.Map.{lookup}
+use Rattle.task_events.specs.declared.reading.ShardRead.{ShardRead}
 use Rattle.task_events.specs.declared.request.HitKey.{HitKey}
 use Rattle.task_events.specs.declared.request.SearchAsk.{SearchAsk}
 use Rattle.task_events.specs.declared.request.FetchAsk.{FetchAsk}
@@ -19,6 +21,7 @@ use Rattle.task_events.specs.declared.step.Asked.{Asked}
 use Rattle.task_events.specs.HitOrder.{hit_cmp}
 use Rattle.task_events.specs.FetchTask.{are_among}
 use Rattle.task_events.specs.QueryTask.{ascend}
+use Rattle.task_events.specs.Readings.{Reading, shard_read}
 use Rattle.task_events.specs.Searches.{tops_in, winners_among, won_tops, fetch_of, fetches_of, fetch_at, failed_at, failed_in, failure_of, hits_of, hit_in}
 use Rattle.search_phase.specs.FetchPhase.{answer_to, failed_by, hit_by, hits_in}
 use Rattle.search_phase.proofs.Sorting.{by_test}
@@ -36,10 +39,10 @@ module _ (ask : SearchAsk) (shards : ℕ) (asked : List Asked) where
       ap (λ (l : List ℕ). lookup (λ other. shard == other) (zip l (drop shards asked)))
       (fetch_shards (winners_among ask.body (tops_in shards asked)) (won_tops ask.body (tops_in shards asked)))
 
-  failed_by-failed_at : (shard : ℕ) → failed_by fetches shards asked shard ≡ failed_at ask shards asked shard
-  failed_by-failed_at shard =
-      ap (λ (o : Option Asked). option_map (λ failure. record { shard = shard; failure = failure }) (option_or (option_and_then failure_of (slice_get asked shard)) (option_and_then failure_of o)))
-      (answer_to-fetch_at shard)
+  failed_by-failed_at : (p : ShardRead × Asked) → failed_by fetches (drop shards asked) p ≡ failed_at ask shards asked p.0 p.1
+  failed_by-failed_at p =
+      ap (λ (o : Option Asked). option_map (λ failure. record { shard = shard_read p.0; failure = failure }) (option_or (failure_of p.1) (option_and_then failure_of o)))
+      (answer_to-fetch_at (shard_read p.0))
 
   find_in_answer : (place : ℕ) (o : Option Reply) → find (λ (hit : Hit). place == hit.place) (hits_in o) ≡ option_and_then (λ reply. find (λ (hit : Hit). place == hit.place) (hits_of reply)) o
   find_in_answer place None = refl
@@ -58,8 +61,10 @@ filter_map-same : {X Y : Type 0} (f g : X → Option Y) → ((x : X) → f x ≡
 filter_map-same f g e [] = refl
 filter_map-same f g e (x ∷ xs) = let here : f x ≡ g x = e x in let later : filter_map f xs ≡ filter_map g xs = filter_map-same f g e xs in λ i. cons_option (here i) (later i)
 
-pub failed_is : (ask : SearchAsk) (shards : ℕ) (asked : List Asked) → filter_map (failed_by (fetches_of ask (tops_in shards asked)) shards asked) (range_with_len 0 shards) ≡ failed_in ask shards asked
-failed_is ask shards asked = filter_map-same (failed_by (fetches_of ask (tops_in shards asked)) shards asked) (failed_at ask shards asked) (failed_by-failed_at ask shards asked) (range_with_len 0 shards)
+pub failed_is : (r : Reading) (asked : List Asked) → filter_map (failed_by (fetches_of r.ask (tops_in (length r.shards) asked)) (drop (length r.shards) asked)) (zip r.shards asked) ≡ failed_in r asked
+failed_is r asked =
+    let shards = length r.shards in
+    filter_map-same (failed_by (fetches_of r.ask (tops_in shards asked)) (drop shards asked)) (λ p. failed_at r.ask shards asked p.0 p.1) (failed_by-failed_at r.ask shards asked) (zip r.shards asked)
 
 pub hits_are : (ask : SearchAsk) (shards : ℕ) (asked : List Asked) (won : List HitKey) → filter_map (hit_by (fetches_of ask (tops_in shards asked)) (drop shards asked)) won ≡ filter_map (hit_in ask shards asked) won
 hits_are ask shards asked won = filter_map-same (hit_by (fetches_of ask (tops_in shards asked)) (drop shards asked)) (hit_in ask shards asked) (hit_by-hit_in ask shards asked) won
@@ -76,12 +81,17 @@ pub filter_map_step : {X Y : Type 0} (h : X → Option Y) (xs : List X) (i : ℕ
 filter_map_step h xs i x l e =
     ap (filter_map h) (one_more xs i x l e) ∙ filter_map-append h (take i xs) (x ∷ [])
 
-range_more : (a n : ℕ) → range_with_len a (n + 1) ≡ range_with_len a n ++ (a + n) ∷ []
-range_more a zero = let e : a + 0 ≡ a = omega arith in rw e refl
-range_more a (suc n) = let e : suc n + 1 ≡ suc (n + 1) = omega arith in let f : a + 1 + n ≡ a + suc n = omega arith in rw (e, range_more (a + 1) n, f) refl
+-- ---- two lists beside each other
 
-pub filter_map_range_step : {Y : Type 0} (h : ℕ → Option Y) (n : ℕ) → filter_map h (range_with_len 0 (n + 1)) ≡ filter_map h (range_with_len 0 n) ++ filter_map h (n ∷ [])
-filter_map_range_step h n = ap (filter_map h) (range_more 0 n) ∙ filter_map-append h (range_with_len 0 n) ((0 + n) ∷ []) ∙ (let e : 0 + n ≡ n = omega arith in rw e refl)
+-- the pairs at the first so many places and at one more
+pub zip_step : {X Y Z : Type 0} (h : X × Y → Option Z) (xs : List X) (ys : List Y) (i : ℕ) (x : X) (y : Y) → i < length xs → i < length ys → x ≡ get_or xs i x → y ≡ get_or ys i y
+    → filter_map h (take (i + 1) (zip xs ys)) ≡ filter_map h (take i (zip xs ys)) ++ filter_map h ((x, y) ∷ [])
+zip_step h xs ys i x y k l e f =
+    filter_map_step h (zip xs ys) i (x, y) (omega (arith, length-zip xs ys)) ((λ j. (e j, f j)) ∙ sym (get_or-zip xs ys i (x, y) k l))
+
+-- all pairs
+pub zip_all : {X Y Z : Type 0} (h : X × Y → Option Z) (xs : List X) (ys : List Y) (n : ℕ) → n ≡ min (length xs) (length ys) → filter_map h (take n (zip xs ys)) ≡ filter_map h (zip xs ys)
+zip_all h xs ys n e = ap (filter_map h) (take_all n (zip xs ys) (omega (arith, length-zip xs ys)))
 
 -- ---- lists that ascend, and places among others
 

@@ -1,9 +1,11 @@
 pub mod AnswerParts
 pub mod Answered
 pub mod Asks
+pub mod CountsFit
 pub mod Cut
 pub mod FetchAnswers
 pub mod FetchTurns
+pub mod Filtered
 pub mod Growing
 pub mod HitKeys
 pub mod Kept
@@ -14,7 +16,9 @@ pub mod Plain
 pub mod PlainCounts
 pub mod PlainHits
 pub mod PossibleReply
+pub mod QueryTops
 pub mod QueryTurns
+pub mod Readings
 pub mod Requests
 pub mod Roots
 pub mod Rows

@@ -61,6 +61,13 @@ pub list_all-flat_map : {X Y : Type 0} (p : Y → Bool) (f : X → List Y) (xs :
 list_all-flat_map p f [] h = refl
 list_all-flat_map p f (x ∷ xs) h = list_all-append p (f x) (flat_map f xs) (h x (inl refl)) (list_all-flat_map p f xs (λ y k. h y (inr k)))
 
+pub list_all-filter : {X : Type 0} (p q : X → Bool) (xs : List X) → list_all p xs ≡ true → list_all p (filter q xs) ≡ true
+list_all-filter p q [] e = refl
+list_all-filter p q (x ∷ xs) e =
+    by_test (p x)
+    (λ yes. let later : list_all p (filter q xs) ≡ true = list_all-filter p q xs (rw yes at e) in by_test (q x) (λ kept. rw (kept, yes) later) (λ passed. rw passed later))
+    (λ no. absurd (let f : false ≡ true = rw no at e in cc))
+
 -- ---- maps
 
 pub filter_map_where : {X Y : Type 0} (f g : X → Option Y) (p : X → Bool) (xs : List X) → AllByRecursion (λ x. f x ≡ cond (p x) (g x) None) xs → filter_map f xs ≡ filter_map g (filter p xs)
@@ -122,6 +129,17 @@ pub paired_by_place : {X Y : Type 0} (Q : X → Y → Type 0) (xs : List X) (ys 
 paired_by_place Q [] ys e f = tt
 paired_by_place Q (x ∷ xs) [] e f = absurd (omega arith)
 paired_by_place Q (x ∷ xs) (y ∷ ys) e f = (f zero x y refl refl, paired_by_place Q xs ys (omega arith) (λ i x y. f (suc i) x y))
+
+-- each element of two lists beside each other, as far as both go
+abbrev pub Beside : {X Y : Type 0} → (X → Y → Type 0) → List X → List Y → Type 0
+Beside Q [] ys = Unit {0}
+Beside Q (x ∷ xs) [] = Unit {0}
+Beside Q (x ∷ xs) (y ∷ ys) = Q x y × Beside Q xs ys
+
+pub beside_by_place : {X Y : Type 0} (Q : X → Y → Type 0) (xs : List X) (ys : List Y) → ((i : ℕ) (x : X) (y : Y) → slice_get xs i ≡ Some x → slice_get ys i ≡ Some y → Q x y) → Beside Q xs ys
+beside_by_place Q [] ys f = tt
+beside_by_place Q (x ∷ xs) [] f = tt
+beside_by_place Q (x ∷ xs) (y ∷ ys) f = (f zero x y refl refl, beside_by_place Q xs ys (λ i x y. f (suc i) x y))
 
 -- ---- places
 

@@ -63,7 +63,7 @@ abbrev pub IsInOrder : List HitKey → Type 0
 IsInOrder [] = Unit {0}
 IsInOrder (key ∷ keys) = AllByRecursion (λ later. stands_first key later ≡ true) keys × IsInOrder keys
 
-all_behind : (a b : HitKey) → stands_first a b ≡ true → (keys : List HitKey) → AllByRecursion (λ key. stands_first b key ≡ true) keys → AllByRecursion (λ key. stands_first a key ≡ true) keys
+pub all_behind : (a b : HitKey) → stands_first a b ≡ true → (keys : List HitKey) → AllByRecursion (λ key. stands_first b key ≡ true) keys → AllByRecursion (λ key. stands_first a key ≡ true) keys
 all_behind a b h [] all = tt
 all_behind a b h (key ∷ keys) all = (hits_linear.trans a b key h all.0, all_behind a b h keys all.1)
 
@@ -88,14 +88,15 @@ pub in_hit_order-in_order : (keys : List HitKey) → IsInOrder (in_hit_order key
 in_hit_order-in_order [] = tt
 in_hit_order-in_order (key ∷ keys) = placed-in_order key _ (in_hit_order-in_order keys)
 
+-- a key that stands before all others leads them
+pub placed_first : (key : HitKey) (keys : List HitKey) → AllByRecursion (λ later. stands_first key later ≡ true) keys → placed key keys ≡ key ∷ keys
+placed_first key [] all = refl
+placed_first key (next ∷ later) all = rw all.0 refl
+
 -- keys in order stay as they are
 pub in_hit_order-same : (keys : List HitKey) → IsInOrder keys → in_hit_order keys ≡ keys
 in_hit_order-same [] sorted = refl
-in_hit_order-same (key ∷ keys) sorted = ap (placed key) (in_hit_order-same keys sorted.1) ∙ placed_first keys sorted.0
-  where
-    placed_first : (keys : List HitKey) → AllByRecursion (λ later. stands_first key later ≡ true) keys → placed key keys ≡ key ∷ keys
-    placed_first [] all = refl
-    placed_first (next ∷ later) all = rw all.0 refl
+in_hit_order-same (key ∷ keys) sorted = ap (placed key) (in_hit_order-same keys sorted.1) ∙ placed_first key keys sorted.0
 
 -- the same keys, in order, are in hit order
 pub in_hit_order-unique : (xs ys : List HitKey) → IsPermutation xs ys → IsInOrder ys → ys ≡ in_hit_order xs

@@ -1,119 +1,104 @@
--- The reply of a search is one that it can have.
-use Rattle.std.specs.Prelude.{◌≡◌, ℕ, suc, ◌+◌, ◌*◌, ◌^◌, ◌<◌, ◌≤◌, ◌==◌, List, [], ◌∷◌, Bool, true, false, not, ◌&&◌, nat_lt, nat_le, cond, Option, Some, None, is_some, option_and_then, filter_map, take, drop, length, min, slice_get, refl}
-use Rattle.std.proofs.Common.{arith, lit<, mul-le-mul_right}
-use Rattle.std.proofs.lemmas.Bool.{ltb-true, lt-ltb, le-leb, eqb-false}
-use Rattle.std.proofs.lemmas.List.{length-take}
-use Rattle.std.proofs.lemmas.List.FromFn.{length-range_with_len}
-use Rattle.std.proofs.lemmas.List.Sums.{sum_by-cons}
-use Rattle.std.specs.List.{sum_by, flat_map, list_all, range_with_len}
+-- The reply of a search, and of a page of one, is one that it can have.
+use Rattle.std.specs.Prelude.{◌≡◌, ℕ, ◌^◌, ◌<◌, ◌≤◌, ◌==◌, List, Bool, true, false, not, ◌&&◌, nat_lt, nat_le, cond, Some, None, is_some, filter_map, zip, drop, length, min, refl}
+use Rattle.std.proofs.Common.{sym, ◌∙◌, ap, arith, lit<}
+use Rattle.std.proofs.lemmas.Bool.{lt-ltb, le-leb, eqb-false, eq-eqb}
+use Rattle.std.proofs.lemmas.List.{length-take, length-map}
+use Rattle.std.proofs.lemmas.List.FromFn.{length-map-range_with_len}
+use Rattle.std.proofs.lemmas.Slice.Zip.{length-zip}
+use Rattle.std.specs.List.{sum_by, flat_map}
+use Rattle.std.specs.Option.{option_map_or}
+use Rattle.task_ids.specs.declared.task_id.TaskId.{TaskId}
 use Rattle.task_ids.specs.Limits.{IsShardCount}
+use Rattle.task_events.specs.declared.context.Context.{Context}
+use Rattle.task_events.specs.declared.reading.ShardRead.{ShardRead}
+use Rattle.task_events.specs.declared.reading.ShardRead.TheVariants.{Newest, Kept}
 use Rattle.task_events.specs.declared.request.HitKey.{HitKey}
+use Rattle.task_events.specs.declared.request.ScrollAsk.{ScrollAsk}
+use Rattle.task_events.specs.declared.request.SearchAsk.{SearchAsk}
 use Rattle.task_events.specs.declared.request.Request.TheVariants as asks
+use Rattle.task_events.specs.declared.reply.FailedShard.{FailedShard}
+use Rattle.task_events.specs.declared.reply.Hit.{Hit}
+use Rattle.task_events.specs.declared.reply.ShardCount.{ShardCount}
 use Rattle.task_events.specs.declared.reply.ShardTop.{ShardTop}
-use Rattle.task_events.specs.declared.reply.Reply.TheVariants.{Top}
 use Rattle.task_events.specs.declared.step.Asked.{Asked}
 use Rattle.task_events.specs.HitOrder.{in_hit_order}
-use Rattle.task_events.specs.Answers.{window, opens_context, context_of}
-use Rattle.task_events.specs.QueryTask.{ascend, is_top_for}
+use Rattle.task_events.specs.Contexts.{opens_context}
 use Rattle.task_events.specs.Kinds.{can_have}
-use Rattle.task_events.specs.HitOrder.{is_after}
-use Rattle.task_events.specs.Searches.{query_of, top_of, tops_in, winners_among, failed_at, failed_in, hit_in}
+use Rattle.task_events.specs.Readings.{Reading, search_reading, page_reading}
+use Rattle.task_events.specs.Same.{same_task}
+use Rattle.task_events.specs.Searches.{tops_in, winners_among, counts_in, failed_at, failed_in, hit_in}
 use Rattle.search_phase.specs.Searching.{Searching, IsSearching, reply_of}
-use Rattle.search_phase.specs.FetchPhase.{tops_of}
 use Rattle.search_phase.proofs.Sorting.{by_test}
-use Rattle.search_phase.proofs.Lookups.{EachFrom, each_by_place, slice_get-take}
-use Rattle.search_phase.proofs.Requests.{request_of_query}
-use Rattle.search_phase.proofs.Plain.{answer_of_top}
-use Rattle.search_phase.proofs.Roots.{few_tops, length-filter_map}
+use Rattle.search_phase.proofs.CountsFit.{total_below}
+use Rattle.search_phase.proofs.Roots.{length-filter_map}
 
-third : (a b c d e f : Bool) → (a && b && c && d && e && f) ≡ true → c ≡ true
-third true true true d e f h = refl
-third true true false d e f h = absurd cc
-third true false c d e f h = absurd cc
-third false b c d e f h = absurd cc
+same_itself : (t : TaskId) → same_task t t ≡ true
+unfolding same_task
+same_itself t = rw (eq-eqb t.node t.node refl, eq-eqb t.number t.number refl) refl
 
 abbrev agrees : Bool → Bool → Bool
 agrees true b = b
 agrees false b = not b
 
--- ---- the total
-
-abbrev CountsBelow : ℕ → ℕ → Asked → Type 0
-CountsBelow m place a = (top : ShardTop) → option_and_then top_of a.answer ≡ Some top → top.count < m
-
-total_of_counts : (m n : ℕ) (asked : List Asked) → EachFrom (CountsBelow m) n asked → sum_by (λ (t : ShardTop). t.count) (tops_of asked) ≤ length (tops_of asked) * m
-total_of_counts m n [] h = omega arith
-total_of_counts m n (a ∷ asked) h = of_top (option_and_then top_of a.answer) refl (total_of_counts m (suc n) asked h.1)
-  where
-    of_top : (o : Option ShardTop) → option_and_then top_of a.answer ≡ o → sum_by (λ (t : ShardTop). t.count) (tops_of asked) ≤ length (tops_of asked) * m
-        → sum_by (λ (t : ShardTop). t.count) (tops_of (a ∷ asked)) ≤ length (tops_of (a ∷ asked)) * m
-    of_top None e rest = rw e rest
-    of_top (Some top) e rest =
-        let here : top.count < m = h.0 top e in
-        let more : sum_by (λ (t : ShardTop). t.count) (top ∷ tops_of asked) ≡ top.count + sum_by (λ (t : ShardTop). t.count) (tops_of asked) = sum_by-cons (λ (t : ShardTop). t.count) top (tops_of asked) in
-        let times : suc (length (tops_of asked)) * m ≡ length (tops_of asked) * m + m = grind arith in
-        rw e (omega arith)
-
 module _ (s : Searching) (h : IsSearching s) where
-  counts_fit : EachFrom (CountsBelow (2 ^ 32)) 0 (take s.shards s.asked)
-  counts_fit = each_by_place (CountsBelow (2 ^ 32)) 0 (take s.shards s.asked) at_place
+  abbrev failed : List FailedShard
+  failed = failed_in s.reading s.asked
+
+  abbrev hits : List Hit
+  hits = filter_map (hit_in s.reading.ask (length s.reading.shards) s.asked) (winners_among s.reading.ask.body (tops_in (length s.reading.shards) s.asked))
+
+  abbrev total : ℕ
+  total = sum_by (λ (n : ShardCount). n.count) (counts_in s.reading s.asked)
+
+  -- where not all failed, fewer did than there are shards
+  some_left : (shards : ℕ) → length s.reading.shards ≤ shards → (length failed == length s.reading.shards) ≡ false → nat_lt (length failed) shards ≡ true
+  some_left shards most some =
+      let pairs : List (ShardRead × Asked) = zip s.reading.shards s.asked in
+      let less : length failed ≤ length pairs = length-filter_map (λ (p : ShardRead × Asked). failed_at s.reading.ask (length s.reading.shards) s.asked p.0 p.1) pairs in
+      let other : length failed ≡ length s.reading.shards → ⊥ = eqb-false (length failed) (length s.reading.shards) some in
+      lt-ltb (length failed) shards (below (length failed) (length s.reading.shards) (omega (arith, less, length-zip s.reading.shards s.asked)) other most)
     where
-      at_place : (i : ℕ) (a : Asked) → slice_get (take s.shards s.asked) i ≡ Some a → CountsBelow (2 ^ 32) (i + 0) a
-      at_place i a at top e =
-          let there : (slice_get s.asked i ≡ Some a) × (i < s.shards) = slice_get-take s.shards i s.asked a at in
-          let can : is_top_for (query_of s.ask i) top ≡ true = h.possible i a (asks.Query (query_of s.ask i)) (Top top) there.0 (request_of_query s.ask s.shards s.asked i there.1) (answer_of_top a.answer top e) in
-          ltb-true top.count (2 ^ 32) (third (top.shard == i) true (nat_lt top.count (2 ^ 32)) (nat_le (length top.keys) (window s.ask.body)) (list_all (λ (key : HitKey). (key.shard == i) && is_after None key) top.keys) (ascend top.keys) can)
+      below : (m n : ℕ) → m ≤ n → (m ≡ n → ⊥) → n ≤ shards → m < shards
+      below m n l e k = omega arith
 
-  total_at_most : (shards : ℕ) → s.shards ≤ shards → sum_by (λ (t : ShardTop). t.count) (tops_in s.shards s.asked) ≤ shards * (2 ^ 32)
-  total_at_most shards most = bound (2 ^ 32) (sum_by (λ (t : ShardTop). t.count) (tops_in s.shards s.asked)) (length (tops_in s.shards s.asked)) (total_of_counts (2 ^ 32) 0 (take s.shards s.asked) counts_fit)
-      (let few : length (tops_in s.shards s.asked) ≤ s.shards = few_tops s.shards s.asked in omega arith)
-    where
-      bound : (m total n : ℕ) → total ≤ n * m → n ≤ shards → total ≤ shards * m
-      bound m total n t l = grind (arith, mul-le-mul_right)
-
-  le_lt : (m n : ℕ) → sum_by (λ (t : ShardTop). t.count) (tops_in s.shards s.asked) ≤ m → m < n → sum_by (λ (t : ShardTop). t.count) (tops_in s.shards s.asked) < n
-  le_lt m n a b = omega arith
-
-  pub total_fits : sum_by (λ (t : ShardTop). t.count) (tops_in s.shards s.asked) < 2 ^ 64
-  total_fits = le_lt (4294967295 * (2 ^ 32)) (2 ^ 64) (total_at_most 4294967295 (let few : s.shards < 4294967296 = h.shards_in_range in omega arith)) (lit< tt)
-
-  total_possible : IsShardCount s.shards → nat_lt (sum_by (λ (t : ShardTop). t.count) (tops_in s.shards s.asked)) (2 ^ 36) ≡ true
-  total_possible few = lt-ltb (sum_by (λ (t : ShardTop). t.count) (tops_in s.shards s.asked)) (2 ^ 36) (le_lt (15 * (2 ^ 32)) (2 ^ 36) (total_at_most 15 few.1) (lit< tt))
-
-  -- ---- the rest
-
-  contexts_agree : agrees (opens_context s.ask) (is_some (context_of s.task s.ask)) ≡ true
-  contexts_agree = of_test (opens_context s.ask)
-    where
-      of_test : (b : Bool) → agrees b (is_some (cond b (Some s.task) None)) ≡ true
-      of_test true = refl
-      of_test false = refl
-
-  few_hits : nat_le (length (filter_map (hit_in s.ask s.shards s.asked) (winners_among s.ask.body (tops_in s.shards s.asked)))) s.ask.body.size ≡ true
+  few_hits : nat_le (length hits) s.reading.ask.body.size ≡ true
   few_hits =
-      let won : List HitKey = winners_among s.ask.body (tops_in s.shards s.asked) in
-      let past : List HitKey = drop s.ask.body.from (in_hit_order (flat_map (λ (t : ShardTop). t.keys) (tops_in s.shards s.asked))) in
-      let cut : length won ≡ min s.ask.body.size (length past) = length-take s.ask.body.size past in
-      let less : length (filter_map (hit_in s.ask s.shards s.asked) won) ≤ length won = length-filter_map (hit_in s.ask s.shards s.asked) won in
-      le-leb (length (filter_map (hit_in s.ask s.shards s.asked) won)) s.ask.body.size (omega arith)
+      let won : List HitKey = winners_among s.reading.ask.body (tops_in (length s.reading.shards) s.asked) in
+      let past : List HitKey = drop s.reading.ask.body.from (in_hit_order (flat_map (λ (t : ShardTop). t.keys) (tops_in (length s.reading.shards) s.asked))) in
+      let cut : length won ≡ min s.reading.ask.body.size (length past) = length-take s.reading.ask.body.size past in
+      let less : length hits ≤ length won = length-filter_map (hit_in s.reading.ask (length s.reading.shards) s.asked) won in
+      le-leb (length hits) s.reading.ask.body.size (omega arith)
 
-  few_failed : length (failed_in s.ask s.shards s.asked) ≤ s.shards
-  few_failed =
-      let less : length (failed_in s.ask s.shards s.asked) ≤ length (range_with_len 0 s.shards) = length-filter_map (failed_at s.ask s.shards s.asked) (range_with_len 0 s.shards) in
-      let all : length (range_with_len 0 s.shards) ≡ s.shards = length-range_with_len 0 s.shards in
-      omega arith
+  few_rows : (shards : ℕ) → length s.reading.shards ≤ shards → shards ≤ 15 → nat_lt total (2 ^ 36) ≡ true
+  few_rows shards most few = lt-ltb total (2 ^ 36) (total_below s h 15 (2 ^ 36) (omega arith) (lit< tt))
 
-  pub reply_is_possible : IsShardCount s.shards → can_have s.shards (asks.Search s.ask) (reply_of s) ≡ true
-  reply_is_possible few =
-      by_test (length (failed_in s.ask s.shards s.asked) == s.shards)
+  pub search_is_possible : (task : TaskId) (ask : SearchAsk) (shards : ℕ) → IsShardCount shards → s.reading ≡ search_reading task ask shards → can_have shards (asks.Search ask) (reply_of s) ≡ true
+  search_is_possible task ask shards few is =
+      let long : length s.reading.shards ≡ shards = ap (λ (r : Reading). length r.shards) is ∙ length-map-range_with_len Newest 0 shards in
+      let most : length s.reading.shards ≤ shards = omega arith in
+      let contexts : agrees (opens_context ask) (is_some s.reading.context) ≡ true = ap (λ (r : Reading). agrees (opens_context ask) (is_some r.context)) is ∙ opens (opens_context ask) in
+      let size : nat_le (length hits) ask.body.size ≡ true = ap (λ (r : Reading). nat_le (length hits) r.ask.body.size) (sym is) ∙ few_hits in
+      by_test (length failed == length s.reading.shards)
       (λ all. rw all refl)
-      (λ some.
-      let fewer : nat_lt (length (failed_in s.ask s.shards s.asked)) s.shards ≡ true =
-      lt-ltb (length (failed_in s.ask s.shards s.asked)) s.shards (below (length (failed_in s.ask s.shards s.asked)) s.shards few_failed (eqb-false (length (failed_in s.ask s.shards s.asked)) s.shards some)) in
-      rw some (all_true contexts_agree fewer few_hits (total_possible few)))
+      (λ some. rw some (all_true contexts (some_left shards most some) size (few_rows shards most few.1)))
     where
-      below : (m n : ℕ) → m ≤ n → (m ≡ n → ⊥) → m < n
-      below m n l e = omega arith
+      opens : (b : Bool) → agrees b (is_some (cond b (Some task) None)) ≡ true
+      opens true = refl
+      opens false = refl
 
       all_true : {a b c d : Bool} → a ≡ true → b ≡ true → c ≡ true → d ≡ true → (a && b && c && d) ≡ true
       all_true ha hb hc hd = rw (ha, hb, hc, hd) refl
+
+  pub page_is_possible : (context : Context) (ask : ScrollAsk) (shards : ℕ) → ask.id ≡ context.id → length context.shards ≤ shards → shards ≤ 15 → s.reading ≡ page_reading context
+      → can_have shards (asks.Scroll ask) (reply_of s) ≡ true
+  page_is_possible context ask shards own few most is =
+      let long : length s.reading.shards ≡ length context.shards = ap (λ (r : Reading). length r.shards) is ∙ length-map context.shards Kept in
+      let within : length s.reading.shards ≤ shards = omega arith in
+      let named : option_map_or (same_task ask.id) s.reading.context false ≡ true =
+      ap (λ (r : Reading). option_map_or (same_task ask.id) r.context false) is ∙ ap (same_task ask.id) (sym own) ∙ same_itself ask.id in
+      by_test (length failed == length s.reading.shards)
+      (λ all. rw all refl)
+      (λ some. rw some (all_true named (some_left shards within some) (few_rows shards within most)))
+    where
+      all_true : {a b c : Bool} → a ≡ true → b ≡ true → c ≡ true → (a && b && c) ≡ true
+      all_true ha hb hc = rw (ha, hb, hc) refl

@@ -7,6 +7,7 @@ use Rattle.std.proofs.lemmas.Option.{slice_get_past}
 use Rattle.std.specs.List.{position_or_len, cons_option, list_all}
 use Rattle.std.specs.Map.{lookup}
 use Rattle.std.specs.Option.{option_map_or}
+use Rattle.task_events.specs.declared.reading.ShardRead.{ShardRead}
 use Rattle.task_events.specs.declared.request.FetchAsk.{FetchAsk}
 use Rattle.task_events.specs.declared.request.Request.{Request}
 use Rattle.task_events.specs.declared.request.Request.TheVariants.{Fetch}
@@ -20,7 +21,7 @@ use Rattle.search_phase.specs.Searching.{Searching, AreRising, next_request, nex
 use Rattle.search_phase.specs.FetchPhase.{fetching_of, fetching_in, request_by, fetch_by}
 use Rattle.search_phase.specs.Roots.{IsRoot}
 use Rattle.search_phase.proofs.Sorting.{by_test}
-use Rattle.search_phase.proofs.Requests.{list_all-slice_get, query_requests, requests_after, request_of_query, slice_get-append_right, length-query_requests, length-requests_after, length-requests_before, slice_get_below}
+use Rattle.search_phase.proofs.Requests.{list_all-slice_get, slice_get_none, query_requests, requests_after, request_of_query, slice_get-append_right, length-query_requests, length-requests_after, length-requests_before, slice_get_below}
 use Rattle.search_phase.proofs.Asks.{IsSearching-ask, asks_by, has_queried-ask, tops_in-ask}
 use Rattle.search_phase.proofs.Answered.{IsAwaited, awaited_at, taken, IsSearching-answer, still_queried, tops_stay, untouched_above}
 
@@ -32,24 +33,27 @@ slice_get-map_all f (x ∷ xs) zero = refl
 slice_get-map_all f (x ∷ xs) (suc i) = slice_get-map_all f xs i
 
 module _ (s : Searching) where
-  past_queries : (place : ℕ) → s.shards ≤ place → slice_get (requests_of s.ask s.shards s.asked) place ≡ fetch_by (fetching_in s.ask s.shards s.asked) (place - s.shards)
+  past_queries : (place : ℕ) → length s.reading.shards ≤ place → slice_get (requests_of s.reading s.asked) place ≡ fetch_by (fetching_in s.reading.ask (length s.reading.shards) s.asked) (place - length s.reading.shards)
   past_queries place h =
-      let back : place - s.shards + s.shards ≡ place = omega arith in
-      let fetches : List FetchAsk = fetches_of s.ask (tops_in s.shards s.asked) in
-      by_test (has_queried s.shards s.asked)
-      (λ q. ap (λ l. slice_get l place) (requests_after s.ask s.shards s.asked q)
-      ∙ ap (slice_get (query_requests s.ask s.shards ++ map Fetch fetches)) (sym back)
-      ∙ slice_get-append_right (place - s.shards) s.shards (query_requests s.ask s.shards) (map Fetch fetches) (length-query_requests s.ask s.shards)
-      ∙ slice_get-map_all Fetch fetches (place - s.shards)
-      ∙ ap (λ b. fetch_by (cond b (Some (fetching_of s.ask (tops_in s.shards s.asked))) None) (place - s.shards)) (sym q))
-      (λ waiting. slice_get_past (requests_of s.ask s.shards s.asked) place (omega (arith, length-requests_before s.ask s.shards s.asked waiting))
-      ∙ ap (λ b. fetch_by (cond b (Some (fetching_of s.ask (tops_in s.shards s.asked))) None) (place - s.shards)) (sym waiting))
+      let back : place - length s.reading.shards + length s.reading.shards ≡ place = omega arith in
+      let fetches : List FetchAsk = fetches_of s.reading.ask (tops_in (length s.reading.shards) s.asked) in
+      by_test (has_queried (length s.reading.shards) s.asked)
+      (λ q. ap (λ l. slice_get l place) (requests_after s.reading s.asked q)
+      ∙ ap (slice_get (query_requests s.reading ++ map Fetch fetches)) (sym back)
+      ∙ slice_get-append_right (place - length s.reading.shards) (length s.reading.shards) (query_requests s.reading) (map Fetch fetches) (length-query_requests s.reading)
+      ∙ slice_get-map_all Fetch fetches (place - length s.reading.shards)
+      ∙ ap (λ b. fetch_by (cond b (Some (fetching_of s.reading.ask (tops_in (length s.reading.shards) s.asked))) None) (place - length s.reading.shards)) (sym q))
+      (λ waiting. slice_get_past (requests_of s.reading s.asked) place (omega (arith, length-requests_before s.reading s.asked waiting))
+      ∙ ap (λ b. fetch_by (cond b (Some (fetching_of s.reading.ask (tops_in (length s.reading.shards) s.asked))) None) (place - length s.reading.shards)) (sym waiting))
 
-  pub request_at_place : (fetching : Option Fetching) (capacity : ℕ) → IsRoot s fetching capacity → (place : ℕ) → slice_get (requests_of s.ask s.shards s.asked) place ≡ request_by s.ask s.shards fetching place
+  pub request_at_place : (fetching : Option Fetching) (capacity : ℕ) → IsRoot s fetching capacity → (place : ℕ) → slice_get (requests_of s.reading s.asked) place ≡ request_by s.reading fetching place
   request_at_place fetching capacity h place =
-      by_test (nat_lt place s.shards)
-      (λ below. request_of_query s.ask s.shards s.asked place (ltb-true place s.shards below) ∙ sym (rw below refl))
-      (λ past. past_queries place (ltb-false place s.shards past) ∙ ap (λ o. fetch_by o (place - s.shards)) (sym h.fetching_is) ∙ sym (rw past refl))
+      of_shard (slice_get s.reading.shards place) refl
+    where
+      of_shard : (o : Option ShardRead) → slice_get s.reading.shards place ≡ o → slice_get (requests_of s.reading s.asked) place ≡ request_by s.reading fetching place
+      of_shard (Some at) e = request_of_query s.reading s.asked place at e ∙ sym (rw e refl)
+      of_shard None e =
+          past_queries place (slice_get_none s.reading.shards place e) ∙ ap (λ o. fetch_by o (place - length s.reading.shards)) (sym h.fetching_is) ∙ sym (rw e refl)
 
 -- ---- whether an answer is taken
 
@@ -123,15 +127,15 @@ found_open {X = X} p (x ∷ xs) place e =
 
 pub takes_none : (s : Searching) (ask : ℕ) (reply : Reply) → position (is_open ask) s.asked ≡ None → takes s ask reply ≡ false
 takes_none s ask reply e =
-    ap (λ o. option_map_or (λ request. can_have s.shards request reply) o false)
-    (find-zip (is_open ask) s.asked (requests_of s.ask s.shards s.asked) ∙ ap (λ o. at_first o (requests_of s.ask s.shards s.asked)) (sym (position-first_at (is_open ask) s.asked) ∙ e))
+    ap (λ o. option_map_or (λ request. can_have (length s.reading.shards) request reply) o false)
+    (find-zip (is_open ask) s.asked (requests_of s.reading s.asked) ∙ ap (λ o. at_first o (requests_of s.reading s.asked)) (sym (position-first_at (is_open ask) s.asked) ∙ e))
 
 pub takes_at : (s : Searching) (fetching : Option Fetching) (capacity : ℕ) → IsRoot s fetching capacity → (ask : ℕ) (reply : Reply) (place : ℕ) → position (is_open ask) s.asked ≡ Some place
-    → takes s ask reply ≡ option_map_or (λ request. can_have s.shards request reply) (request_by s.ask s.shards fetching place) false
+    → takes s ask reply ≡ option_map_or (λ request. can_have (length s.reading.shards) request reply) (request_by s.reading fetching place) false
 takes_at s fetching capacity h ask reply place e =
-    ap (λ o. option_map_or (λ request. can_have s.shards request reply) o false)
-    (find-zip (is_open ask) s.asked (requests_of s.ask s.shards s.asked)
-    ∙ ap (λ o. at_first o (requests_of s.ask s.shards s.asked)) (sym (position-first_at (is_open ask) s.asked) ∙ e)
+    ap (λ o. option_map_or (λ request. can_have (length s.reading.shards) request reply) o false)
+    (find-zip (is_open ask) s.asked (requests_of s.reading s.asked)
+    ∙ ap (λ o. at_first o (requests_of s.reading s.asked)) (sym (position-first_at (is_open ask) s.asked) ∙ e)
     ∙ request_at_place s fetching capacity h place)
 
 -- ---- what stays
@@ -155,62 +159,62 @@ few_tops shards asked =
     let l : length (take shards asked) ≡ min shards (length asked) = length-take shards asked in
     omega arith
 
-few_requests : (s : Searching) → length (requests_of s.ask s.shards s.asked) ≤ 2 * s.shards
+few_requests : (s : Searching) → length (requests_of s.reading s.asked) ≤ 2 * length s.reading.shards
 few_requests s =
-    by_test (has_queried s.shards s.asked)
+    by_test (has_queried (length s.reading.shards) s.asked)
     (λ q.
-    let tops : List ShardTop = tops_in s.shards s.asked in
-    let all : length (requests_of s.ask s.shards s.asked) ≡ s.shards + length (fetches_of s.ask tops) = length-requests_after s.ask s.shards s.asked q in
-    let each : length (fetches_of s.ask tops) ≡ length (won_tops s.ask.body tops) = length-map (won_tops s.ask.body tops) (fetch_of s.ask (winners_among s.ask.body tops)) in
-    let won : length (won_tops s.ask.body tops) ≤ length tops = length-filter (has_winner (winners_among s.ask.body tops)) tops in
-    let few : length tops ≤ s.shards = few_tops s.shards s.asked in
+    let tops : List ShardTop = tops_in (length s.reading.shards) s.asked in
+    let all : length (requests_of s.reading s.asked) ≡ length s.reading.shards + length (fetches_of s.reading.ask tops) = length-requests_after s.reading s.asked q in
+    let each : length (fetches_of s.reading.ask tops) ≡ length (won_tops s.reading.ask.body tops) = length-map (won_tops s.reading.ask.body tops) (fetch_of s.reading.ask (winners_among s.reading.ask.body tops)) in
+    let won : length (won_tops s.reading.ask.body tops) ≤ length tops = length-filter (has_winner (winners_among s.reading.ask.body tops)) tops in
+    let few : length tops ≤ length s.reading.shards = few_tops (length s.reading.shards) s.asked in
     omega arith)
-    (λ waiting. let few : length (requests_of s.ask s.shards s.asked) ≡ s.shards = length-requests_before s.ask s.shards s.asked waiting in omega arith)
+    (λ waiting. let few : length (requests_of s.reading s.asked) ≡ length s.reading.shards = length-requests_before s.reading s.asked waiting in omega arith)
 
 module _ (s : Searching) (fetching : Option Fetching) (capacity : ℕ) (h : IsRoot s fetching capacity) where
   -- there is room for the ask that comes next
   pub room_for_ask : wants_to_ask (next_step s) ≡ true → length s.asked < capacity
   room_for_ask plans =
       let some : (request : Request) × (next_request s ≡ Some request) = asks_by _ _ _ plans in
-      let below : length s.asked < length (requests_of s.ask s.shards s.asked) = slice_get_below (requests_of s.ask s.shards s.asked) (length s.asked) some.0 some.1 in
-      let few : length (requests_of s.ask s.shards s.asked) ≤ 2 * s.shards = few_requests s in
-      let room : 2 * s.shards ≤ capacity = h.room in
+      let below : length s.asked < length (requests_of s.reading s.asked) = slice_get_below (requests_of s.reading s.asked) (length s.asked) some.0 some.1 in
+      let few : length (requests_of s.reading s.asked) ≤ 2 * length s.reading.shards = few_requests s in
+      let room : 2 * length s.reading.shards ≤ capacity = h.room in
       omega arith
 
   pub IsRoot-ask : (number more : ℕ) → wants_to_ask (next_step s) ≡ true → is_above number s.asked ≡ true → capacity ≤ more → IsRoot (with_ask s number) fetching more
   IsRoot-ask number more plans above grown =
-      let same : fetching_in s.ask s.shards (with_ask s number).asked ≡ fetching_in s.ask s.shards s.asked =
-      by_test (has_queried s.shards s.asked)
-      (λ q. rw (has_queried-ask s.ask s.shards s.asked number, q) (ap (λ (l : List ShardTop). Some (fetching_of s.ask l)) (tops_in-ask s.ask s.shards s.asked number q)))
-      (λ waiting. rw (has_queried-ask s.ask s.shards s.asked number, waiting) refl) in
-      let room : 2 * s.shards ≤ capacity = h.room in
+      let same : fetching_in s.reading.ask (length s.reading.shards) (with_ask s number).asked ≡ fetching_in s.reading.ask (length s.reading.shards) s.asked =
+      by_test (has_queried (length s.reading.shards) s.asked)
+      (λ q. rw (has_queried-ask s.asked number (length s.reading.shards), q) (ap (λ (l : List ShardTop). Some (fetching_of s.reading.ask l)) (tops_in-ask s.asked number (length s.reading.shards) q)))
+      (λ waiting. rw (has_queried-ask s.asked number (length s.reading.shards), waiting) refl) in
+      let room : 2 * length s.reading.shards ≤ capacity = h.room in
       record { search = IsSearching-ask s number h.search plans above; fetching_is = h.fetching_is ∙ sym same; room = omega arith }
 
   -- once it is known, the fetch phase stays
-  fetching_stays : (ask place : ℕ) (reply : Reply) (request : Request) (a : Asked) → IsAwaited s ask request place a → has_queried s.shards s.asked ≡ true
-      → fetching_in s.ask s.shards (with_answer s ask reply).asked ≡ fetching_in s.ask s.shards s.asked
+  fetching_stays : (ask place : ℕ) (reply : Reply) (request : Request) (a : Asked) → IsAwaited s ask request place a → has_queried (length s.reading.shards) s.asked ≡ true
+      → fetching_in s.reading.ask (length s.reading.shards) (with_answer s ask reply).asked ≡ fetching_in s.reading.ask (length s.reading.shards) s.asked
   fetching_stays ask place reply request a here q =
-      rw (still_queried s ask reply request place a h.search here q, q) (ap (λ (l : List ShardTop). Some (fetching_of s.ask l)) (tops_stay s ask reply request place a h.search here q))
+      rw (still_queried s ask reply request place a h.search here q, q) (ap (λ (l : List ShardTop). Some (fetching_of s.reading.ask l)) (tops_stay s ask reply request place a h.search here q))
 
   pub IsRoot-answer : (ask : ℕ) (reply : Reply) (later : Option Fetching) (more : ℕ) → takes s ask reply ≡ true
-      → later ≡ fetching_in s.ask s.shards (with_answer s ask reply).asked → capacity ≤ more → IsRoot (with_answer s ask reply) later more
+      → later ≡ fetching_in s.reading.ask (length s.reading.shards) (with_answer s ask reply).asked → capacity ≤ more → IsRoot (with_answer s ask reply) later more
   IsRoot-answer ask reply later more t is grown = of_taken (taken s ask reply t)
     where
-      of_taken : (request : Request) × (awaited s ask ≡ Some request) × (can_have s.shards request reply ≡ true) → IsRoot (with_answer s ask reply) later more
+      of_taken : (request : Request) × (awaited s ask ≡ Some request) × (can_have (length s.reading.shards) request reply ≡ true) → IsRoot (with_answer s ask reply) later more
       of_taken (request, waits, can) =
           let at : (place : ℕ) × (a : Asked) × IsAwaited s ask request place a = awaited_at s ask request waits in
-          let room : 2 * s.shards ≤ capacity = h.room in
+          let room : 2 * length s.reading.shards ≤ capacity = h.room in
           record { search = IsSearching-answer s ask reply request at.0 at.1 h.search at.2 can; fetching_is = is; room = omega arith }
 
   -- an answer to a fetch leaves what the fetches ask for
-  pub fetching_kept : (ask : ℕ) (reply : Reply) → takes s ask reply ≡ true → is_some fetching ≡ true → fetching ≡ fetching_in s.ask s.shards (with_answer s ask reply).asked
+  pub fetching_kept : (ask : ℕ) (reply : Reply) → takes s ask reply ≡ true → is_some fetching ≡ true → fetching ≡ fetching_in s.reading.ask (length s.reading.shards) (with_answer s ask reply).asked
   fetching_kept ask reply t known = of_taken (taken s ask reply t)
     where
-      queried : has_queried s.shards s.asked ≡ true
-      queried = by_test (has_queried s.shards s.asked) (λ q. q)
+      queried : has_queried (length s.reading.shards) s.asked ≡ true
+      queried = by_test (has_queried (length s.reading.shards) s.asked) (λ q. q)
           (λ waiting. absurd (let f : is_some fetching ≡ false = ap is_some h.fetching_is ∙ rw waiting refl in let g : false ≡ true = sym f ∙ known in cc))
 
-      of_taken : (request : Request) × (awaited s ask ≡ Some request) × (can_have s.shards request reply ≡ true) → fetching ≡ fetching_in s.ask s.shards (with_answer s ask reply).asked
+      of_taken : (request : Request) × (awaited s ask ≡ Some request) × (can_have (length s.reading.shards) request reply ≡ true) → fetching ≡ fetching_in s.reading.ask (length s.reading.shards) (with_answer s ask reply).asked
       of_taken (request, waits, can) =
           let at : (place : ℕ) × (a : Asked) × IsAwaited s ask request place a = awaited_at s ask request waits in
           h.fetching_is ∙ sym (fetching_stays ask at.0 reply request at.1 at.2 queried)

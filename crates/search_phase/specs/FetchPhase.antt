@@ -1,7 +1,8 @@
 -- What the fetch phase of a search asks for, and the answers that it got.
-use Rattle.std.specs.Prelude.{ℕ, ◌-◌, ◌==◌, nat_lt, List, [], Option, Some, None, map, filter, filter_map, find, zip, drop, slice_get, option_map, option_and_then, if◌then◌else◌}
+use Rattle.std.specs.Prelude.{ℕ, ◌-◌, ◌==◌, List, [], Option, Some, None, map, filter, filter_map, find, zip, length, slice_get, option_map, option_and_then, if◌then◌else◌}
 use Rattle.std.specs.Option.{option_or, option_map_or}
 use Rattle.std.specs.Map.{lookup}
+use Rattle.task_events.specs.declared.reading.ShardRead.{ShardRead}
 use Rattle.task_events.specs.declared.request.HitKey.{HitKey}
 use Rattle.task_events.specs.declared.request.SearchAsk.{SearchAsk}
 use Rattle.task_events.specs.declared.request.FetchAsk.{FetchAsk}
@@ -9,11 +10,13 @@ use Rattle.task_events.specs.declared.request.Request.{Request}
 use Rattle.task_events.specs.declared.request.Request.TheVariants.{Query, Fetch}
 use Rattle.task_events.specs.declared.reply.Hit.{Hit}
 use Rattle.task_events.specs.declared.reply.ShardTop.{ShardTop}
+use Rattle.task_events.specs.declared.reply.ShardCount.{ShardCount}
 use Rattle.task_events.specs.declared.reply.FailedShard.{FailedShard}
 use Rattle.task_events.specs.declared.reply.ShardFailure.{ShardFailure}
 use Rattle.task_events.specs.declared.reply.Reply.{Reply}
 use Rattle.task_events.specs.declared.step.Asked.{Asked}
-use Rattle.task_events.specs.Searches.{query_of, top_of, tops_in, winners_among, has_winner, fetch_of, has_queried, failure_of, hits_of}
+use Rattle.task_events.specs.Readings.{Reading, shard_read}
+use Rattle.task_events.specs.Searches.{query_of, counted, top_of, tops_in, winners_among, has_winner, fetch_of, has_queried, failure_of, hits_of}
 use Rattle.search_phase.specs.declared.fetching.Fetching.{Fetching}
 
 -- the tops among some answers
@@ -42,12 +45,12 @@ fetching_in ask shards asked = if has_queried shards asked then Some (fetching_o
 abbrev pub answer_to : List FetchAsk → List Asked → ℕ → Option Asked
 answer_to fetches answers shard = lookup (λ other. shard == other) (zip (map (λ fetch. fetch.shard) fetches) answers)
 
--- why a shard failed, given all asks and what the fetches among them asked for
-abbrev pub failure_by : List FetchAsk → ℕ → List Asked → ℕ → Option ShardFailure
-failure_by fetches shards asked shard = option_or (option_and_then failure_of (slice_get asked shard)) (option_and_then failure_of (answer_to fetches (drop shards asked) shard))
+-- why a shard failed, given the ask of its query and the answers to some fetches
+abbrev pub failure_by : List FetchAsk → List Asked → ShardRead → Asked → Option ShardFailure
+failure_by fetches answers at query = option_or (failure_of query) (option_and_then failure_of (answer_to fetches answers (shard_read at)))
 
-abbrev pub failed_by : List FetchAsk → ℕ → List Asked → ℕ → Option FailedShard
-failed_by fetches shards asked shard = option_map (λ failure. record { shard = shard; failure = failure }) (failure_by fetches shards asked shard)
+abbrev pub failed_by : List FetchAsk → List Asked → ShardRead × Asked → Option FailedShard
+failed_by fetches answers p = option_map (λ failure. record { shard = shard_read p.0; failure = failure }) (failure_by fetches answers p.0 p.1)
 
 -- the documents of an answer
 abbrev pub hits_in : Option Reply → List Hit
@@ -57,12 +60,22 @@ hits_in answer = option_map_or hits_of answer []
 abbrev pub hit_by : List FetchAsk → List Asked → HitKey → Option Hit
 hit_by fetches answers key = option_and_then (λ a. find (λ hit. key.place == hit.place) (hits_in a.answer)) (answer_to fetches answers key.shard)
 
+-- ---- what the queries counted
+
+-- how many rows match in a shard, given the ask of its query
+abbrev pub count_for : ShardRead × Asked → Option ShardCount
+count_for p = option_map (counted p.0) (option_and_then top_of p.1.answer)
+
 -- ---- what is asked for, by what the fetch phase is about
 
 abbrev pub fetch_by : Option Fetching → ℕ → Option Request
 fetch_by None place = None
 fetch_by (Some fetching) place = option_map Fetch (slice_get fetching.fetches place)
 
+-- the query of the shard at a place
+abbrev pub query_by : Reading → ℕ → Option Request
+query_by r place = option_map (λ at. Query (query_of r at)) (slice_get r.shards place)
+
 -- the request at a place: the queries of the shards, and then the fetches
-abbrev pub request_by : SearchAsk → ℕ → Option Fetching → ℕ → Option Request
-request_by ask shards fetching place = if nat_lt place shards then Some (Query (query_of ask place)) else fetch_by fetching (place - shards)
+abbrev pub request_by : Reading → Option Fetching → ℕ → Option Request
+request_by r fetching place = option_or (query_by r place) (fetch_by fetching (place - length r.shards))

@@ -1,19 +1,19 @@
 //! The answer of a search, put together from the answers to all its asks.
 
-ghost use Rattle.std.specs.Prelude.{◌≡◌, ◌==◌, ◌∷◌, [], ◌++◌, OnOk, find, None, ◌^◌, ◌<◌, ◌≤◌, IfOk, length, map, filter_map, position, slice_get, take, drop, option_copied, option_and_then};
-ghost use Rattle.std.specs.List.{sum_by, range_with_len, last_or};
-ghost use Rattle.task_events.specs.Answers.{context_of};
-ghost use Rattle.task_events.specs.Searches.{failure_of, counted, tops_in};
+ghost use Rattle.std.specs.Prelude.{◌≡◌, ◌==◌, ◌∷◌, [], ◌++◌, OnOk, find, None, ◌^◌, ◌<◌, ◌≤◌, IfOk, length, filter_map, position, slice_get, zip, option_copied, option_and_then};
+ghost use Rattle.std.specs.List.{sum_by, last_or};
+ghost use Rattle.task_events.specs.Searches.{failure_of, counts_in, tops_in};
 ghost use Rattle.search_phase.specs.Searching.{search_answer};
-ghost use Rattle.search_phase.specs.FetchPhase.{tops_of, fetching_of, answer_to, hits_in, failure_by, failed_by, hit_by};
+ghost use Rattle.search_phase.specs.FetchPhase.{fetching_of, answer_to, hits_in, failure_by, failed_by, hit_by, count_for};
 
-use crate::fetching::{Fetching, tops_of};
+use crate::fetching::Fetching;
+use crate::reading::{Reading, shard_read};
 use std::alloc::{AllocError, Global};
 use task_events::{
-    Asked, FailedShard, FetchAsk, Hit, HitKey, Reply, SearchAsk, SearchReply, ShardCount,
-    ShardFailure, ShardTop,
+    Asked, FailedShard, FetchAsk, Hit, HitKey, Reply, SearchReply, ShardCount, ShardFailure,
+    ShardRead,
 };
-use task_ids::{Items, TaskId};
+use task_ids::Items;
 
 /// Why a task failed, where it did.
 fn failure_of(asked: Option<&Asked>) -> Option<ShardFailure>
@@ -57,33 +57,32 @@ fn answer_to<'a>(fetches: &[FetchAsk], answers: &'a [Asked], shard: u32) -> Opti
 /// Why a shard failed: in the query, or else in the fetch.
 fn failure_at(
     fetches: &[FetchAsk],
-    shards: u32,
-    asked: &[Asked],
-    shard: u32,
+    answers: &[Asked],
+    at: ShardRead,
+    query: &Asked,
 ) -> Option<ShardFailure>
-    requires { shards ≤ length asked.now }
-    ensures { result ≡ failure_by fetches.now shards asked.now shard }
+    ensures { result ≡ failure_by fetches.now answers.now at query.now }
 {
-    let query = failure_of(asked_at(asked, shard as usize));
-    if query.is_some() {
-        return query;
+    let failure = failure_of(Some(query));
+    if failure.is_some() {
+        return failure;
     }
-    failure_of(answer_to(fetches, &asked[shards as usize..], shard))
+    failure_of(answer_to(fetches, answers, shard_read(at)))
 }
 
 fn add_failure(
     failed: &mut Vec<FailedShard>,
     fetches: &[FetchAsk],
-    shards: u32,
-    asked: &[Asked],
-    shard: u32,
+    answers: &[Asked],
+    at: ShardRead,
+    query: &Asked,
 ) -> Result<(), AllocError>
-    requires { shards ≤ length asked.now }
     ensures { OnOk result (failed.new.items
-        ≡ failed.old.items ++ filter_map (failed_by fetches.now shards asked.now) (shard ∷ [])) }
+        ≡ failed.old.items ++ filter_map (failed_by fetches.now answers.now) ((at, query.now) ∷ [])) }
 {
-    match failure_at(fetches, shards, asked, shard) {
+    match failure_at(fetches, answers, at, query) {
         Some(failure) => {
+            let shard = shard_read(at);
             failed.push(FailedShard { shard, failure })?;
             Ok(())
         }
@@ -91,19 +90,20 @@ fn add_failure(
     }
 }
 
+/// The shards that failed, given the asks of their queries and the answers to the fetches.
 fn failed_shards(
     alloc: Global,
+    shards: &[ShardRead],
+    queries: &[Asked],
     fetches: &[FetchAsk],
-    shards: u32,
-    asked: &[Asked],
+    answers: &[Asked],
 ) -> Result<Items<FailedShard>, AllocError>
-    requires { shards ≤ length asked.now }
     ensures { IfOk result (λ failed.
-        failed ≡ filter_map (failed_by fetches.now shards asked.now) (range_with_len 0 shards)) }
+        failed ≡ filter_map (failed_by fetches.now answers.now) (zip shards.now queries.now)) }
 {
     let mut failed = Vec::new(alloc);
-    for shard in 0..shards {
-        add_failure(&mut failed, fetches, shards, asked, shard)?;
+    for (at, query) in shards.iter().zip(queries) {
+        add_failure(&mut failed, fetches, answers, *at, query)?;
     }
     Ok(Items::from_vec(failed))
 }
@@ -171,27 +171,57 @@ fn hits_of_winners(
     Ok(Items::from_vec(hits))
 }
 
-fn counts_of(alloc: Global, tops: &[&ShardTop]) -> Result<Items<ShardCount>, AllocError>
-    ensures { IfOk result (λ counts. counts ≡ map counted (map (λ top. top.now) tops.now)) }
+/// How many rows match in a shard, where its query was answered: as many as are kept of it, or else as were counted.
+fn count_of(at: ShardRead, query: &Asked) -> Option<ShardCount>
+    ensures { result ≡ count_for (at, query.now) }
 {
-    let mut counts = Vec::with_capacity(alloc, tops.len())?;
-    for top in tops {
-        counts.push(ShardCount {
-            shard: top.shard,
-            version: top.version,
-            count: top.count,
-        })?;
+    let Some(Reply::Top(top)) = &query.answer else {
+        return None;
+    };
+    match at {
+        ShardRead::Newest(_) => {
+            let top = top.get();
+            Some(ShardCount {
+                shard: top.shard,
+                version: top.version,
+                count: top.count,
+            })
+        }
+        ShardRead::Kept(kept) => Some(kept),
+    }
+}
+
+fn add_count(counts: &mut Vec<ShardCount>, at: ShardRead, query: &Asked) -> Result<(), AllocError>
+    ensures { OnOk result (counts.new.items
+        ≡ counts.old.items ++ filter_map count_for ((at, query.now) ∷ [])) }
+{
+    if let Some(count) = count_of(at, query) {
+        counts.push(count)?;
+    }
+    Ok(())
+}
+
+fn counts_of(
+    alloc: Global,
+    shards: &[ShardRead],
+    queries: &[Asked],
+) -> Result<Items<ShardCount>, AllocError>
+    ensures { IfOk result (λ counts. counts ≡ filter_map count_for (zip shards.now queries.now)) }
+{
+    let mut counts = Vec::new(alloc);
+    for (at, query) in shards.iter().zip(queries) {
+        add_count(&mut counts, *at, query)?;
     }
     Ok(Items::from_vec(counts))
 }
 
-fn total_of(tops: &[&ShardTop]) -> u64
-    requires { sum_by (λ top. top.count) (map (λ top. top.now) tops.now) < 2 ^ 64 }
-    ensures { result ≡ sum_by (λ top. top.count) (map (λ top. top.now) tops.now) }
+fn total_of(counts: &[ShardCount]) -> u64
+    requires { sum_by (λ n. n.count) counts.now < 2 ^ 64 }
+    ensures { result ≡ sum_by (λ n. n.count) counts.now }
 {
     let mut total = 0;
-    for top in tops {
-        total += top.count;
+    for count in counts {
+        total += count.count;
     }
     total
 }
@@ -205,26 +235,18 @@ fn last_of(won: &[HitKey]) -> Result<Option<HitKey>, AllocError>
     }
 }
 
-fn context_of(task: TaskId, ask: &SearchAsk) -> Option<TaskId>
-    ensures { result ≡ context_of task ask.now }
+/// How many rows match in the shards that answered, and in all of them.
+fn counted_in(
+    alloc: Global,
+    reading: &Reading,
+    asked: &[Asked],
+) -> Result<(Items<ShardCount>, u64), AllocError>
+    requires { sum_by (λ n. n.count) (counts_in reading.now asked.now) < 2 ^ 64 }
+    ensures { IfOk result (λ counted. counted
+        ≡ (counts_in reading.now asked.now, sum_by (λ n. n.count) (counts_in reading.now asked.now))) }
 {
-    if ask.scroll.is_some() || ask.owner.is_some() {
-        Some(task)
-    } else {
-        None
-    }
-}
-
-/// What the queries counted: the counts of the shards, and their total.
-fn counted_in(alloc: Global, queries: &[Asked]) -> Result<(Items<ShardCount>, u64), AllocError>
-    requires { sum_by (λ top. top.count) (tops_of queries.now) < 2 ^ 64 }
-    ensures { IfOk result (λ counted_in. counted_in
-        ≡ (map counted (tops_of queries.now), sum_by (λ top. top.count) (tops_of queries.now))) }
-{
-    let tops = tops_of(alloc, queries)?;
-    let found = tops.as_slice();
-    let counts = counts_of(alloc, found)?;
-    let total = total_of(found);
+    let counts = counts_of(alloc, reading.shards(), asked)?;
+    let total = total_of(counts.as_slice());
     Ok((counts, total))
 }
 
@@ -246,22 +268,23 @@ fn hits_and_last(
 /// The answer of a search whose asks are all answered. Its failed shards may be all.
 pub(crate) fn answer(
     alloc: Global,
-    task: TaskId,
-    ask: &SearchAsk,
-    shards: u32,
+    reading: &Reading,
     asked: &[Asked],
     fetching: &Fetching,
 ) -> Result<SearchReply, AllocError>
-    requires all_asked { shards ≤ length asked.now }
-    requires fetching { fetching.now ≡ fetching_of ask.now (tops_in shards asked.now) }
-    requires total { sum_by (λ top. top.count) (tops_in shards asked.now) < 2 ^ 64 }
-    ensures { IfOk result (λ answer. answer ≡ search_answer task ask.now shards asked.now) }
+    requires all_asked { length reading.now.shards ≤ length asked.now }
+    requires fetching { fetching.now ≡ fetching_of reading.now.ask (tops_in (length reading.now.shards) asked.now) }
+    requires total { sum_by (λ n. n.count) (counts_in reading.now asked.now) < 2 ^ 64 }
+    ensures { IfOk result (λ answer. answer ≡ search_answer reading.now asked.now) }
 {
-    let failed = failed_shards(alloc, fetching.fetches.as_slice(), shards, asked)?;
-    let (counts, total) = counted_in(alloc, &asked[..shards as usize])?;
-    let (hits, last) = hits_and_last(alloc, fetching, &asked[shards as usize..])?;
+    let shards = reading.shards();
+    let answers = &asked[shards.len()..];
+    let fetches = fetching.fetches.as_slice();
+    let failed = failed_shards(alloc, shards, asked, fetches, answers)?;
+    let (counts, total) = counted_in(alloc, reading, asked)?;
+    let (hits, last) = hits_and_last(alloc, fetching, answers)?;
     Ok(SearchReply {
-        context: context_of(task, ask),
+        context: reading.context(),
         shards: counts,
         failed,
         total,

@@ -1,28 +1,36 @@
 //! The requests of a search, by place.
 
-ghost use Rattle.std.specs.Prelude.{◌≡◌, IfOk, Some, false, is_some, option_map, option_copied};
+ghost use Rattle.std.specs.Prelude.{◌≡◌, IfOk, ℕ, Some, false, is_some, option_map, option_copied};
 ghost use Rattle.std.specs.Option.{option_map_or};
-ghost use Rattle.task_events.specs.declared.request.SearchAsk.{SearchAsk};
 ghost use Rattle.task_events.specs.Kinds.{can_have};
 ghost use Rattle.task_events.specs.Searches.{query_of};
 ghost use Rattle.search_phase.specs.FetchPhase.{fetch_by, request_by};
 
 use crate::fetching::Fetching;
 use crate::possible::{fetch_can_have, query_can_have};
+use crate::reading::{Reading, copy_cursor, shard_read, version_read};
 use shared_value::Shared;
 use std::alloc::{AllocError, Global};
-use task_events::{FetchAsk, Reply, Request, SearchAsk, ShardAsk};
+use task_events::{FetchAsk, Reply, Request, ShardAsk, ShardRead};
 
 /// The request of the query of a shard.
-fn query_request(alloc: Global, ask: &SearchAsk, shard: u32) -> Result<Option<Request>, AllocError>
-    ensures { IfOk result (λ request. request ≡ Some (Request.Query (query_of ask.now shard))) }
+fn query_request(
+    alloc: Global,
+    reading: &Reading,
+    at: ShardRead,
+) -> Result<Option<Request>, AllocError>
+    ensures { IfOk result (λ request. request ≡ Some (Request.Query (query_of reading.now at))) }
 {
+    let ask = reading.ask();
+    let after = copy_cursor(reading.after())?;
+    let index = ask.index.copy()?;
+    let body = ask.body.copy()?;
     let query = ShardAsk {
-        index: ask.index.copy()?,
-        shard,
-        body: ask.body.copy()?,
-        version: None,
-        after: None,
+        index,
+        shard: shard_read(at),
+        body,
+        version: version_read(at),
+        after,
         slice: ask.slice,
     };
     let query = Shared::new(alloc, query)?;
@@ -49,26 +57,27 @@ fn fetch_at(fetching: &Option<Fetching>, place: usize) -> Option<&FetchAsk>
 }
 
 /// Whether a search asks for something at a place.
-pub(crate) fn has_request(shards: u32, fetching: &Option<Fetching>, place: usize) -> bool
-    ensures { (ask : SearchAsk) → result ≡ is_some (request_by ask shards fetching.now place) }
+pub(crate) fn has_request(reading: &Reading, fetching: &Option<Fetching>, place: usize) -> bool
+    ensures { result ≡ is_some (request_by reading.now fetching.now place) }
 {
-    place < shards as usize || fetch_at(fetching, place - shards as usize).is_some()
+    let shards = reading.shards();
+    place < shards.len() || fetch_at(fetching, place - shards.len()).is_some()
 }
 
 /// What a search asks for at a place: the query of each shard, and then the fetches.
 pub(crate) fn request_at(
     alloc: Global,
-    ask: &SearchAsk,
-    shards: u32,
+    reading: &Reading,
     fetching: &Option<Fetching>,
     place: usize,
 ) -> Result<Option<Request>, AllocError>
-    ensures { IfOk result (λ request. request ≡ request_by ask.now shards fetching.now place) }
+    ensures { IfOk result (λ request. request ≡ request_by reading.now fetching.now place) }
 {
-    if place < shards as usize {
-        return query_request(alloc, ask, place as u32);
+    let shards = reading.shards();
+    if let Some(at) = shards.get(place) {
+        return query_request(alloc, reading, *at);
     }
-    match fetch_at(fetching, place - shards as usize) {
+    match fetch_at(fetching, place - shards.len()) {
         Some(fetch) => fetch_request(alloc, fetch),
         None => Ok(None),
     }
@@ -76,19 +85,19 @@ pub(crate) fn request_at(
 
 /// Whether what a search asks for at a place can have this reply.
 pub(crate) fn can_answer(
-    ask: &SearchAsk,
-    shards: u32,
+    reading: &Reading,
     fetching: &Option<Fetching>,
     place: usize,
     reply: &Reply,
 ) -> bool
-    ensures { let request = request_by ask.now shards fetching.now place in
+    ensures { (shards : ℕ) → let request = request_by reading.now fetching.now place in
         result ≡ option_map_or (λ request. can_have shards request reply.now) request false }
 {
-    if place < shards as usize {
-        return query_can_have(ask, place as u32, reply);
+    let shards = reading.shards();
+    if let Some(at) = shards.get(place) {
+        return query_can_have(reading, *at, reply);
     }
-    match fetch_at(fetching, place - shards as usize) {
+    match fetch_at(fetching, place - shards.len()) {
         Some(fetch) => fetch_can_have(fetch, reply),
         None => false,
     }

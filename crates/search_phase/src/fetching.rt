@@ -122,24 +122,24 @@ pub(crate) fn are_answered(asked: &[Asked]) -> bool
     asked.iter().all(|a| a.answer.is_some())
 }
 
-fn has_queried(shards: u32, asked: &[Asked]) -> bool
+fn has_queried(shards: usize, asked: &[Asked]) -> bool
     ensures queried { result ≡ has_queried shards asked.now }
     ensures long { result ≡ true → shards ≤ length asked.now }
 {
-    shards as usize <= asked.len() && are_answered(&asked[..shards as usize])
+    shards <= asked.len() && are_answered(&asked[..shards])
 }
 
 /// What the fetch phase asks for, once all queries are answered.
 pub(crate) fn fetching_in(
     alloc: Global,
     ask: &SearchAsk,
-    shards: u32,
+    shards: usize,
     asked: &[Asked],
 ) -> Result<Option<Fetching>, AllocError>
     ensures { IfOk result (λ fetching. fetching ≡ fetching_in ask.now shards asked.now) }
 {
     if has_queried(shards, asked) {
-        let fetching = fetching_of(alloc, ask, &asked[..shards as usize])?;
+        let fetching = fetching_of(alloc, ask, &asked[..shards])?;
         Ok(Some(fetching))
     } else {
         Ok(None)

@@ -50,7 +50,8 @@ fn keep(first: &mut BinaryHeap<HitKey>, most: usize, key: HitKey)
     }
 }
 
-fn is_after(after: &Option<HitKey>, key: &HitKey) -> bool
+/// Whether a key stands after the cursor, where there is one.
+pub(crate) fn is_after(after: &Option<HitKey>, key: &HitKey) -> bool
     ensures { result ≡ is_after after.now key.now }
 {
     match after {

@@ -11,10 +11,14 @@ mod looking;
 mod merging;
 mod possible;
 mod query;
+mod reading;
 mod root;
 
 pub use fetch::{FetchAnswer, ShardFetch};
 pub use merging::merge;
 pub use query::{ShardQuery, TurnAnswer};
 pub use root::{RootPlan, SearchRoot};
-pub use task_events::{FetchAsk, HitKey, SearchAsk, ShardAsk, ShardTop, SlicePick};
+pub use task_events::{
+    Context, FetchAsk, HitKey, ScrollAsk, SearchAsk, SearchReply, ShardAsk, ShardCount,
+    ShardCounts, ShardRead, ShardTop, SlicePick,
+};

@@ -1,14 +1,19 @@
 //! Which replies the asks of a search can have.
 
-ghost use Rattle.std.specs.Prelude.{◌≡◌, ℕ, ◌==◌, true, map};
+ghost use Rattle.std.specs.Prelude.{◌≡◌, ℕ, ◌==◌, ◌&&◌, true, map};
 ghost use Rattle.std.specs.List.{list_all};
+ghost use Rattle.std.specs.Option.{option_map_or};
 ghost use Rattle.std.specs.Str.{bytes_eq};
 ghost use Rattle.task_events.specs.FetchTask.{are_among};
+ghost use Rattle.task_events.specs.HitOrder.{is_after};
 ghost use Rattle.task_events.specs.QueryTask.{ascend, is_top_for};
 ghost use Rattle.task_events.specs.Kinds.{can_have};
+ghost use Rattle.task_events.specs.Readings.{version_read};
 ghost use Rattle.task_events.specs.Searches.{query_of};
 
-use task_events::{FetchAsk, Hit, HitKey, Reply, Request, SearchAsk, ShardTop};
+use crate::keeping::is_after;
+use crate::reading::{Reading, shard_read, version_read};
+use task_events::{FetchAsk, Hit, HitKey, Reply, Request, ShardRead, ShardTop};
 
 /// A count of rows is below this.
 const MAX_COUNT: u64 = 4_294_967_296;
@@ -24,38 +29,47 @@ fn is_ascending(keys: &[HitKey]) -> bool
     true
 }
 
-fn are_of_shard(keys: &[HitKey], shard: u32) -> bool
-    ensures { result ≡ list_all (λ key. key.shard == shard) keys.now }
+/// Whether all keys are of the shard, and stand after the cursor.
+fn are_of_shard(keys: &[HitKey], shard: u32, after: &Option<HitKey>) -> bool
+    ensures { result ≡ list_all (λ key. (key.shard == shard) && is_after after.now key) keys.now }
 {
-    for key in keys {
-        if key.shard != shard {
-            return false;
-        }
-    }
-    true
+    keys.iter()
+        .all(|key| key.shard == shard && is_after(after, key))
 }
 
-fn is_top_for(ask: &SearchAsk, shard: u32, top: &ShardTop) -> bool
-    ensures { result ≡ is_top_for (query_of ask.now shard) top.now }
+/// Whether it is the version that is asked for, where one is.
+fn is_version_of(at: ShardRead, version: u32) -> bool
+    ensures { result ≡ option_map_or (λ asked. version == asked) (version_read at) true }
+{
+    match version_read(at) {
+        Some(asked) => version == asked,
+        None => true,
+    }
+}
+
+fn is_top_for(reading: &Reading, at: ShardRead, top: &ShardTop) -> bool
+    ensures { result ≡ is_top_for (query_of reading.now at) top.now }
 {
     let keys = top.keys.as_slice();
-    let body = ask.body.get();
+    let body = reading.ask().body.get();
     let window = u64::from(body.from) + u64::from(body.size);
+    let shard = shard_read(at);
     top.shard == shard
+        && is_version_of(at, top.version)
         && top.count < MAX_COUNT
         && keys.len() as u64 <= window
-        && are_of_shard(keys, shard)
+        && are_of_shard(keys, shard, reading.after())
         && is_ascending(keys)
 }
 
 /// Whether the query of a shard can have this reply.
-pub(crate) fn query_can_have(ask: &SearchAsk, shard: u32, reply: &Reply) -> bool
+pub(crate) fn query_can_have(reading: &Reading, at: ShardRead, reply: &Reply) -> bool
     ensures { (shards : ℕ) →
-        result ≡ can_have shards (Request.Query (query_of ask.now shard)) reply.now }
+        result ≡ can_have shards (Request.Query (query_of reading.now at)) reply.now }
 {
     match reply {
         Reply::Cancelled { .. } | Reply::Rejected { .. } => true,
-        Reply::Top(top) => is_top_for(ask, shard, top.get()),
+        Reply::Top(top) => is_top_for(reading, at, top.get()),
         Reply::Search(_) | Reply::Hits(_) | Reply::AllFailed(_) => false,
     }
 }

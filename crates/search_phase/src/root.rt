@@ -1,20 +1,26 @@
-//! A search of all shards of an index.
+//! A search of all shards of an index, and a page of one.
 
-ghost use Rattle.std.specs.Prelude.{◌≡◌, ◌<◌, ℕ, List, IfOk, OnOk, OnErr, Some, is_some, true, length, position, slice_get, slice_set, vec_capacity};
+ghost use Rattle.std.specs.Prelude.{◌≡◌, ◌<◌, ◌≤◌, ℕ, List, Option, IfOk, OnOk, OnErr, Some, is_some, true, length, position, slice_get, slice_set, vec_capacity, option_copied};
 ghost use Rattle.task_ids.specs.declared.doc.Doc.{Doc};
+ghost use Rattle.task_ids.specs.declared.task_id.TaskId.{TaskId};
 ghost use Rattle.task_ids.specs.Limits.{IsShardCount};
+ghost use Rattle.task_events.specs.declared.context.Context.{Context};
+ghost use Rattle.task_events.specs.declared.request.ScrollAsk.{ScrollAsk};
+ghost use Rattle.task_events.specs.declared.request.SearchAsk.{SearchAsk};
 ghost use Rattle.task_events.specs.declared.step.Asked.{Asked};
 ghost use Rattle.task_events.specs.Kinds.{can_have};
+ghost use Rattle.task_events.specs.Readings.{search_reading, page_reading};
 ghost use Rattle.task_events.specs.Searches.{are_answered};
-ghost use Rattle.search_phase.specs.Searching.{new_search, next_request, next_step, is_open, wants_to_ask, has_ended, does_wait, is_above, with_ask, takes, with_answer, AllHonest, plain_reply, answer_of, reply_with};
+ghost use Rattle.search_phase.specs.Searching.{reading_for, new_search, next_request, next_step, is_open, wants_to_ask, has_ended, does_wait, is_above, with_ask, takes, with_answer, AllHonest, plain_reply, answer_of, reply_with};
 ghost use Rattle.search_phase.specs.Plans.{plan_of};
 
 use crate::answer::answer;
 use crate::asking::{can_answer, has_request, request_at};
 use crate::fetching::{Fetching, are_answered, fetching_in};
+use crate::reading::Reading;
 use std::alloc::{AllocError, Global};
 use std::marker::Model;
-use task_events::{Asked, Reply, Request, SearchAsk, SearchReply};
+use task_events::{Asked, Context, Reply, Request, SearchAsk, SearchReply};
 use task_ids::TaskId;
 
 /// What a search does next.
@@ -29,14 +35,13 @@ pub enum RootPlan {
 }
 
 /// A search of all shards of an index in two phases, after Elasticsearch's search API: it asks for the query of each
-/// shard, merges their keys, asks each shard with a winner for its documents, and puts the answer together.
+/// shard, merges their keys, asks each shard with a winner for its documents, and puts the answer together. A page of one, after
+/// Elasticsearch's scroll API, does so over the shards of a context, each at the version that it keeps and after its cursor.
 ///
 /// A shard whose query or fetch was cancelled or rejected has failed, and the others' hits remain.
 #[derive(Drop)]
 pub struct SearchRoot {
-    task: TaskId,
-    ask: SearchAsk,
-    shards: u32,
+    reading: Reading,
     /// The asks so far, with the answers that have come.
     asked: Vec<Asked>,
     fetching: Option<Fetching>,
@@ -44,25 +49,23 @@ pub struct SearchRoot {
 
 impl Model for SearchRoot {
     ghost use Rattle.std.specs.Coded.{codes};
+    ghost use Rattle.task_events.specs.contracts.request.HitKey as hit_key;
     ghost use Rattle.task_events.specs.contracts.request.SearchAsk as search_ask;
+    ghost use Rattle.task_events.specs.contracts.reading.ShardRead as shard_read;
     ghost use Rattle.task_events.specs.contracts.step.Asked as asked_row;
+    ghost use Rattle.task_ids.specs.contracts.task_id.TaskId as task_id;
     ghost use Rattle.search_phase.specs.Searching.{Searching};
 
     ghost Value = { Searching };
 
-    ghost coded = { Prim.hlevel (codes, search_ask.the_row.coded, asked_row.the_row.coded) };
+    ghost coded = { Prim.hlevel (codes, search_ask.the_row.coded, hit_key.the_row.coded, shard_read.the_row.coded, task_id.the_row.coded, asked_row.the_row.coded) };
 
     ghost use Rattle.std.specs.Prelude.{vec_capacity};
     ghost use Rattle.search_phase.specs.Roots.{IsRoot};
 
-    ghost view = { λ r. record { task = r.task; ask = r.ask; shards = r.shards; asked = r.asked.items } };
+    ghost view = { λ r. record { reading = r.reading; asked = r.asked.items } };
 
-    ghost invariant = { λ r. IsRoot (record {
-      task = r.task;
-      ask = r.ask;
-      shards = r.shards;
-      asked = r.asked.items;
-    }) r.fetching (vec_capacity r.asked) };
+    ghost invariant = { λ r. IsRoot (record { reading = r.reading; asked = r.asked.items }) r.fetching (vec_capacity r.asked) };
 }
 
 /// The place of the ask of this number, where it has no answer yet.
@@ -85,23 +88,23 @@ fn set_answer(asked: &mut Vec<Asked>, place: usize, answer: Option<Reply>)
 }
 
 impl SearchRoot {
-    /// A search that has asked for nothing yet, with room for all its asks. It copies what is asked for. It fails only
-    /// for want of memory.
+    /// A page of a context, where one is given, or else a search of an index with so many shards, which has asked for nothing
+    /// yet, with room for all its asks. It copies what it looks through. It fails only for want of memory.
     pub fn new(
         alloc: Global,
         task: TaskId,
         ask: &SearchAsk,
         shards: u32,
+        context: Option<&Context>,
     ) -> Result<SearchRoot, AllocError>
-        ensures { IfOk result (λ root. root ≡ new_search task ask.now shards) }
+        ensures { IfOk result (λ root. root ≡ new_search (reading_for task ask.now shards (option_copied context.entry))) }
     {
-        let asked = Vec::with_capacity(alloc, 2 * shards as usize)?;
-        let ask = ask.copy()?;
-        let fetching = fetching_in(alloc, &ask, shards, asked.as_slice())?;
+        let reading = Reading::new(alloc, task, ask, shards, context)?;
+        let shards = reading.shards().len();
+        let asked = Vec::with_capacity(alloc, 2 * shards)?;
+        let fetching = fetching_in(alloc, reading.ask(), shards, asked.as_slice())?;
         Ok(SearchRoot {
-            task,
-            ask,
-            shards,
+            reading,
             asked,
             fetching,
         })
@@ -113,7 +116,7 @@ impl SearchRoot {
     {
         let alloc = *self.asked.allocator();
         let place = self.asked.as_slice().len();
-        request_at(alloc, &self.ask, self.shards, &self.fetching, place)
+        request_at(alloc, &self.reading, &self.fetching, place)
     }
 
     fn has_all_answers(&self) -> bool
@@ -126,7 +129,7 @@ impl SearchRoot {
         ensures { result ≡ is_some (next_request self.now) }
     {
         let place = self.asked.as_slice().len();
-        has_request(self.shards, &self.fetching, place)
+        has_request(&self.reading, &self.fetching, place)
     }
 
     /// Whether it waits for an answer: it has asked for all that it can ask for, and not all answers have come. It takes
@@ -166,7 +169,7 @@ impl SearchRoot {
         ensures { result ≡ takes self.now ask reply.now }
     {
         match place_of(self.asked.as_slice(), ask) {
-            Some(place) => can_answer(&self.ask, self.shards, &self.fetching, place, reply),
+            Some(place) => can_answer(&self.reading, &self.fetching, place, reply),
             None => false,
         }
     }
@@ -185,7 +188,8 @@ impl SearchRoot {
             return Ok(());
         }
         let alloc = *self.asked.allocator();
-        match fetching_in(alloc, &self.ask, self.shards, self.asked.as_slice()) {
+        let shards = self.reading.shards().len();
+        match fetching_in(alloc, self.reading.ask(), shards, self.asked.as_slice()) {
             Ok(fetching) => {
                 self.fetching = fetching;
                 Ok(())
@@ -197,34 +201,46 @@ impl SearchRoot {
         }
     }
 
-    /// How many shards the index has. `task_work` asks it, which makes the reply of the answer.
-    pub fn shards(&self) -> u32
-        ensures { result ≡ self.now.shards }
+    /// How many shards it looks through. `task_work` asks it, which makes the reply of the answer.
+    pub fn shards(&self) -> usize
+        ensures { result ≡ length self.now.reading.shards }
     {
-        self.shards
+        self.reading.shards().len()
+    }
+
+    /// What is looked for.
+    pub fn ask(&self) -> &SearchAsk
+        ensures { result.now ≡ self.now.reading.ask }
+    {
+        self.reading.ask()
+    }
+
+    /// The context that its answer names: that which it opens, or that of which it is a page.
+    pub fn context(&self) -> Option<TaskId>
+        ensures { result ≡ self.now.reading.context }
+    {
+        self.reading.context()
     }
 
     /// The answer, once all asks are answered; its failed shards may be all. Where every answer says what its shard's
-    /// writes say, it is the plain answer: one list of all rows that match, in hit order and cut. It fails only for want
-    /// of memory.
+    /// writes say, it is the plain answer: one list of all rows that match, in hit order, after the cursor and cut. It fails
+    /// only for want of memory.
     pub fn finish(&self) -> Result<SearchReply, AllocError>
         requires { has_ended (next_step self.now) ≡ true }
         ensures answer { IfOk result (λ answer. answer ≡ answer_of self.now) }
         ensures plain { (writes : ℕ → List Doc) → AllHonest writes self.now
-            → IfOk result (λ answer. reply_with self.now.shards answer ≡ plain_reply writes self.now) }
-        ensures possible { IsShardCount self.now.shards → IfOk result (λ answer.
-            can_have self.now.shards (Request.Search self.now.ask) (reply_with self.now.shards answer) ≡ true) }
+            → IfOk result (λ answer. reply_with (length self.now.reading.shards) answer ≡ plain_reply writes self.now) }
+        ensures possible { (task : TaskId) (ask : SearchAsk) (shards : ℕ) → IsShardCount shards
+            → self.now.reading ≡ search_reading task ask shards → IfOk result (λ answer.
+            can_have shards (Request.Search ask) (reply_with (length self.now.reading.shards) answer) ≡ true) }
+        ensures page_possible { (context : Context) (ask : ScrollAsk) (shards : ℕ) → ask.id ≡ context.id
+            → length context.shards ≤ shards → shards ≤ 15 → self.now.reading ≡ page_reading context → IfOk result (λ answer.
+            can_have shards (Request.Scroll ask) (reply_with (length self.now.reading.shards) answer) ≡ true) }
     {
         let Some(fetching) = &self.fetching else {
             unreachable!()
         };
-        answer(
-            *self.asked.allocator(),
-            self.task,
-            &self.ask,
-            self.shards,
-            self.asked.as_slice(),
-            fetching,
-        )
+        let alloc = *self.asked.allocator();
+        answer(alloc, &self.reading, self.asked.as_slice(), fetching)
     }
 }

@@ -3,6 +3,7 @@
 
 mod fetch;
 mod query;
+mod scroll;
 mod search;
 mod work;
 

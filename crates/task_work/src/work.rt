@@ -1,12 +1,13 @@
-ghost use Rattle.std.specs.Prelude.{◌≡◌, List, IfOk, OnOk, OnErr, true, option_map};
+ghost use Rattle.std.specs.Prelude.{◌≡◌, List, IfOk, OnOk, OnErr, Some, true, is_some, option_map, option_copied};
 ghost use Rattle.task_ids.specs.declared.doc.Doc.{Doc};
 ghost use Rattle.task_events.specs.Tasks.{no_counts};
-ghost use Rattle.task_work.specs.Works.{new_work, IsWorkOn, HasTurned, next_of, with_turn, can_ask, work_with_ask, work_takes, work_with_answer, EndsPlainly, does_wait, place_of};
+ghost use Rattle.task_work.specs.Works.{is_page, new_work, IsWorkOn, HasTurned, next_of, with_turn, can_ask, work_with_ask, work_takes, work_with_answer, EndsPlainly, does_wait, place_of};
 
 use crate::fetch::{hits_reply, turn_of_fetch};
 use crate::query::{top_reply, turn_of_query};
+use crate::scroll::new_page;
 use crate::search::next_of_search;
-use search_phase::{SearchRoot, ShardFetch, ShardQuery};
+use search_phase::{Context, SearchRoot, ShardFetch, ShardQuery};
 use shard_docs::Shard;
 use std::alloc::{AllocError, Global};
 use task_events::{Do, Hit, Reply, Request, ShardTop};
@@ -21,22 +22,28 @@ pub enum Work {
     Query(ShardQuery, Option<ShardTop>),
     /// The fetch phase in one shard, and what it found, once it has looked up all places.
     Fetch(ShardFetch, Option<Items<Hit>>),
+    /// A page of a search, which asks for queries and fetches as the search does.
+    Scroll(SearchRoot),
 }
 
 impl Work {
-    /// The work of a new task. It copies what is asked for. It fails only for want of memory.
+    /// The work of a new task; that of a page is over the context that is given. It copies what is asked for. It fails only for
+    /// want of memory.
     pub fn new(
         alloc: Global,
         task: TaskId,
         request: &Request,
         cluster: &Cluster,
+        context: Option<&Context>,
     ) -> Result<Work, AllocError>
-        ensures work { IfOk result (λ work. work ≡ new_work task request.now cluster.now.shards) }
+        requires given { is_some context ≡ is_page request.now }
+        ensures work { IfOk result (λ work.
+            new_work task request.now cluster.now.shards (option_copied context.entry) ≡ Some work) }
         ensures begun { (writes : List Doc) → IfOk result (λ work. IsWorkOn work writes) }
     {
         match request {
             Request::Search(ask) => {
-                let root = SearchRoot::new(alloc, task, ask.get(), cluster.shards)?;
+                let root = SearchRoot::new(alloc, task, ask.get(), cluster.shards, None)?;
                 Ok(Work::Search(root))
             }
             Request::Query(ask) => {
@@ -47,15 +54,22 @@ impl Work {
                 let ask = ask.get().copy()?;
                 Ok(Work::Fetch(ShardFetch::new(alloc, ask), None))
             }
+            Request::Scroll(_) => {
+                let Some(context) = context else {
+                    unreachable!()
+                };
+                let root = new_page(alloc, task, cluster.shards, context)?;
+                Ok(Work::Scroll(root))
+            }
         }
     }
 
-    /// The index and the shard, from 0, of which it looks at the documents. A search looks at none.
+    /// The index and the shard, from 0, of which it looks at the documents. A search and a page look at none.
     pub fn place(&self) -> Option<(&str, u32)>
         ensures { option_map (λ place. (place.0.now, place.1)) result ≡ place_of self.now }
     {
         match self {
-            Work::Search(_) => None,
+            Work::Search(_) | Work::Scroll(_) => None,
             Work::Query(query, _) => {
                 let ask = query.ask();
                 Some((ask.index.get().as_str(), ask.shard))
@@ -75,7 +89,7 @@ impl Work {
         ensures plain { IfOk result (λ step. EndsPlainly self.now step) }
     {
         match self {
-            Work::Search(root) => next_of_search(root),
+            Work::Search(root) | Work::Scroll(root) => next_of_search(root),
             Work::Query(_, Some(top)) => Ok(Do::Finish(top_reply(top)?)),
             Work::Fetch(_, Some(hits)) => Ok(Do::Finish(hits_reply(hits)?)),
             Work::Query(_, None) | Work::Fetch(_, None) => Ok(Do::Turn),
@@ -87,7 +101,7 @@ impl Work {
         ensures { (writes : List Doc) → result ≡ does_wait (next_of self.now writes) }
     {
         match self {
-            Work::Search(root) => root.waits(),
+            Work::Search(root) | Work::Scroll(root) => root.waits(),
             Work::Query(_, _) | Work::Fetch(_, _) => false,
         }
     }
@@ -100,6 +114,7 @@ impl Work {
     {
         match self {
             Work::Search(root) => root.asked(ask),
+            Work::Scroll(root) => root.asked(ask),
             Work::Query(_, _) | Work::Fetch(_, _) => unreachable!(),
         }
     }
@@ -109,7 +124,7 @@ impl Work {
         ensures { result ≡ work_takes self.now ask reply.now }
     {
         match self {
-            Work::Search(root) => root.takes(ask, reply),
+            Work::Search(root) | Work::Scroll(root) => root.takes(ask, reply),
             Work::Query(_, _) | Work::Fetch(_, _) => false,
         }
     }
@@ -123,6 +138,7 @@ impl Work {
     {
         match self {
             Work::Search(root) => root.feed(ask, reply),
+            Work::Scroll(root) => root.feed(ask, reply),
             Work::Query(_, _) | Work::Fetch(_, _) => unreachable!(),
         }
     }
@@ -138,7 +154,7 @@ impl Work {
         ensures err { OnErr result (self.new ≡ self.old) }
     {
         match self {
-            Work::Search(_) => unreachable!(),
+            Work::Search(_) | Work::Scroll(_) => unreachable!(),
             Work::Query(query, top) => turn_of_query(query, top, shard),
             Work::Fetch(fetch, hits) => turn_of_fetch(fetch, hits, shard),
         }

@@ -1,24 +1,34 @@
--- Each top adds its count.
-use Rattle.std.proofs.Common.{sym, ◌∙◌, ap, ◌++◌, [], ◌∷◌, map, take, Bor}
-use Rattle.std.proofs.lemmas.List.{take_all, map_push}
-use Rattle.task_events.specs.declared.reply.ShardTop.{ShardTop}
-use Rattle.task_events.specs.Searches.{counted}
-use Rattle.search_phase.proofs.FetchAnswers.{one_more}
+-- Each top adds how many rows match.
+use Rattle.std.proofs.Common.{sym, ◌∙◌, ap, ◌++◌, [], ◌∷◌, filter_map, length, take, Bor}
+use Rattle.std.specs.Prelude.{zip}
+use Rattle.std.proofs.lemmas.List.{length_push}
+use Rattle.std.proofs.lemmas.Slice.Zip.{zip_turn, zip_end}
+use Rattle.task_events.specs.declared.reading.ShardRead.{ShardRead}
+use Rattle.task_events.specs.declared.step.Asked.{Asked}
+use Rattle.search_phase.specs.FetchPhase.{count_for}
+use Rattle.search_phase.proofs.FetchAnswers.{zip_step, zip_all}
 use Rattle.search_phase.proofs.answer.counts_of.Goals as goal
 
-pub loop-top-init : goal.loop-top-init
-loop-top-init c = c.in_ok-counts.ensures.items
+pub loop-at-init : goal.loop-at-init
+loop-at-init c = c.new-counts.ensures.items
 
-pub loop-top-preserved : goal.loop-top-preserved
-loop-top-preserved c =
-    let now = λ (top : Bor ShardTop). top.now in
-    let tops = take c.loop-top.top-index c.args.tops.now in
-    let top = c.top-item.result in
-    c.in_ok-push.ensures.items ∙ ap (λ l. l ++ counted top.now ∷ []) c.loop-top.invariant
-    ∙ sym (ap (λ l. map counted (map now l)) (one_more c.args.tops.now c.loop-top.top-index top c.loop-top-test.true c.top-item.is)
-    ∙ ap (map counted) (map_push now tops top) ∙ map_push counted (map now tops) top.now)
+pub loop-at-preserved : goal.loop-at-preserved
+loop-at-preserved c =
+    let f = count_for in
+    let shards = c.args.shards.now in
+    let queries = c.args.queries.now in
+    let at = c.in-Some.at.now in
+    let query = c.in-Some.query.now in
+    let before = c.loop-at.yielded in
+    let pair : Bor ShardRead × Bor Asked = (c.in-Some.at, c.in-Some.query) in
+    let turn = zip_turn shards queries before c.into_iter-at-iterator.result c.loop-at.at-iterator c.next.new.self c.next.result (cc) (cc) c.loop-at.yielded_by pair c.in-Some.is c.next.ensures.steps in
+    c.in_ok-add_count.ensures ∙ ap (λ l. l ++ filter_map f ((at, query) ∷ [])) c.loop-at.invariant
+    ∙ sym (ap (λ n. filter_map f (take n (zip shards queries))) (length_push before pair)
+    ∙ zip_step f shards queries (length before) at query turn.0 turn.1 (turn.2 at) (turn.3 query))
 
 pub returns : goal.returns
 returns c =
-    c.from_vec.ensures ∙ c.loop-top.invariant
-    ∙ ap (λ l. map counted (map (λ (top : Bor ShardTop). top.now) l)) (take_all c.loop-top.top-index c.args.tops.now c.loop-top-test.false)
+    let f = count_for in
+    let before = c.loop-at.yielded in
+    let end = zip_end c.args.shards.now c.args.queries.now before c.into_iter-at-iterator.result c.loop-at.at-iterator c.next.new.self c.next.result (cc) (cc) c.loop-at.yielded_by c.in-None.is c.next.ensures.steps in
+    c.from_vec.ensures ∙ c.loop-at.invariant ∙ zip_all f c.args.shards.now c.args.queries.now (length before) end

@@ -1,6 +1,7 @@
-use Rattle.std.proofs.Common.{◌≡◌, map, take}
-use Rattle.task_events.specs.Searches.{counted}
+use Rattle.std.proofs.Common.{◌≡◌, filter_map, length, take}
+use Rattle.std.specs.Prelude.{zip}
+use Rattle.search_phase.specs.FetchPhase.{count_for}
 use Rattle.search_phase.proofs.answer.counts_of.Given as goal
 
-abbrev pub invariant-loop-top : goal.invariant-loop-top
-invariant-loop-top l = l.counts.items ≡ map counted (map (λ top. top.now) (take l.top-index l.tops))
+abbrev pub invariant-loop-at : goal.invariant-loop-at
+invariant-loop-at l = l.counts.items ≡ filter_map count_for (take (length l.yielded) (zip l.shards l.queries))

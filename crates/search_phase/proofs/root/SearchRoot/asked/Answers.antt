@@ -8,7 +8,7 @@ use Rattle.search_phase.proofs.root.SearchRoot.asked.Goals as goal
 
 pub unreachable-requires : goal.unreachable-requires
 unreachable-requires c =
-    let s : Searching = record { task = c.self.inside.task; ask = c.self.inside.ask; shards = c.self.inside.shards; asked = c.self.inside.asked.items } in
+    let s : Searching = record { reading = c.self.inside.reading; asked = c.self.inside.asked.items } in
     let plans : wants_to_ask (next_step s) ≡ true = ap (λ s. wants_to_ask (next_step s)) c.self.view_is ∙ c.requires.planned in
     let room : length c.self.inside.asked.items < vec_capacity c.self.inside.asked = room_for_ask s c.self.inside.fetching _ c.self.invariant plans in
     let full : vec_capacity c.self.inside.asked ≤ vec_len c.self.inside.asked = c.in-Err.ensures.full in
@@ -16,8 +16,8 @@ unreachable-requires c =
 
 pub invariant_of-self : goal.invariant_of-self
 invariant_of-self c =
-    let s : Searching = record { task = c.self.inside.task; ask = c.self.inside.ask; shards = c.self.inside.shards; asked = c.self.inside.asked.items } in
+    let s : Searching = record { reading = c.self.inside.reading; asked = c.self.inside.asked.items } in
     let plans : wants_to_ask (next_step s) ≡ true = ap (λ s. wants_to_ask (next_step s)) c.self.view_is ∙ c.requires.planned in
     let above : is_above c.args.ask s.asked ≡ true = ap (λ (s : Searching). is_above c.args.ask s.asked) c.self.view_is ∙ c.requires.above in
-    let Q : List Asked → Type 0 = λ l. IsRoot (record { task = c.self.inside.task; ask = c.self.inside.ask; shards = c.self.inside.shards; asked = l }) c.self.inside.fetching (vec_capacity c.push.new.self) in
+    let Q : List Asked → Type 0 = λ l. IsRoot (record { reading = c.self.inside.reading; asked = l }) c.self.inside.fetching (vec_capacity c.push.new.self) in
     subst Q (sym c.in-Ok.ensures.items) (IsRoot-ask s c.self.inside.fetching (vec_capacity c.self.inside.asked) c.self.invariant c.args.ask (vec_capacity c.push.new.self) plans above (omega arith))

@@ -7,8 +7,8 @@ use Rattle.search_phase.proofs.root.SearchRoot.next_request.Goals as goal
 
 pub returns : goal.returns
 returns c =
-    let s : Searching = record { task = c.self.inside.task; ask = c.self.inside.ask; shards = c.self.inside.shards; asked = c.self.inside.asked.items } in
+    let s : Searching = record { reading = c.self.inside.reading; asked = c.self.inside.asked.items } in
     IfOk-weaker c.request_at.result _ _
-    (λ request e. e ∙ ap (request_by s.ask s.shards c.self.inside.fetching) (ap length c.as_slice-place.ensures.value)
+    (λ request e. e ∙ ap (request_by s.reading c.self.inside.fetching) (ap length c.as_slice-place.ensures.value)
     ∙ sym (request_at_place s c.self.inside.fetching _ c.self.invariant (length s.asked)) ∙ ap next_request c.self.view_is)
     c.request_at.ensures
