@@ -4,12 +4,14 @@ use Rattle.std.proofs.lemmas.List.{reverse-reverse, drop_more}
 use Rattle.task_ids.specs.declared.cluster.Cluster.{Cluster}
 use Rattle.task_ids.specs.declared.corpus.Corpus.{Corpus}
 use Rattle.script_lang.specs.declared.command.Command.{Command}
-use Rattle.script_lang.specs.declared.command.Command.TheVariants.{Search, Cancel, ListTasks, Deliver, Step, ListStep, Settle, History}
+use Rattle.script_lang.specs.declared.command.Command.TheVariants.{Search, Scroll, ClearScroll, Tick, Cancel, ListTasks, Deliver, Step, ListStep, Settle, History}
 use Rattle.script_lang.specs.declared.command.Script.{Script}
 use Rattle.task_events.specs.declared.event.Event.{Event}
+use Rattle.task_events.specs.Printed.{shards_read}
+use Rattle.task_events.specs.Tasks.{reply_of}
 use Rattle.task_events.specs.Turns.{events_of, history_before}
 use Rattle.line_print.specs.declared.note.Note.{Note}
-use Rattle.line_print.specs.Lines.{idle_error, idle_line, list_line, moved_line, line_of, lines_from, note_of, printed, printed_by, TellsNote, IsFound}
+use Rattle.line_print.specs.Lines.{first_in, full_node_in, started, search_line, page_refusal, clear_line, tick_line, idle_error, idle_line, list_line, moved_line, line_of, lines_from, note_of, printed, printed_by, TellsNote, IsFound}
 
 -- the events in order, from the newest on
 turned : (events history : List Event) → events ≡ reverse history → reverse events ≡ history
@@ -29,7 +31,11 @@ same_move script k (e ∷ es) noted other h = refl
 
 same_line : (cluster : Cluster) (corpus : Corpus) (script : List Command) (history : List Event) (k : ℕ) (command : Command) (noted other : Option Note) → (TellsNote k command history → noted ≡ other)
     → line_of cluster corpus script history k command noted ≡ line_of cluster corpus script history k command other
-same_line cluster corpus script history k (Search index node body opaque_id) noted other h = refl
+same_line cluster corpus script history k (Search index node scroll body opaque_id) noted other h = refl
+same_line cluster corpus script history k (Scroll target keep opaque_id) noted other h =
+    ap (λ (n : Option Note). search_line shards_read script k (page_refusal n (first_in full_node_in (events_of k history))) (option_and_then (λ t. reply_of t history) (started k history))) (h tt)
+same_line cluster corpus script history k (ClearScroll target) noted other h = ap (clear_line k) (h tt)
+same_line cluster corpus script history k (Tick ms) noted other h = ap (tick_line k) (h tt)
 same_line cluster corpus script history k (Cancel target reason wait) noted other h = refl
 same_line cluster corpus script history k (ListTasks wanted group detailed) noted other h = ap (list_line k) (h tt)
 same_line cluster corpus script history k Settle noted other h = refl

@@ -1,14 +1,17 @@
 -- The texts of a reply's parts, as they are appended one after another.
-use Rattle.std.proofs.Common.{◌≡◌, ℕ, ◌+◌, ◌-◌, ◌<◌, ◌≤◌, Bool, true, false, List, [], ◌∷◌, ◌++◌, length, get_or, drop, map, codes, refl, sym, ap, ◌∙◌, append_assoc, decimal}
+use Rattle.std.proofs.Common.{◌≡◌, ℕ, ◌+◌, ◌-◌, ◌<◌, ◌≤◌, Bool, true, false, List, [], ◌∷◌, ◌++◌, Option, Some, None, length, get_or, drop, map, codes, refl, sym, ap, ◌∙◌, append_assoc, decimal}
 use Rattle.std.proofs.lemmas.List.{drop_all, drop_more}
 use Rattle.json.specs.Print.{quoted, escape_byte}
-use Rattle.serde_json.specs.Data.{Data, Items, array}
+use Rattle.serde_json.specs.Data.{Data, Items, array, string}
 use Rattle.serde_json.specs.View.{items_of}
 use Rattle.serde_json.specs.Written.{comma_if, compact_text, items_text}
 use Rattle.task_events.specs.declared.reply.Hit.{Hit}
 use Rattle.task_events.specs.declared.reply.SearchReply.{SearchReply}
 use Rattle.line_print.specs.Lines.{error_line, text_line}
-use Rattle.task_events.specs.Printed.{hit_json, hits_json, shards_json, search_json, total_json, reply_line}
+use Rattle.task_events.specs.Printed.{hit_json, hits_json, shards_json, search_json, total_json, scroll_member, object_of, reply_line}
+use Rattle.task_ids.specs.TaskId.{task_id_text}
+use Rattle.task_ids.specs.declared.task_id.TaskId.{TaskId}
+use Rattle.line_print.specs.Replies.{opening}
 
 -- parts that were appended in turn are appended as one
 pub appended : (o a b c d e f g : List ℕ) → ((((((o ++ a) ++ b) ++ c) ++ d) ++ e) ++ f) ++ g ≡ o ++ (a ++ (b ++ (c ++ (d ++ (e ++ (f ++ g))))))
@@ -53,13 +56,22 @@ pub found_text : (reply : SearchReply) (o : List ℕ)
     → ((((o ++ codes "{\"hits\":[") ++ items_text false (items_of (map hit_json reply.hits))) ++ codes ",\"total\":") ++ compact_text (total_json reply.total)) ++ codes "}" ≡ o ++ compact_text (hits_json reply)
 found_text reply o = appended_five o _ _ _ _ _ ∙ ap (λ text. o ++ text) (found_parts reply)
 
-reply_parts : (shards : ℕ) (reply : SearchReply)
-    → codes "{\"_shards\":" ++ (compact_text (shards_json shards (length reply.failed)) ++ (codes ",\"hits\":" ++ (compact_text (hits_json reply) ++ codes "}"))) ≡ compact_text (search_json shards reply)
+opened_parts : (shards : ℕ) (reply : SearchReply) (context : Option TaskId)
+    → opening context ++ (compact_text (shards_json shards (length reply.failed)) ++ (codes ",\"hits\":" ++ (compact_text (hits_json reply) ++ codes "}"))) ≡ compact_text (object_of (scroll_member context ++ (codes "_shards", shards_json shards (length reply.failed)) ∷ (codes "hits", hits_json reply) ∷ []))
 unfolding escape_byte
-reply_parts shards reply = refl
+opened_parts shards reply None = refl
+opened_parts shards reply (Some id) = ap (λ text. codes "{\"_scroll_id\":" ++ text) (append_assoc (compact_text (string (task_id_text id))) (codes ",\"_shards\":") _)
+
+-- the id of a context, appended part by part
+pub opening_text : (id : TaskId) (o : List ℕ) → ((o ++ codes "{\"_scroll_id\":") ++ compact_text (string (task_id_text id))) ++ codes ",\"_shards\":" ≡ o ++ opening (Some id)
+opening_text id o = appended_three o _ _ _
+
+reply_parts : (shards : ℕ) (reply : SearchReply)
+    → opening reply.context ++ (compact_text (shards_json shards (length reply.failed)) ++ (codes ",\"hits\":" ++ (compact_text (hits_json reply) ++ codes "}"))) ≡ compact_text (search_json shards reply)
+reply_parts shards reply = opened_parts shards reply reply.context
 
 pub reply_text : (shards : ℕ) (reply : SearchReply) (o : List ℕ)
-    → ((((o ++ codes "{\"_shards\":") ++ compact_text (shards_json shards (length reply.failed))) ++ codes ",\"hits\":") ++ compact_text (hits_json reply)) ++ codes "}" ≡ o ++ compact_text (search_json shards reply)
+    → ((((o ++ opening reply.context) ++ compact_text (shards_json shards (length reply.failed))) ++ codes ",\"hits\":") ++ compact_text (hits_json reply)) ++ codes "}" ≡ o ++ compact_text (search_json shards reply)
 reply_text shards reply o = appended_five o _ _ _ _ _ ∙ ap (λ text. o ++ text) (reply_parts shards reply)
 
 line_parts : (command : ℕ) (reply : Data)

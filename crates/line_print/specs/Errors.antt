@@ -12,6 +12,8 @@ use Rattle.task_events.specs.declared.reply.FailedShard.{FailedShard}
 use Rattle.task_events.specs.declared.reply.ShardFailure.{ShardFailure}
 use Rattle.task_events.specs.declared.reply.ShardFailure.TheVariants.{Cancelled, Rejected}
 use Rattle.task_events.specs.Printed.{object_of, count}
+use Rattle.scroll_table.specs.declared.context.PageError.{PageError}
+use Rattle.scroll_table.specs.declared.context.PageError.TheVariants.{Missing, Busy}
 
 -- ---- why a search did not start
 
@@ -65,6 +67,15 @@ id_or_null (Some task) = string (task_id_text task)
 
 abbrev pub not_found : Option TaskId → Data
 not_found task = object_of ((codes "task", id_or_null task) ∷ (codes "type", string (codes "not_found")) ∷ [])
+
+-- why a context gives no page
+abbrev pub context_fault : PageError → List ℕ
+context_fault Missing = codes "context_missing"
+context_fault Busy = codes "context_busy"
+
+-- the context of a scroll, which a command names, gives no page
+abbrev pub context_error : Option TaskId → PageError → Data
+context_error id error = object_of ((codes "scroll_id", id_or_null id) ∷ (codes "type", string (context_fault error)) ∷ [])
 
 -- an error of which there is nothing more to tell
 abbrev pub plain_error : List ℕ → Data

@@ -2,3 +2,4 @@ pub mod Ends
 pub mod Errors
 pub mod Lines
 pub mod Looked
+pub mod Replies

@@ -1,5 +1,5 @@
 -- The lines of a script's output: one JSON object a command, compact, its keys in byte order, and a newline. Commands are numbered from 1.
-use Rattle.std.specs.Prelude.{◌≡◌, ℕ, ◌+◌, ◌-◌, Bool, true, false, List, [], ◌∷◌, ◌++◌, length, map, filter_map, if◌then◌else◌, Option, Some, None, option_and_then, Result, Ok, Err, codes, decimal, slice_get, nat_le, unwrap_or, ⊤}
+use Rattle.std.specs.Prelude.{◌≡◌, ℕ, ◌+◌, ◌-◌, Bool, true, false, List, [], ◌∷◌, ◌++◌, length, map, filter_map, if◌then◌else◌, Option, Some, None, is_some, option_map, option_and_then, Result, Ok, Err, codes, decimal, slice_get, nat_le, unwrap_or, ⊤}
 use Rattle.std.specs.List.{list_any}
 use Rattle.std.specs.Str.{bytes_eq}
 use Rattle.serde_json.specs.Data.{Data, boolean, string, array}
@@ -17,21 +17,25 @@ use Rattle.script_lang.specs.declared.command.CancelTarget.TheVariants.{Task, Ma
 use Rattle.script_lang.specs.declared.command.Command.{Command}
 use Rattle.script_lang.specs.declared.command.Command.TheVariants as commands
 use Rattle.script_lang.specs.declared.command.Script.{Script}
-use Rattle.command_roots.specs.Roots.{rows_of}
+use Rattle.command_roots.specs.Roots.{context_named, least_size, page_answer, rows_of, scripted}
+use Rattle.scroll_table.specs.declared.context.PageError.{PageError}
+use Rattle.task_events.specs.declared.context.Context.{Context}
 use Rattle.task_events.specs.declared.event.Event.{Event}
 use Rattle.task_events.specs.declared.event.Event.TheVariants.{Root, RootRejected, Refuse, Cancel, NotFound, End}
 use Rattle.task_events.specs.declared.reply.Reply.{Reply}
+use Rattle.task_events.specs.declared.reply.SearchReply.{SearchReply}
 use Rattle.task_events.specs.declared.reply.Reply.TheVariants.{Search, AllFailed, Cancelled}
-use Rattle.task_events.specs.Printed.{object_of, count, search_json, reply_line}
+use Rattle.task_events.specs.Printed.{object_of, count, search_json, shards_read, reply_line}
 use Rattle.task_events.specs.Tasks.{no_counts, is_live, reply_of}
 use Rattle.task_events.specs.Messages.{in_flight}
 use Rattle.task_events.specs.Texts.{event_text}
-use Rattle.task_events.specs.TaskRows.{clock}
+use Rattle.task_events.specs.Clock.{clock}
+use Rattle.task_events.specs.Contexts.{can_clear, context_at}
 use Rattle.task_events.specs.Turns.{events_of, events_before, history_before}
 use Rattle.tasks_api.specs.Lists.{list_text}
 use Rattle.line_print.specs.declared.note.Note.{Note}
-use Rattle.line_print.specs.declared.note.Note.TheVariants.{NoSuchMessage, NotRunning, Waiting, NoListing, Listed}
-use Rattle.line_print.specs.Errors.{body_error, index_not_found, rejected, task_cancelled, all_shards_failed, not_found, plain_error, no_such_message}
+use Rattle.line_print.specs.declared.note.Note.TheVariants.{NoSuchMessage, NotRunning, Waiting, NoListing, NoPage, Freed, Moment, Listed}
+use Rattle.line_print.specs.Errors.{body_error, index_not_found, rejected, task_cancelled, all_shards_failed, not_found, context_error, plain_error, no_such_message}
 
 -- the line of a command that has no reply
 abbrev pub error_line : ℕ → Data → List ℕ
@@ -106,17 +110,44 @@ abbrev pub fault_in : Result SearchBody BodyError → Option BodyError
 fault_in (Err fault) = Some fault
 fault_in (Ok body) = None
 
--- how a search ended: with its hits, or with all its shards failed, or cancelled
-abbrev pub ended_line : ℕ → List Command → ℕ → Option Reply → List ℕ
-ended_line shards script k (Some (Search reply)) = reply_line k (search_json shards reply)
+-- How a search ended: with its hits and how many shards they are of, or with all its shards failed, or cancelled.
+abbrev pub ended_line : (SearchReply → ℕ) → List Command → ℕ → Option Reply → List ℕ
+ended_line shards script k (Some (Search reply)) = reply_line k (search_json (shards reply) reply)
 ended_line shards script k (Some (AllFailed failed)) = error_line k (all_shards_failed failed)
 ended_line shards script k (Some (Cancelled t c counts)) = error_line k (task_cancelled (reason_of script c) t)
 ended_line shards script k _ = []
 
 -- why a search has no task, or how its task ended
-abbrev pub search_line : ℕ → List Command → ℕ → Option Data → Option Reply → List ℕ
+abbrev pub search_line : (SearchReply → ℕ) → List Command → ℕ → Option Data → Option Reply → List ℕ
 search_line shards script k (Some error) reply = error_line k error
 search_line shards script k None reply = ended_line shards script k reply
+
+-- ---- scrolls
+
+-- why a scroll has no task: its context gives no page, as was noted, or a node has no free slot
+abbrev pub page_refusal : Option Note → Option ℕ → Option Data
+page_refusal (Some (NoPage id error)) full_node = Some (context_error id error)
+page_refusal noted full_node = option_map rejected full_node
+
+-- whether a clear freed a context, after Elasticsearch's clear scroll API
+abbrev pub cleared : Bool → Data
+cleared freed = object_of ((codes "num_freed", count (if freed then 1 else 0)) ∷ (codes "succeeded", boolean true) ∷ [])
+
+-- what was noted of a clear
+abbrev pub clear_line : ℕ → Option Note → List ℕ
+clear_line k (Some (Freed freed)) = reply_line k (cleared freed)
+clear_line k _ = []
+
+-- ---- ticks
+
+-- the moment by the clock
+abbrev pub moment_json : ℕ → Data
+moment_json now = object_of ((codes "now", count now) ∷ [])
+
+-- the moment that was noted
+abbrev pub tick_line : ℕ → Option Note → List ℕ
+tick_line k (Some (Moment now)) = reply_line k (moment_json now)
+tick_line k _ = []
 
 -- ---- cancels
 
@@ -146,12 +177,25 @@ cancel_line k target wait events =
 
 -- ---- what is noted of a command before it begins
 
--- why a line of a schedule makes nothing happen, or the reply of a list
+-- why a scroll has no page, if it has none
+abbrev pub page_note : Option TaskId → Result Context PageError → Option Note
+page_note id (Err error) = Some (NoPage id error)
+page_note id (Ok context) = None
+
+-- whether a context that is named can be cleared
+abbrev pub frees : Script → Option TaskId → List Event → Bool
+frees script id past = can_clear None (option_and_then (λ t. context_at (scripted script) t past) id)
+
+-- why a line of a schedule makes nothing happen or a scroll has no page, whether a clear frees a context, the moment after a tick, or the
+-- reply of a list
 abbrev pub note_of : Cluster → Script → Command → List Event → Option Note
 note_of cluster script (commands.Deliver nth) past = Some (NoSuchMessage (length (in_flight past)))
 note_of cluster script (commands.Step t) past = Some (if is_live t past then Waiting else NotRunning)
 note_of cluster script (commands.ListStep n p) past = Some NoListing
 note_of cluster script (commands.ListTasks wanted group detailed) past = Some (Listed (list_text group detailed (clock past) wanted (rows_of cluster script past)))
+note_of cluster script (commands.Scroll target keep opaque_id) past = page_note (context_named target past) (page_answer script target past)
+note_of cluster script (commands.ClearScroll target) past = Some (Freed (frees script (context_named target past) past))
+note_of cluster script (commands.Tick ms) past = Some (Moment (clock past + ms))
 note_of cluster script _ past = None
 
 -- ---- lists
@@ -173,7 +217,7 @@ idle_error (NoSuchMessage in_flight) = Some (no_such_message in_flight)
 idle_error NotRunning = Some (plain_error (codes "not_running"))
 idle_error Waiting = Some (plain_error (codes "waiting"))
 idle_error NoListing = Some (plain_error (codes "no_listing"))
-idle_error (Listed text) = None
+idle_error _ = None
 
 abbrev pub idle_line : ℕ → Option Data → List ℕ
 idle_line k None = []
@@ -189,10 +233,15 @@ settled events = object_of ((codes "events", count events) ∷ [])
 
 -- ---- all lines
 
--- The line of a command. The last is what was noted of it, which tells what a list lists, and of a line of a schedule why nothing happened.
+-- The line of a command. The last is what was noted of it, which tells what a list lists, why a scroll has no page, what a clear freed, the
+-- moment after a tick, and of a line of a schedule why nothing happened.
 abbrev pub line_of : Cluster → Corpus → List Command → List Event → ℕ → Command → Option Note → List ℕ
-line_of cluster corpus script history k (commands.Search index node body opaque_id) noted =
-    search_line cluster.shards script k (refusal index (body_at false 0 body) (is_known corpus index) (first_in full_node_in (events_of k history))) (option_and_then (λ t. reply_of t history) (started k history))
+line_of cluster corpus script history k (commands.Search index node scroll body opaque_id) noted =
+    search_line (λ reply. cluster.shards) script k (refusal index (body_at (is_some scroll) (least_size scroll) body) (is_known corpus index) (first_in full_node_in (events_of k history))) (option_and_then (λ t. reply_of t history) (started k history))
+line_of cluster corpus script history k (commands.Scroll target keep opaque_id) noted =
+    search_line shards_read script k (page_refusal noted (first_in full_node_in (events_of k history))) (option_and_then (λ t. reply_of t history) (started k history))
+line_of cluster corpus script history k (commands.ClearScroll target) noted = clear_line k noted
+line_of cluster corpus script history k (commands.Tick ms) noted = tick_line k noted
 line_of cluster corpus script history k (commands.Cancel target reason wait) noted = cancel_line k (target_in script history target) wait (events_of k history)
 line_of cluster corpus script history k (commands.ListTasks wanted group detailed) noted = list_line k noted
 line_of cluster corpus script history k commands.Settle noted = reply_line k (settled (length (events_of k history)))
@@ -214,9 +263,12 @@ printed cluster corpus script history = lines_from (λ k command. line_of cluste
 abbrev pub printed_by : List (Option Note) → Cluster → Corpus → List Command → List Event → List ℕ
 printed_by found cluster corpus script history = lines_from (λ k command. line_of cluster corpus script history k command (unwrap_or (slice_get found (k - 1)) None)) 1 script
 
--- the line of a command tells what was noted of it: the command is a list, or nothing happened
+-- the line of a command tells what was noted of it: the command is a list, a scroll, a clear or a tick, or nothing happened
 abbrev pub TellsNote : ℕ → Command → List Event → Type 0
 TellsNote k (commands.ListTasks wanted group detailed) history = ⊤
+TellsNote k (commands.Scroll target keep opaque_id) history = ⊤
+TellsNote k (commands.ClearScroll target) history = ⊤
+TellsNote k (commands.Tick ms) history = ⊤
 TellsNote k _ history = events_of k history ≡ []
 
 -- what the lines tell of it was noted of each command

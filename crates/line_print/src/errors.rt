@@ -6,10 +6,11 @@ ghost use Rattle.query_parse.specs.declared.fault.BodyError.TheVariants.{BadQuer
 ghost use Rattle.serde_json.specs.View.{view, items_of, members_view};
 ghost use Rattle.task_ids.specs.TaskId.{task_id_text, node_name};
 ghost use Rattle.task_events.specs.declared.reply.ShardFailure.TheVariants.{Cancelled, Rejected};
-ghost use Rattle.line_print.specs.Errors.{body_error, index_not_found, rejected, task_cancelled, shard_failure, failed_shard, all_shards_failed, id_or_null, not_found, plain_error, no_such_message, field_error, fault_name};
+ghost use Rattle.line_print.specs.Errors.{body_error, index_not_found, rejected, task_cancelled, shard_failure, failed_shard, all_shards_failed, id_or_null, not_found, context_fault, context_error, plain_error, no_such_message, field_error, fault_name};
 
 use crate::members::{of_type, with_member, with_number, with_text};
 use query_parse::{BodyError, QueryFault};
+use scroll_table::PageError;
 use serde_json::{Map, Value};
 use std::alloc::{AllocError, Global};
 use task_events::{FailedShard, ShardFailure};
@@ -201,6 +202,28 @@ pub(crate) fn not_found(alloc: Global, task: Option<TaskId>) -> Result<Value, Al
     let id = id_or_null(alloc, task)?;
     let named = with_member(alloc, Map::new(alloc), "task", id)?;
     of_type(alloc, named, "not_found")
+}
+
+fn context_fault(error: PageError) -> &'static str
+    ensures { result.now ≡ context_fault error }
+{
+    match error {
+        PageError::Missing => "context_missing",
+        PageError::Busy => "context_busy",
+    }
+}
+
+/// The context that a scroll is about gives no page, where the scroll is about one.
+pub(crate) fn context_error(
+    alloc: Global,
+    id: Option<TaskId>,
+    error: PageError,
+) -> Result<Value, AllocError>
+    ensures { IfOk result (λ value. view value ≡ context_error id error) }
+{
+    let id = id_or_null(alloc, id)?;
+    let named = with_member(alloc, Map::new(alloc), "scroll_id", id)?;
+    of_type(alloc, named, context_fault(error))
 }
 
 /// An error of which there is nothing more to tell.

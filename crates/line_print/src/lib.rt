@@ -12,6 +12,7 @@ mod moves;
 mod note;
 mod print;
 mod run;
+mod scroll_lines;
 mod searches;
 mod told;
 mod turns;

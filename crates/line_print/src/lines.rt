@@ -10,6 +10,7 @@ use crate::list_lines::list_line;
 use crate::moves::{moved_line, settled_line};
 use crate::note::Note;
 use crate::run::Run;
+use crate::scroll_lines::{clear_line, scroll_line, tick_line};
 use crate::searches::{indices_of, search_line};
 use crate::told::events_line;
 use crate::turns::turns_of;
@@ -36,9 +37,15 @@ fn command_line(
     let k = number as u32;
     let turn = run.turn(number);
     match command {
-        Command::Search { index, body, .. } => {
-            search_line(alloc, out, run, k, index.as_str(), body)
-        }
+        Command::Search {
+            index,
+            scroll,
+            body,
+            ..
+        } => { search_line(alloc, out, run, k, index.as_str(), scroll.is_some(), body) }
+        Command::Scroll { .. } => scroll_line(alloc, out, run, k, note),
+        Command::ClearScroll { .. } => clear_line(alloc, out, k, note),
+        Command::Tick { .. } => tick_line(alloc, out, k, note),
         Command::Cancel { target, wait, .. } => {
             cancel_line(alloc, out, k, run.target(target), *wait, turn)
         }
@@ -103,12 +110,14 @@ fn run_lines(
 
 /// Appends the output of a script after its run: one line of JSON a command, in order.
 ///
-/// A search tells its hits, as Elasticsearch's search API does, or why it has none; a cancel the tasks that it named; a list the
-/// tasks that it shows; `deliver`, `step` and `list_step` the events that they made, or why they made none; `settle` how many it
+/// A search tells its hits, as Elasticsearch's search API does, and the id by which its context is scrolled, or why it has none; a
+/// scroll the next page of them, or why there is none; a clear whether it freed a context; a tick the moment; a cancel the tasks that it
+/// named; a list the tasks that it shows; `deliver`, `step` and `list_step` the events that they made, or why they made none; `settle` how many it
 /// made; `history` all events before it.
 ///
-/// At the place of its command `found` has what was noted of it: of each list what it lists, and of each line of a schedule that
-/// made nothing happen why. Where memory runs out a part of the output may have been appended.
+/// At the place of its command `found` has what was noted of it: of each list what it lists, of each scroll why it has no page, if it
+/// has none, of each clear whether it frees a context, of each tick the moment after it, and of each line of a schedule that made nothing
+/// happen why. Where memory runs out a part of the output may have been appended.
 pub fn print_lines(
     alloc: Global,
     cluster: &Cluster,
@@ -121,7 +130,7 @@ pub fn print_lines(
     requires { length script.now.commands ≤ 65535 }
     ensures by { OnOk result (out.new.items ≡ out.old.items ++ printed_by found.now cluster.now corpus.now script.now.commands history.now) }
 
-    // Where `found` tells of each list what it lists, and of each line of a schedule that made nothing happen why, it is the script's output.
+    // Where `found` tells what there is to note of each command, as above, it is the script's output.
     ensures printed { IsFound cluster.now script.now history.now found.now
         → OnOk result (out.new.items ≡ out.old.items ++ printed cluster.now corpus.now script.now history.now) }
 {

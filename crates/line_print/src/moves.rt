@@ -24,7 +24,8 @@ fn idle_error(alloc: Global, note: Option<&Note>) -> Result<Option<Value>, Alloc
         Some(Note::NotRunning) => plain_error(alloc, "not_running")?,
         Some(Note::Waiting) => plain_error(alloc, "waiting")?,
         Some(Note::NoListing) => plain_error(alloc, "no_listing")?,
-        Some(Note::Listed(_)) | None => return Ok(None),
+        Some(Note::NoPage { .. } | Note::Freed(_) | Note::Moment(_) | Note::Listed(_)) | None =>
+            return Ok(None),
     };
     Ok(Some(error))
 }

@@ -1,12 +1,17 @@
 ghost use Rattle.std.specs.Prelude.{◌≡◌, ◌++◌, false, OnOk, map, decimal};
 ghost use Rattle.json.specs.Print.{quoted};
+ghost use Rattle.serde_json.specs.Data.{string};
 ghost use Rattle.serde_json.specs.View.{view, items_of};
 ghost use Rattle.serde_json.specs.Written.{has_float, comma_if, compact_text, items_text};
 ghost use Rattle.task_events.specs.Printed.{hit_json, hits_json, shards_json, search_json, total_json};
+ghost use Rattle.task_ids.specs.TaskId.{task_id_text};
+ghost use Rattle.line_print.specs.Replies.{opening};
 
+use crate::errors::id_value;
 use serde_json::Value;
 use std::alloc::{AllocError, Global};
 use task_events::{Hit, SearchReply};
+use task_ids::TaskId;
 
 /// Appends a text as it stands.
 pub(crate) fn push(out: &mut Vec<u8>, text: &str) -> Result<(), AllocError>
@@ -116,18 +121,40 @@ fn push_found(alloc: Global, out: &mut Vec<u8>, reply: &SearchReply) -> Result<(
     push(out, "}")
 }
 
-/// Appends a search's reply, where its index has so many shards.
+/// Appends what stands before the shards of a search's reply.
+fn push_opening(alloc: Global, out: &mut Vec<u8>, context: Option<TaskId>) -> Result<(), AllocError>
+    ensures { OnOk result (out.new.items ≡ out.old.items ++ opening context) }
+{
+    let Some(context) = context else {
+        return push(out, "{\"_shards\":");
+    };
+    push(out, "{\"_scroll_id\":")?;
+    push_id(alloc, out, context)?;
+    push(out, ",\"_shards\":")
+}
+
+/// Appends a task's id as a JSON string.
+fn push_id(alloc: Global, out: &mut Vec<u8>, task: TaskId) -> Result<(), AllocError>
+    ensures { OnOk result (out.new.items ≡ out.old.items ++ compact_text (string (task_id_text task))) }
+{
+    let id = id_value(alloc, task)?;
+    let pushed = push_json(alloc, out, &id);
+    drop(id);
+    pushed
+}
+
+/// Appends a search's reply, which tells so many shards.
 pub(crate) fn push_reply(
     alloc: Global,
     out: &mut Vec<u8>,
-    shards: u32,
+    shards: u64,
     reply: &SearchReply,
 ) -> Result<(), AllocError>
     ensures { OnOk result (out.new.items ≡ out.old.items ++ compact_text (search_json shards reply.now)) }
 {
     let failed = reply.failed.as_slice().len() as u64;
-    push(out, "{\"_shards\":")?;
-    push_shards(alloc, out, u64::from(shards), failed)?;
+    push_opening(alloc, out, reply.context)?;
+    push_shards(alloc, out, shards, failed)?;
     push(out, ",\"hits\":")?;
     push_found(alloc, out, reply)?;
     push(out, "}")

@@ -1,20 +1,22 @@
-//! The lines of searches.
+//! The lines of searches, and of what scrolls have in common with them.
 
-ghost use Rattle.std.specs.Prelude.{◌≡◌, ◌≤◌, ◌++◌, ℕ, false, length, reverse, List, OnOk, IfOk, Some, None, option_map, option_and_then};
+ghost use Rattle.std.specs.Prelude.{◌≡◌, ◌≤◌, ◌++◌, ℕ, length, reverse, List, OnOk, IfOk, Some, None, option_map, option_and_then, if◌then◌else◌};
 ghost use Rattle.std.specs.HashSet.{contains_by};
 ghost use Rattle.std.specs.Str.{bytes_eq};
 ghost use Rattle.serde_json.specs.View.{view};
 ghost use Rattle.query_parse.specs.Bodies.{body_at};
 ghost use Rattle.task_events.specs.Tasks.{reply_of};
 ghost use Rattle.task_events.specs.Turns.{events_of};
-ghost use Rattle.line_print.specs.Errors.{body_error};
-ghost use Rattle.line_print.specs.Lines.{is_known, first_in, root_in, full_node_in, started, ending, fault_in, start_refusal, refusal, ended_line, search_line};
+ghost use Rattle.line_print.specs.Errors.{body_error, task_cancelled};
+ghost use Rattle.line_print.specs.Lines as lines;
+ghost use Rattle.line_print.specs.Lines.{reason_of, is_known, first_in, root_in, full_node_in, started, ending, fault_in, start_refusal, refusal, ended_line, search_line};
 ghost use Rattle.line_print.specs.Looked.{IsReady};
+ghost use Rattle.line_print.specs.Replies.{shards_told};
 
 use crate::errors;
 use crate::run::Run;
 use crate::told::reason_of;
-use crate::write::{error_line, hits_line};
+use crate::write::{Shards, error_line, hits_line};
 use query_parse::{BodyError, read_body};
 use script_lang::Command;
 use serde_json::Value;
@@ -54,7 +56,7 @@ fn full_node_in(event: &Event) -> Option<u32>
 }
 
 /// The node that had no slot for a command's task, by the events of its turn.
-fn full_node(turn: &[Event]) -> Option<u32>
+pub(crate) fn full_node(turn: &[Event]) -> Option<u32>
     ensures { result ≡ first_in full_node_in turn.now }
 {
     for event in turn {
@@ -79,11 +81,11 @@ pub(crate) fn indices_of<'a>(
     Ok(known)
 }
 
-/// The fault of a search's body as JSON, if it has one.
-fn body_refusal(alloc: Global, body: &DocSource) -> Result<Option<Value>, AllocError>
-    ensures { IfOk result (λ error. option_map view error ≡ option_map body_error (fault_in (body_at false 0 body.now))) }
+/// The fault of a search's body as JSON, if it has one. With scrolls it must show the first hits, at least one.
+fn body_refusal(alloc: Global, scrolls: bool, body: &DocSource) -> Result<Option<Value>, AllocError>
+    ensures { IfOk result (λ error. option_map view error ≡ option_map body_error (fault_in (body_at scrolls (if scrolls then 1 else 0) body.now))) }
 {
-    match read_body(alloc, body.as_value(), false, 0) {
+    match read_body(alloc, body.as_value(), scrolls, u32::from(scrolls)) {
         Ok(read) => {
             drop(read);
             Ok(None)
@@ -119,52 +121,98 @@ fn start_refusal(
 pub(crate) fn refusal(
     alloc: Global,
     index: &str,
+    scrolls: bool,
     body: &DocSource,
     known: bool,
     turn: &[Event],
 ) -> Result<Option<Value>, AllocError>
     ensures { IfOk result (λ error. option_map view error
-        ≡ refusal index.now (body_at false 0 body.now) known (first_in full_node_in turn.now)) }
+        ≡ refusal index.now (body_at scrolls (if scrolls then 1 else 0) body.now) known (first_in full_node_in turn.now)) }
 {
-    match body_refusal(alloc, body)? {
+    match body_refusal(alloc, scrolls, body)? {
         Some(error) => Ok(Some(error)),
         None => start_refusal(alloc, index, known, full_node(turn)),
     }
 }
 
-/// Appends the line of a search whose task ended with an event, where its index has so many shards.
+/// Appends the line of a search or a scroll whose task was cancelled.
+fn cancelled_line(
+    alloc: Global,
+    out: &mut Vec<u8>,
+    script: &[Command],
+    command: u32,
+    task: TaskId,
+    cancel: u32,
+) -> Result<(), AllocError>
+    ensures { OnOk result (out.new.items
+        ≡ out.old.items ++ lines.error_line command (task_cancelled (reason_of script.now cancel) task)) }
+{
+    let error = errors::task_cancelled(alloc, reason_of(script, cancel), task)?;
+    error_line(alloc, out, command, error)
+}
+
+/// Appends the line of a search or a scroll whose task ended with a reply.
+fn replied_line(
+    alloc: Global,
+    out: &mut Vec<u8>,
+    shards: Shards,
+    script: &[Command],
+    command: u32,
+    reply: &Reply,
+) -> Result<(), AllocError>
+    ensures { OnOk result (out.new.items
+        ≡ out.old.items ++ ended_line (shards_told shards) script.now command (Some reply.now)) }
+{
+    match reply {
+        Reply::Search(reply) => hits_line(alloc, out, shards, command, reply.get()),
+        Reply::AllFailed(failed) => {
+            let error = errors::all_shards_failed(alloc, failed.as_slice())?;
+            error_line(alloc, out, command, error)
+        }
+        Reply::Cancelled { task, cancel, .. } => {
+            cancelled_line(alloc, out, script, command, *task, *cancel)
+        }
+        _ => Ok(()),
+    }
+}
+
+/// Appends the line of a search or a scroll whose task ended with an event.
 fn end_line(
     alloc: Global,
     out: &mut Vec<u8>,
-    shards: u32,
+    shards: Shards,
     script: &[Command],
     command: u32,
     event: &Event,
 ) -> Result<(), AllocError>
     ensures { OnOk result (out.new.items
-        ≡ out.old.items ++ ended_line shards script.now command (option_map (λ end. end.1) (ending event.now))) }
+        ≡ out.old.items ++ ended_line (shards_told shards) script.now command (option_map (λ end. end.1) (ending event.now))) }
 {
     match event {
-        Event::End {
-            reply: Reply::Search(reply),
-            ..
-        } => { hits_line(alloc, out, shards, command, reply.get()) }
-        Event::End {
-            reply: Reply::AllFailed(failed),
-            ..
-        } => {
-            let error = errors::all_shards_failed(alloc, failed.as_slice())?;
-            error_line(alloc, out, command, error)
-        }
-        Event::End {
-            reply: Reply::Cancelled { task, cancel, .. },
-            ..
-        }
-        | Event::Refuse { task, cancel } => {
-            let error = errors::task_cancelled(alloc, reason_of(script, *cancel), *task)?;
-            error_line(alloc, out, command, error)
+        Event::End { reply, .. } => replied_line(alloc, out, shards, script, command, reply),
+        Event::Refuse { task, cancel } => {
+            cancelled_line(alloc, out, script, command, *task, *cancel)
         }
         _ => Ok(()),
+    }
+}
+
+/// Appends the line of a search or a scroll, by how the task that it started ended.
+pub(crate) fn task_line(
+    alloc: Global,
+    out: &mut Vec<u8>,
+    run: &Run,
+    shards: Shards,
+    command: u32,
+) -> Result<(), AllocError>
+    requires ready { IsReady run.now }
+    requires command { command ≤ length run.now.script.now }
+    ensures { OnOk result (out.new.items ≡ out.old.items ++ ended_line (shards_told shards) run.now.script.now command
+        (option_and_then (λ t. reply_of t (reverse run.now.events.now)) (started command (reverse run.now.events.now)))) }
+{
+    match run.end_of(started(run.turn(command as usize))) {
+        Some(event) => end_line(alloc, out, shards, run.script, command, event),
+        None => Ok(()),
     }
 }
 
@@ -175,20 +223,22 @@ pub(crate) fn search_line(
     run: &Run,
     command: u32,
     index: &str,
+    scrolls: bool,
     body: &DocSource,
 ) -> Result<(), AllocError>
     requires ready { IsReady run.now }
     requires command { command ≤ length run.now.script.now }
-    ensures { OnOk result (out.new.items ≡ out.old.items ++ search_line run.now.cluster.now.shards run.now.script.now command
-        (refusal index.now (body_at false 0 body.now) (is_known run.now.corpus.now index.now) (first_in full_node_in (events_of command (reverse run.now.events.now))))
+    ensures { OnOk result (out.new.items ≡ out.old.items ++ search_line (λ reply. run.now.cluster.now.shards) run.now.script.now command
+        (refusal index.now (body_at scrolls (if scrolls then 1 else 0) body.now) (is_known run.now.corpus.now index.now) (first_in full_node_in (events_of command (reverse run.now.events.now))))
         (option_and_then (λ t. reply_of t (reverse run.now.events.now)) (started command (reverse run.now.events.now)))) }
 {
     let turn = run.turn(command as usize);
-    match refusal(alloc, index, body, run.known.contains(index), turn)? {
+    let known = run.known.contains(index);
+    match refusal(alloc, index, scrolls, body, known, turn)? {
         Some(error) => error_line(alloc, out, command, error),
-        None => match run.end_of(started(turn)) {
-            Some(event) => end_line(alloc, out, run.cluster.shards, run.script, command, event),
-            None => Ok(()),
-        },
+        None => {
+            let shards = Shards::OfIndex(run.cluster.shards);
+            task_line(alloc, out, run, shards, command)
+        }
     }
 }

@@ -4,6 +4,6 @@ use Rattle.line_print.proofs.print.push_reply.Goals as goal
 
 pub returns : goal.returns
 returns c =
-    subst (λ (text : List ℕ). OnOk c.push-3.result (c.push-3.new.out.items ≡ text))
-    (rw (c.in_ok-push_found.ensures, c.in_ok-push-2.ensures, c.in_ok-push_shards.ensures, c.in_ok-push.ensures, c.as_slice.ensures, c.from.ensures) (reply_text c.args.shards c.args.reply.now c.args.out.now.items))
-    c.push-3.ensures
+    subst (λ (text : List ℕ). OnOk c.push-2.result (c.push-2.new.out.items ≡ text))
+    (rw (c.in_ok-push_found.ensures, c.in_ok-push.ensures, c.in_ok-push_shards.ensures, c.in_ok-push_opening.ensures, c.as_slice.ensures) (reply_text c.args.shards c.args.reply.now c.args.out.now.items))
+    c.push-2.ensures
