@@ -38,7 +38,7 @@ use Rattle.world_moves.specs.Cancelling.{Cancelling, HasCoreAt, IsCancellationOf
 use Rattle.world_moves.specs.Flights.{message_of}
 use Rattle.world_moves.specs.Moves.{Delivers, IsPartOf, IsPartly}
 use Rattle.world_moves.specs.Plain.{AnswersPlainly}
-use Rattle.command_roots.specs.Roots.{root_request, root_headers}
+use Rattle.command_roots.specs.Roots.{scripted}
 use Rattle.world_moves.specs.Ties.{Ties, IsGood}
 use Rattle.world_moves.proofs.AtOneTask.{at_ack}
 use Rattle.world_moves.proofs.CancelAnswersAfter.{answers_tied, answers_noted}
@@ -75,7 +75,7 @@ module _ (cluster : Cluster) (corpus : Corpus) (script : Script) (h : List Event
       let taken = ack_taken cluster corpus script h tasks tables flight ties nth p n here in
       record {
         lawful = (taken.0, ties.lawful, awaits);
-        kept = kept_same cluster corpus (root_request script) (root_headers script) (Acked p n) h tasks refl ties.kept;
+        kept = kept_same cluster corpus (scripted script) (Acked p n) h tasks refl ties.kept;
         listed = λ place. listed_same cluster (Acked p n) h (λ m. refl) refl place _ (ties.listed place);
         sent = map-append (message_of (Acked p n ∷ h)) (remove flight nth) more
             ∙ ap (λ ms. ms ++ map (message_of (Acked p n ∷ h)) more) (all_stay (Acked p n) h (remove flight nth) (remove (in_flight h) nth) (pairs_left (message_of h) flight (in_flight h) nth ties.sent))

@@ -12,11 +12,13 @@ use Rattle.task_events.specs.declared.request.Request.{Request}
 use Rattle.task_events.specs.declared.reply.Reply.{Reply}
 use Rattle.task_events.specs.declared.event.Event.{Event}
 use Rattle.task_events.specs.declared.event.Event.TheVariants.{Answered}
+use Rattle.task_events.specs.Contexts.{page_of}
 use Rattle.task_events.specs.Same.{same_task}
 use Rattle.task_events.specs.Lawful.{AwaitsNoMark}
 use Rattle.task_events.specs.Tasks.{is_live}
 use Rattle.task_events.specs.Asks.{request_of_ask, answer_of, is_unanswered}
-use Rattle.task_events.specs.Steps.{asked_by, turns_of, request_of}
+use Rattle.task_events.specs.Requests.{request_of}
+use Rattle.task_events.specs.Steps.{asked_by, turns_of}
 use Rattle.task_events.specs.Steps.{with_answer as asked_with_answer}
 use Rattle.task_events.specs.Messages.{Message, in_flight, is_answer}
 use Rattle.task_events.specs.Messages.Message.{Answer}
@@ -37,7 +39,7 @@ use Rattle.node_parts.specs.Running.{running_with_answer}
 use Rattle.world_moves.specs.Facts.{facts_of, awaited_by, requested_by}
 use Rattle.world_moves.specs.Flights.{event_at, message_of, reply_in}
 use Rattle.world_moves.specs.Moves.{Delivers}
-use Rattle.command_roots.specs.Roots.{root_request, root_headers}
+use Rattle.command_roots.specs.Roots.{scripted}
 use Rattle.world_moves.specs.Ties.{Ties, Runs, WorksFor, IsGood}
 use Rattle.world_moves.specs.Good.{IsGoodReply}
 use Rattle.world_moves.proofs.AllKinds.{kind_laws}
@@ -125,24 +127,24 @@ module _ (cluster : Cluster) (corpus : Corpus) (script : Script) (h : List Event
       delivers = (Answer t receipt.ask reply, Answered t receipt.ask, arrives, (refl, refl), refl)
 
       module _ (r : Running) (here : tasks t ≡ Some r) where
-        runs : Runs cluster corpus t (facts_of (root_request script) (root_headers script) t h) r
+        runs : Runs cluster corpus t (facts_of (scripted script) t h) r
         runs = kept_running cluster corpus script h tasks tables flight ties t asker_live r here
 
         pub own : Answers receipt r.track
         own = (parent ∙ ap Some (sym (ap (λ z. z.task) runs.track)), (from_one, ap (λ z. is_some (get_or z.asks (receipt.ask - 1) None)) runs.track ∙ is_open))
 
-        takes_it : Takes cluster corpus t (asked_by t h) (requested_by t h) (awaited_by t h) (turns_of t h) (request_of (root_request script) t h) r.work (receipt.ask - 1) reply
-        takes_it = (kind_laws cluster corpus t (asked_by t h) (requested_by t h) (awaited_by t h) (turns_of t h) (request_of (root_request script) t h) r.work runs.works).takes_answer (receipt.ask - 1) the_request.0 reply the_request.1 is_open good_reply
+        takes_it : Takes cluster corpus t (page_of (scripted script) t h) (asked_by t h) (requested_by t h) (awaited_by t h) (turns_of t h) (request_of (scripted script) t h) r.work (receipt.ask - 1) reply
+        takes_it = (kind_laws cluster corpus t (page_of (scripted script) t h) (asked_by t h) (requested_by t h) (awaited_by t h) (turns_of t h) (request_of (scripted script) t h) r.work runs.works).takes_answer (receipt.ask - 1) the_request.0 reply the_request.1 is_open good_reply
 
         pub takes_reply : work_takes r.work receipt.ask reply ≡ true
         takes_reply = ap (λ k. work_takes r.work k reply) number_is ∙ takes_it.takes
 
-        works_after : WorksFor cluster corpus t (map (asked_with_answer receipt.ask (answer_of t receipt.ask h)) (asked_by t h)) (requested_by t h) (slice_set (awaited_by t h) (receipt.ask - 1) None) (turns_of t h) (request_of (root_request script) t h) (work_with_answer r.work receipt.ask reply)
+        works_after : WorksFor cluster corpus t (page_of (scripted script) t h) (map (asked_with_answer receipt.ask (answer_of t receipt.ask h)) (asked_by t h)) (requested_by t h) (slice_set (awaited_by t h) (receipt.ask - 1) None) (turns_of t h) (request_of (scripted script) t h) (work_with_answer r.work receipt.ask reply)
         works_after =
-            subst (λ k. WorksFor cluster corpus t (map (asked_with_answer k (answer_of t receipt.ask h)) (asked_by t h)) (requested_by t h) (slice_set (awaited_by t h) (receipt.ask - 1) None) (turns_of t h) (request_of (root_request script) t h) (work_with_answer r.work k reply)) (sym number_is)
+            subst (λ k. WorksFor cluster corpus t (page_of (scripted script) t h) (map (asked_with_answer k (answer_of t receipt.ask h)) (asked_by t h)) (requested_by t h) (slice_set (awaited_by t h) (receipt.ask - 1) None) (turns_of t h) (request_of (scripted script) t h) (work_with_answer r.work k reply)) (sym number_is)
             (takes_it.after (answer_of t receipt.ask h) answered_with)
 
-        runs_after : Runs cluster corpus t (record (facts_of (root_request script) (root_headers script) t h) { awaited = slice_set (awaited_by t h) (receipt.ask - 1) None; asked = map (asked_with_answer receipt.ask (answer_of t receipt.ask h)) (asked_by t h) }) (running_with_answer r receipt.ask reply)
+        runs_after : Runs cluster corpus t (record (facts_of (scripted script) t h) { awaited = slice_set (awaited_by t h) (receipt.ask - 1) None; asked = map (asked_with_answer receipt.ask (answer_of t receipt.ask h)) (asked_by t h) }) (running_with_answer r receipt.ask reply)
         runs_after = record {
           live = runs.live;
           id = runs.id;
@@ -157,7 +159,7 @@ module _ (cluster : Cluster) (corpus : Corpus) (script : Script) (h : List Event
             → Ties cluster corpus script (Answered t receipt.ask ∷ h) after tables (remove flight nth)
         after_answer awaits after there others = record {
           lawful = (taken_away.0, ties.lawful, awaits);
-          kept = kept_after cluster corpus (root_request script) (root_headers script) t (Answered t receipt.ask) h tasks after refl ties.kept (rw there (rw (at_answered (root_request script) (root_headers script) t h receipt.ask) runs_after)) others;
+          kept = kept_after cluster corpus (scripted script) t (Answered t receipt.ask) h tasks after refl ties.kept (rw there (rw (at_answered (scripted script) t h receipt.ask) runs_after)) others;
           listed = λ place. listed_same cluster (Answered t receipt.ask) h (λ m. refl) refl place _ (ties.listed place);
           sent = rw taken_away.1 (all_stay (Answered t receipt.ask) h (remove flight nth) (remove (in_flight h) nth) (pairs_left (message_of h) flight (in_flight h) nth ties.sent));
           good = rw taken_away.1 (all_left (IsGood cluster corpus h) (in_flight h) nth ties.good);

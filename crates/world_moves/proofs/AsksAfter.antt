@@ -14,10 +14,12 @@ use Rattle.task_events.specs.declared.request.Request.{Request}
 use Rattle.task_events.specs.declared.reply.Reply.{Reply}
 use Rattle.task_events.specs.declared.event.Event.{Event}
 use Rattle.task_events.specs.declared.event.Event.TheVariants.{Ask}
+use Rattle.task_events.specs.Contexts.{page_of}
 use Rattle.task_events.specs.Same.{same_task, same_pair}
 use Rattle.task_events.specs.Tasks.{is_live, is_new, child_of}
 use Rattle.task_events.specs.Asks.{last_ask, request_of_ask, rejection_of, answer_of}
-use Rattle.task_events.specs.Steps.{asked_by, turns_of, request_of}
+use Rattle.task_events.specs.Requests.{request_of}
+use Rattle.task_events.specs.Steps.{asked_by, turns_of}
 use Rattle.task_events.specs.Kinds.{kind_of, node_for}
 use Rattle.task_ids.specs.Placing.{node_of}
 use Rattle.std.specs.Option.{option_map_or}
@@ -40,7 +42,7 @@ use Rattle.node_parts.specs.declared.running.Running.{Running}
 use Rattle.node_parts.specs.Running.{PlansToAsk, next_number, running_with_ask}
 use Rattle.world_moves.specs.Facts.{facts_of, awaited_by, requested_by}
 use Rattle.world_moves.specs.Flights.{message_of}
-use Rattle.command_roots.specs.Roots.{root_request, root_headers}
+use Rattle.command_roots.specs.Roots.{scripted}
 use Rattle.world_moves.specs.Ties.{Ties, Runs, WorksFor, IsGood}
 use Rattle.world_moves.specs.Good.{IsGoodReply}
 use Rattle.world_moves.proofs.FactsAfter.{at_ask}
@@ -54,11 +56,11 @@ use Rattle.world_moves.proofs.StepsAfter.{kept_running}
 -- ---- the node of an ask
 
 node_within : (cluster : Cluster) (t : TaskId) (request : Request) → t.node ≤ cluster.nodes → (1 ≤ node_for cluster t request) × (node_for cluster t request ≤ cluster.nodes)
-node_within cluster t request l = on_shard (kind_of request).shard
+node_within cluster t request l = on_place (kind_of request).place
   where
-    on_shard : (o : Option ℕ) → (1 ≤ option_map_or (λ shard. node_of shard cluster.nodes) o t.node) × (option_map_or (λ shard. node_of shard cluster.nodes) o t.node ≤ cluster.nodes)
-    on_shard None = (t.node_in_range.0, l)
-    on_shard (Some shard) = let some : 0 < cluster.nodes = cluster.nodes_in_range.0 in (omega arith, omega arith)
+    on_place : (o : Option (List ℕ × ℕ)) → (1 ≤ option_map_or (λ place. node_of place.1 cluster.nodes) o t.node) × (option_map_or (λ place. node_of place.1 cluster.nodes) o t.node ≤ cluster.nodes)
+    on_place None = (t.node_in_range.0, l)
+    on_place (Some place) = let some : 0 < cluster.nodes = cluster.nodes_in_range.0 in (omega arith, omega arith)
 
 -- ---- answers in flight
 
@@ -95,13 +97,13 @@ module _ (cluster : Cluster) (corpus : Corpus) (script : Script) (h : List Event
   node_of_request = node_within cluster t request ((reach_facts cluster h ties.lawful).live_in t live)
 
   module _ (r : Running) (here : tasks t ≡ Some r) (planned : PlansToAsk (Some r) request) where
-    runs : Runs cluster corpus t (facts_of (root_request script) (root_headers script) t h) r
+    runs : Runs cluster corpus t (facts_of (scripted script) t h) r
     runs = kept_running cluster corpus script h tasks tables flight ties t live r here
 
-    laws : KindLaws cluster corpus t (asked_by t h) (requested_by t h) (awaited_by t h) (turns_of t h) (request_of (root_request script) t h) r.work
-    laws = kind_laws cluster corpus t (asked_by t h) (requested_by t h) (awaited_by t h) (turns_of t h) (request_of (root_request script) t h) r.work runs.works
+    laws : KindLaws cluster corpus t (page_of (scripted script) t h) (asked_by t h) (requested_by t h) (awaited_by t h) (turns_of t h) (request_of (scripted script) t h) r.work
+    laws = kind_laws cluster corpus t (page_of (scripted script) t h) (asked_by t h) (requested_by t h) (awaited_by t h) (turns_of t h) (request_of (scripted script) t h) r.work runs.works
 
-    asks_it : Asks cluster corpus t (asked_by t h) (requested_by t h) (awaited_by t h) (turns_of t h) (request_of (root_request script) t h) r.work request
+    asks_it : Asks cluster corpus t (page_of (scripted script) t h) (asked_by t h) (requested_by t h) (awaited_by t h) (turns_of t h) (request_of (scripted script) t h) r.work request
     asks_it = laws.asks request planned
 
     track_asks : length r.track.asks ≡ length (awaited_by t h)
@@ -122,19 +124,19 @@ module _ (cluster : Cluster) (corpus : Corpus) (script : Script) (h : List Event
     pub can_now : can_ask r.work (next_number r) ≡ true
     can_now = ap (λ m. can_ask r.work (m + 1)) track_asks ∙ asks_it.may
 
-    works_on : (n : ℕ) → WorksFor cluster corpus t (asked_by t h ++ record { ask = last_ask t h + 1; answer = None } ∷ []) (requested_by t h ++ request ∷ []) (awaited_by t h ++ Some n ∷ []) (turns_of t h) (request_of (root_request script) t h) (work_with_ask r.work (next_number r))
+    works_on : (n : ℕ) → WorksFor cluster corpus t (page_of (scripted script) t h) (asked_by t h ++ record { ask = last_ask t h + 1; answer = None } ∷ []) (requested_by t h ++ request ∷ []) (awaited_by t h ++ Some n ∷ []) (turns_of t h) (request_of (scripted script) t h) (work_with_ask r.work (next_number r))
     works_on n =
         let counted : length (awaited_by t h) + 1 ≡ last_ask t h + 1 = ap (λ m. m + 1) (awaited_counted cluster t h ties.lawful) in
         let number : length (awaited_by t h) + 1 ≡ next_number r = ap (λ m. m + 1) (sym track_asks) in
-        subst (λ k. WorksFor cluster corpus t (asked_by t h ++ record { ask = k; answer = None } ∷ []) (requested_by t h ++ request ∷ []) (awaited_by t h ++ Some n ∷ []) (turns_of t h) (request_of (root_request script) t h) (work_with_ask r.work (next_number r))) counted
-        (subst (λ k. WorksFor cluster corpus t (asked_by t h ++ record { ask = length (awaited_by t h) + 1; answer = None } ∷ []) (requested_by t h ++ request ∷ []) (awaited_by t h ++ Some n ∷ []) (turns_of t h) (request_of (root_request script) t h) (work_with_ask r.work k)) number (asks_it.after n))
+        subst (λ k. WorksFor cluster corpus t (page_of (scripted script) t h) (asked_by t h ++ record { ask = k; answer = None } ∷ []) (requested_by t h ++ request ∷ []) (awaited_by t h ++ Some n ∷ []) (turns_of t h) (request_of (scripted script) t h) (work_with_ask r.work (next_number r))) counted
+        (subst (λ k. WorksFor cluster corpus t (page_of (scripted script) t h) (asked_by t h ++ record { ask = length (awaited_by t h) + 1; answer = None } ∷ []) (requested_by t h ++ request ∷ []) (awaited_by t h ++ Some n ∷ []) (turns_of t h) (request_of (scripted script) t h) (work_with_ask r.work k)) number (asks_it.after n))
 
     pub after_ask : (after : TaskId → Option Running) (n : ℕ) (token : Token) (headers : Headers) → AwaitsNoMark h → mark_of t h ≡ None → is_new t h ≡ false → n ≡ node_for cluster t request → token ≡ record { parent = t; ask = last_ask t h + 1 }
         → after t ≡ Some (running_with_ask r n) → ((q : TaskId) → same_task t q ≡ false → after q ≡ tasks q)
         → Ties cluster corpus script (Ask t (last_ask t h + 1) n request ∷ h) after tables (flight ++ sent.Request token n (length h) headers ∷ [])
     after_ask after n token headers awaits unmarked passed node is there others = record {
       lawful = (record { goes_on = record { live = live; passed = passed }; unmarked = unmarked; next = refl; low = rw node node_of_request.0; high = rw node node_of_request.1 }, ties.lawful, awaits);
-      kept = kept_after cluster corpus (root_request script) (root_headers script) t (Ask t (last_ask t h + 1) n request) h tasks after refl ties.kept (rw there (rw (at_ask (root_request script) (root_headers script) t h (last_ask t h + 1) n request) asked_on)) others;
+      kept = kept_after cluster corpus (scripted script) t (Ask t (last_ask t h + 1) n request) h tasks after refl ties.kept (rw there (rw (at_ask (scripted script) t h (last_ask t h + 1) n request) asked_on)) others;
       listed = λ place. listed_same cluster (Ask t (last_ask t h + 1) n request) h (λ m. refl) refl place _ (ties.listed place);
       sent =
           map-append (message_of (Ask t (last_ask t h + 1) n request ∷ h)) flight (sent.Request token n (length h) headers ∷ [])
@@ -147,7 +149,7 @@ module _ (cluster : Cluster) (corpus : Corpus) (script : Script) (h : List Event
         newest : message_of (Ask t (last_ask t h + 1) n request ∷ h) (sent.Request token n (length h) headers) ≡ Some (a_request t (last_ask t h + 1) n request)
         newest = rw is (rw (event_newest (Ask t (last_ask t h + 1) n request) h) refl)
 
-        asked_on : Runs cluster corpus t (record (facts_of (root_request script) (root_headers script) t h) { awaited = awaited_by t h ++ Some n ∷ []; requests = requested_by t h ++ request ∷ []; asked = asked_by t h ++ record { ask = last_ask t h + 1; answer = None } ∷ [] }) (running_with_ask r n)
+        asked_on : Runs cluster corpus t (record (facts_of (scripted script) t h) { awaited = awaited_by t h ++ Some n ∷ []; requests = requested_by t h ++ request ∷ []; asked = asked_by t h ++ record { ask = last_ask t h + 1; answer = None } ∷ [] }) (running_with_ask r n)
         asked_on = record {
           live = runs.live;
           id = runs.id;

@@ -1,16 +1,17 @@
 -- With which ask a task asked for something, and what came of it.
-use Rattle.std.proofs.Common.{◌≡◌, ◌≢◌, ◌⊎◌, ◌<◌, ◌≤◌, ℕ, zero, suc, ◌+◌, Bool, true, false, cond, List, [], ◌∷◌, ◌++◌, length, map, Option, Some, None, refl, sym, ap, ◌∙◌, inl, inr, arith, add-zero}
-use Rattle.std.specs.Prelude.{◌==◌, slice_get, option_and_then, zip, if◌then◌else◌}
-use Rattle.std.specs.List.{AllByRecursion, range_with_len}
+use Rattle.std.proofs.Common.{◌≡◌, ◌≢◌, ◌⊎◌, ◌<◌, ℕ, zero, suc, ◌+◌, Bool, true, false, cond, List, [], ◌∷◌, ◌++◌, length, map, Option, Some, None, refl, sym, ap, ◌∙◌, inl, inr, arith, add-zero}
+use Rattle.std.specs.Prelude.{◌==◌, nat_lt, slice_get, option_and_then, zip, if◌then◌else◌}
+use Rattle.std.specs.List.{AllByRecursion}
 use Rattle.std.specs.Map.{lookup}
 use Rattle.std.specs.Option.{option_or}
-use Rattle.std.proofs.lemmas.Bool.{eqb-true, eqb-false}
+use Rattle.std.proofs.lemmas.Bool.{eq-eqb, ne_eqb, ltb-true}
 use Rattle.task_ids.specs.declared.task_id.TaskId.{TaskId}
 use Rattle.task_ids.specs.declared.cluster.Cluster.{Cluster}
 use Rattle.task_events.specs.declared.event.Event.{Event}
 use Rattle.task_events.specs.declared.event.Event.TheVariants.{Ask, Answered}
 use Rattle.task_events.specs.declared.reply.Reply.{Reply}
 use Rattle.task_events.specs.declared.reply.ShardTop.{ShardTop}
+use Rattle.task_events.specs.declared.reading.ShardRead.{ShardRead}
 use Rattle.task_events.specs.declared.request.HitKey.{HitKey}
 use Rattle.task_events.specs.declared.request.Request.{Request}
 use Rattle.task_events.specs.declared.request.Request.TheVariants.{Query, Fetch}
@@ -18,12 +19,15 @@ use Rattle.task_events.specs.declared.request.SearchAsk.{SearchAsk}
 use Rattle.task_events.specs.declared.step.Asked.{Asked}
 use Rattle.task_events.specs.Asks.{last_ask, answer_of}
 use Rattle.task_events.specs.Lawful.{Lawful}
+use Rattle.task_events.specs.Readings.{Reading, shard_read}
 use Rattle.task_events.specs.Same.{same_task}
 use Rattle.task_events.specs.Searches.{query_of, fetch_of}
 use Rattle.task_events.specs.Steps.{asked_by, with_answer}
 use Rattle.task_laws.proofs.Asks.{ask_facts}
 use Rattle.task_laws.proofs.Content.{answer_facts, still_answer}
 use Rattle.task_laws.proofs.Same.{same_task_tells}
+use Rattle.search_phase.specs.Searching.{AreApart}
+use Rattle.search_phase.proofs.Requests.{list_all-slice_get}
 use Rattle.search_phase.proofs.Sorting.{by_test}
 use Rattle.world_moves.specs.Facts.{requested_by}
 use Rattle.task_events.specs.ShardOutcomes.{is_query_of, is_fetch_of, ask_for}
@@ -66,22 +70,28 @@ first_found test n k (r ∷ rs) e =
     (λ yes. let here : Some n ≡ Some k = rw yes at e in let same : n ≡ k = cc in (0, r, omega arith, refl, yes))
     (λ no. let later = first_found test (n + 1) k rs (rw no at e) in (suc later.0, later.1, (let place = later.2 in omega (arith, place)), later.3, later.4))
 
--- ---- among the requests of a search
+-- ---- among the requests of a search or of a page
 
--- the query of a shard is asked for by the ask with the next number
-pub query_at : (ask : SearchAsk) (shard b n : ℕ) (more : List Request) → b ≤ shard → shard < b + n → first_at (is_query_of shard) (b + 1) (map (λ s. Query (query_of ask s)) (range_with_len b n) ++ more) ≡ Some (shard + 1)
-query_at ask shard b zero more low high = absurd (omega arith)
-query_at ask shard b (suc n) more low high =
-    by_test (shard == b)
-    (λ yes. let same : b ≡ shard = sym (eqb-true shard b yes) in rw yes (ap (λ m. Some (m + 1)) same))
-    (λ no. let apart = eqb-false shard b no in rw no (query_at ask shard (b + 1) n more (omega (arith, apart)) (omega arith)))
+-- the query of a shard is asked for by the ask of its place
+pub query_at : (r : Reading) (b : ℕ) (reads : List ShardRead) (more : List Request) → AreApart reads → (place : ℕ) (at : ShardRead) → slice_get reads place ≡ Some at
+    → first_at (is_query_of (shard_read at)) b (map (λ s. Query (query_of r s)) reads ++ more) ≡ Some (b + place)
+query_at r b [] more apart place at e = absurd (cc)
+query_at r b (x ∷ reads) more apart zero at e =
+    let same : x ≡ at = cc in
+    let yes : (shard_read at == shard_read x) ≡ true = eq-eqb (shard_read at) (shard_read x) (ap shard_read (sym same)) in
+    rw yes (let here : b ≡ b + zero = omega arith in ap Some here)
+query_at r b (x ∷ reads) more apart (suc place) at e =
+    let below : shard_read x < shard_read at = ltb-true (shard_read x) (shard_read at) (list_all-slice_get (λ s. nat_lt (shard_read x) (shard_read s)) reads place at apart.0 e) in
+    let other : (shard_read at == shard_read x) ≡ false = ne_eqb (shard_read at) (shard_read x) (λ same. omega (arith, same)) in
+    let next : b + 1 + place ≡ b + suc place = omega arith in
+    rw other (query_at r (b + 1) reads more apart.1 place at e ∙ ap Some next)
 
 -- a fetch comes after all queries
-pub past_queries : (ask : SearchAsk) (shard m b n : ℕ) (more : List Request) → first_at (is_fetch_of shard) m (map (λ s. Query (query_of ask s)) (range_with_len b n) ++ more) ≡ first_at (is_fetch_of shard) (m + n) more
-past_queries ask shard m b zero more = ap (λ k. first_at (is_fetch_of shard) k more) (sym (add-zero m))
-past_queries ask shard m b (suc n) more =
-    let next : m + 1 + n ≡ m + suc n = omega arith in
-    past_queries ask shard (m + 1) (b + 1) n more ∙ ap (λ k. first_at (is_fetch_of shard) k more) next
+pub past_queries : (r : Reading) (shard m : ℕ) (reads : List ShardRead) (more : List Request) → first_at (is_fetch_of shard) m (map (λ s. Query (query_of r s)) reads ++ more) ≡ first_at (is_fetch_of shard) (m + length reads) more
+past_queries r shard m [] more = ap (λ k. first_at (is_fetch_of shard) k more) (sym (add-zero m))
+past_queries r shard m (x ∷ reads) more =
+    let next : m + 1 + length reads ≡ m + suc (length reads) = omega arith in
+    past_queries r shard (m + 1) reads more ∙ ap (λ k. first_at (is_fetch_of shard) k more) next
 
 module _ (t : TaskId) (h : List Event) (ask : SearchAsk) (won : List HitKey) (shard : ℕ) where
   pub fetched_at : (m : ℕ) (tops : List ShardTop) (later : List Asked) → length tops ≡ length later → ((i : ℕ) (a : Asked) → slice_get later i ≡ Some a → answer_of t (m + i) h ≡ a.answer)

@@ -31,7 +31,7 @@ use Rattle.world_moves.specs.Cancels.{waiting_for}
 use Rattle.world_moves.specs.Cancelling.{Cancelling, HasBansAt}
 use Rattle.world_moves.specs.Flights.{message_of}
 use Rattle.world_moves.specs.Listings.{listing_cmp}
-use Rattle.command_roots.specs.Roots.{root_request, root_headers}
+use Rattle.command_roots.specs.Roots.{scripted}
 use Rattle.world_moves.specs.Ties.{Ties, IsGood}
 use Rattle.world_moves.proofs.AtPlace.{at_node, set_at}
 use Rattle.world_moves.proofs.BansInFlight.{ban_taken, ban_mark, unban_taken}
@@ -49,7 +49,7 @@ module _ (cluster : Cluster) (corpus : Corpus) (script : Script) (h : List Event
       let taken = ban_taken cluster corpus script h tasks tables flight ties nth p c n here in
       record {
         lawful = (record { sent = taken.0; number = ban_mark cluster corpus script h tasks tables flight ties nth p c n here }, ties.lawful, awaits);
-        kept = kept_same cluster corpus (root_request script) (root_headers script) (BanPut n p c) h tasks refl ties.kept;
+        kept = kept_same cluster corpus (scripted script) (BanPut n p c) h tasks refl ties.kept;
         listed = λ place. listed_same cluster (BanPut n p c) h (λ m. refl) refl place _ (ties.listed place);
         sent = rw taken.1 (all_stay (BanPut n p c) h (remove flight nth) (remove (in_flight h) nth) (pairs_left (message_of h) flight (in_flight h) nth ties.sent));
         good = rw taken.1 (all_left (IsGood cluster corpus h) (in_flight h) nth ties.good);
@@ -61,7 +61,7 @@ module _ (cluster : Cluster) (corpus : Corpus) (script : Script) (h : List Event
       let taken = unban_taken cluster corpus script h tasks tables flight ties nth p n here in
       record {
         lawful = (taken.0, ties.lawful, awaits);
-        kept = kept_same cluster corpus (root_request script) (root_headers script) (BanGone n p) h tasks refl ties.kept;
+        kept = kept_same cluster corpus (scripted script) (BanGone n p) h tasks refl ties.kept;
         listed = λ place. listed_same cluster (BanGone n p) h (λ m. refl) refl place _ (ties.listed place);
         sent = rw taken.1 (all_stay (BanGone n p) h (remove flight nth) (remove (in_flight h) nth) (pairs_left (message_of h) flight (in_flight h) nth ties.sent));
         good = rw taken.1 (all_left (IsGood cluster corpus h) (in_flight h) nth ties.good);

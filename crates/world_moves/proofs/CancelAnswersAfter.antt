@@ -20,7 +20,7 @@ use Rattle.task_events.specs.Lawful.{AwaitsNoMark, Lawful}
 use Rattle.script_lang.specs.declared.command.Script.{Script}
 use Rattle.node_parts.specs.declared.running.Running.{Running}
 use Rattle.node_parts.specs.declared.listing.Listing.{Listing}
-use Rattle.command_roots.specs.Roots.{root_request, root_headers}
+use Rattle.command_roots.specs.Roots.{scripted}
 use Rattle.world_moves.specs.declared.flight.Sent.{Sent}
 use Rattle.world_moves.specs.Cancels.{named_by, is_answered, is_due, waiting_for, waits_for_end, due_for, left_of, with_answers}
 use Rattle.world_moves.specs.Cancelling.{Cancelling}
@@ -97,7 +97,7 @@ module _ (cluster : Cluster) (t : TaskId) (h : List Event) where
       → Ties cluster corpus script h tasks tables flight → AwaitsNoMark h → Ties cluster corpus script (with_answers t h) tasks tables flight
   answers_tied corpus script tasks tables flight ties awaits = record {
     lawful = answers_lawful ties.lawful awaits;
-    kept = kept (λ past. (u : TaskId) → IsKept cluster corpus u (facts_of (root_request script) (root_headers script) u past) (tasks u)) (λ c past k. k) (λ c past k. k) t h ties.kept;
+    kept = kept (λ past. (u : TaskId) → IsKept cluster corpus u (facts_of (scripted script) u past) (tasks u)) (λ c past k. k) (λ c past k. k) t h ties.kept;
     listed = λ place. kept (λ past. IsTableAt cluster place past (slice_get tables place))
         (λ c past. listed_same cluster (AnswerPlaced c) past (λ n. refl) refl place _) (λ c past. listed_same cluster (AnswerDone c) past (λ n. refl) refl place _) t h (ties.listed place);
     sent = kept (λ past. map (message_of past) flight ≡ map Some (in_flight past)) (λ c past. all_stay (AnswerPlaced c) past flight _) (λ c past. all_stay (AnswerDone c) past flight _) t h ties.sent;

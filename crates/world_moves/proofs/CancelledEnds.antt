@@ -19,7 +19,8 @@ use Rattle.task_events.specs.Asks.{is_unanswered, last_ask}
 use Rattle.task_events.specs.Bans.{mark_of}
 use Rattle.task_events.specs.Lawful.{AwaitsNoMark, Lawful}
 use Rattle.task_events.specs.Messages.{unbans_from}
-use Rattle.task_events.specs.Steps.{request_of}
+use Rattle.task_events.specs.Contexts.{page_of}
+use Rattle.task_events.specs.Requests.{request_of}
 use Rattle.task_events.specs.Tasks.{is_live, no_counts}
 use Rattle.task_laws.proofs.Asks.{ask_facts}
 use Rattle.task_laws.proofs.Pending.{is_pending}
@@ -30,7 +31,7 @@ use Rattle.world_moves.specs.Facts.{awaited_by, none_awaited}
 use Rattle.world_moves.specs.Flights.{message_of, told_parent}
 use Rattle.world_moves.specs.Moves.{IsPartOf, MayLeave}
 use Rattle.world_moves.specs.Plain.{AnswersPlainly, EndsPlainly}
-use Rattle.command_roots.specs.Roots.{root_request}
+use Rattle.command_roots.specs.Roots.{scripted}
 use Rattle.world_moves.specs.Ties.{Ties}
 use Rattle.world_moves.proofs.AllKinds.{good_cancelled}
 use Rattle.world_moves.proofs.NoneAwaited.{none_from}
@@ -100,7 +101,7 @@ module _ (t : TaskId) (h : List Event) where
   left_plain cluster corpus script (Refuse u c) m plain = plain
   left_plain cluster corpus script (End u reply) m plain =
       let mark : mark_of t h ≡ Some m.1.0 = marked_reply t m.1.0 (mark_of t h) (cancellation_in reply) (ap cancellation_in m.1.1) m.1.2.cancelled in
-      rw m.0 (subst (λ o. EndsPlainly cluster corpus t o (request_of (root_request script) t h) h reply) (sym mark) m.1.1, plain)
+      rw m.0 (subst (λ o. EndsPlainly cluster corpus t (page_of (scripted script) t h) o (request_of (scripted script) t h) h reply) (sym mark) m.1.1, plain)
   left_plain cluster corpus script _ m plain = absurd m
 
 -- the answers that come with it are a later part of the move

@@ -18,6 +18,7 @@ use Rattle.task_table.specs.Rows.{row_for}
 use Rattle.task_table.specs.Table.{Table, with_task}
 use Rattle.cancel_core.specs.Cancellations.{Cancellations}
 use Rattle.task_events.specs.declared.event.Event.{Event}
+use Rattle.task_events.specs.Requests.{Scripted}
 use Rattle.task_events.specs.declared.event.Event.TheVariants.{Root, Put}
 use Rattle.task_events.specs.Same.{same_task}
 use Rattle.task_events.specs.Tasks.{is_live, live_tasks, last_number, parent_of}
@@ -27,7 +28,7 @@ use Rattle.task_laws.proofs.Numbers.{number}
 use Rattle.task_laws.proofs.Living.{living_facts}
 use Rattle.task_laws.proofs.Same.{same_tests}
 use Rattle.node_parts.specs.declared.listing.Listing.{Listing}
-use Rattle.world_moves.specs.Cancels.{root_of}
+use Rattle.command_roots.specs.Roots.{root_of}
 use Rattle.world_moves.specs.Cancelling.{Cancelling, HasRows, IsRowOf}
 use Rattle.world_moves.specs.Ties.{IsTableAt, IsTableOf}
 use Rattle.world_moves.proofs.AtPlace.{set_at}
@@ -60,14 +61,18 @@ record IsStartFor (t : TaskId) (parent : Option TaskId) (e : Event) (h : List Ev
   marks : (u : TaskId) → mark_of u (e ∷ h) ≡ mark_of u h
 
 module _ (cluster : Cluster) (t : TaskId) (h : List Event) (lawful : Lawful cluster h) (new : last_number t.node h < t.number) where
+  -- whatever the commands say
+  nothing_said : Scripted
+  nothing_said = record { root = λ k h. None; carried = λ k. no_headers; clears = λ k h. None }
+
   not_live : is_live t h ≡ false
-  not_live = ap (λ f. f.live) (unborn cluster t (λ k. None) (λ k. no_headers) h lawful new)
+  not_live = ap (λ f. f.live) (unborn cluster t nothing_said h lawful new)
 
   no_mark : mark_of t h ≡ None
-  no_mark = ap (λ f. f.mark) (unborn cluster t (λ k. None) (λ k. no_headers) h lawful new)
+  no_mark = ap (λ f. f.mark) (unborn cluster t nothing_said h lawful new)
 
   no_parent : parent_of t h ≡ None
-  no_parent = ap (λ f. f.parent) (unborn cluster t (λ k. None) (λ k. no_headers) h lawful new)
+  no_parent = ap (λ f. f.parent) (unborn cluster t nothing_said h lawful new)
 
   -- each live task is another
   others_live : All (λ u. same_task t u ≡ false) (live_tasks h)

@@ -13,7 +13,7 @@ use Rattle.task_events.specs.declared.event.Event.{Event}
 use Rattle.task_events.specs.declared.event.Event.TheVariants.{Root, Put, Refuse, Cancel, Mark, BanPut, Listed, Acked, BanGone, End}
 use Rattle.task_events.specs.Same.{same_task}
 use Rattle.node_parts.specs.declared.listing.Listing.{Listing}
-use Rattle.world_moves.specs.Cancels.{root_of}
+use Rattle.command_roots.specs.Roots.{root_of}
 use Rattle.world_moves.specs.Listings.{is_open}
 use Rattle.world_moves.specs.Cancelling.{Cancelling, HasRows, HasBansAt}
 use Rattle.world_moves.proofs.CancelFrame.{about_cancellation, NamesAlike, entry_frame, cores_kept}

@@ -1,5 +1,5 @@
 -- What task lists show after an event: of the tasks that were live before it, what they showed.
-use Rattle.std.proofs.Common.{◌≡◌, ℕ, Bool, true, false, cond, not, List, [], ◌∷◌, ◌++◌, map, get_or, Option, Some, None, refl, sym, subst, ◌∙◌}
+use Rattle.std.proofs.Common.{◌≡◌, ◌≤◌, ℕ, ◌+◌, ◌*◌, Bool, true, false, cond, not, List, [], ◌∷◌, ◌++◌, map, get_or, Option, Some, None, refl, sym, ap, subst, ◌∙◌, arith}
 use Rattle.std.specs.Prelude.{slice_get, slice_set, remove}
 use Rattle.std.specs.List.{AllByRecursion}
 use Rattle.std.proofs.lemmas.List.Elements.{All-filter, All-map}
@@ -12,62 +12,100 @@ use Rattle.cancel_core.specs.declared.act.Act.{Act}
 use Rattle.task_table.specs.Rows.{has_number, marked}
 use Rattle.task_table.specs.Table.{Table, without_task, with_mark}
 use Rattle.script_lang.specs.declared.command.Script.{Script}
+use Rattle.script_lang.specs.KeepAlives.{day_ms}
 use Rattle.task_events.specs.declared.event.Event.{Event}
-use Rattle.task_events.specs.declared.event.Event.TheVariants.{Root, Put, Tick}
-use Rattle.task_events.specs.TaskRows.{clock}
+use Rattle.task_events.specs.declared.event.Event.TheVariants.{Begin, Root, Put, Tick}
+use Rattle.task_events.specs.Clock.{clock}
 use Rattle.world_moves.specs.declared.flight.Sent.{Sent}
 use Rattle.world_moves.specs.declared.flight.Sent.TheVariants as sent
 use Rattle.world_moves.specs.Acts.{messages_in}
 use Rattle.world_moves.specs.Flights.{told_to, told_parent}
+use Rattle.task_events.specs.Cancels.{last_command}
 use Rattle.world_moves.specs.Describing.{Describing, IsDescribed, DescribesAll, Carries}
 use Rattle.world_moves.proofs.AtPlace.{set_at}
 use Rattle.world_moves.proofs.ByPlace.{all_left}
 
--- the event starts a task, or moves the clock
+-- the event starts a task
+abbrev pub starts_task : Event → Bool
+starts_task (Root k t) = true
+starts_task (Put t p k) = true
+starts_task _ = false
+
+-- or it begins a command, or moves the clock
 abbrev pub starts_or_ticks : Event → Bool
+starts_or_ticks (Begin k) = true
 starts_or_ticks (Root k t) = true
 starts_or_ticks (Put t p k) = true
 starts_or_ticks (Tick ms) = true
 starts_or_ticks _ = false
 
+starts_none : (e : Event) → starts_or_ticks e ≡ false → starts_task e ≡ false
+starts_none (Root k t) s = absurd (cc)
+starts_none (Put t p k) s = absurd (cc)
+starts_none _ s = refl
+
+longer : (day now n k : ℕ) → n + 1 ≡ k → now ≤ n * day → now ≤ k * day
+longer day now n k next low = subst (λ m. now ≤ m * day) next (let more : (n + 1) * day ≡ n * day + day = grind arith in omega (arith, more, low))
+
 module _ (script : Script) (h : List Event) where
-  row_stays : (e : Event) → starts_or_ticks e ≡ false → (row : TaskInfo) → IsDescribed script h row → IsDescribed script (e ∷ h) row
+  row_stays : (e : Event) → starts_task e ≡ false → (row : TaskInfo) → IsDescribed script h row → IsDescribed script (e ∷ h) row
   row_stays (Root k t) s row d = absurd (cc)
   row_stays (Put t p k) s row d = absurd (cc)
-  row_stays (Tick ms) s row d = absurd (cc)
   row_stays _ s row d = record { request = d.request; asked = d.asked; action = d.action; description = d.description; start = d.start; headers = d.headers }
 
-  rows_stay : (e : Event) → starts_or_ticks e ≡ false → (o : Option Table) → DescribesAll script h o → DescribesAll script (e ∷ h) o
+  rows_stay : (e : Event) → starts_task e ≡ false → (o : Option Table) → DescribesAll script h o → DescribesAll script (e ∷ h) o
   rows_stay e s None d = tt
   rows_stay e s (Some table) d = λ k row low. row_stays e s (get_or table.live k row) (d k row low)
 
-  one_carried : (e : Event) → starts_or_ticks e ≡ false → (m : Sent) → Carries script h m → Carries script (e ∷ h) m
+  one_carried : (e : Event) → starts_task e ≡ false → (m : Sent) → Carries script h m → Carries script (e ∷ h) m
   one_carried (Root k t) s m c = absurd (cc)
   one_carried (Put t p k) s m c = absurd (cc)
-  one_carried (Tick ms) s m c = absurd (cc)
   one_carried _ s (sent.Request token to at headers) c = c
   one_carried _ s (sent.Answer receipt at) c = tt
   one_carried _ s (sent.Notice notice) c = tt
 
-  pub all_carried : (e : Event) → starts_or_ticks e ≡ false → (ms : List Sent) → AllByRecursion (Carries script h) ms → AllByRecursion (Carries script (e ∷ h)) ms
+  pub all_carried : (e : Event) → starts_task e ≡ false → (ms : List Sent) → AllByRecursion (Carries script h) ms → AllByRecursion (Carries script (e ∷ h)) ms
   all_carried e s [] c = tt
   all_carried e s (m ∷ ms) c = (one_carried e s m c.0, all_carried e s ms c.1)
 
   clock_stays : (e : Event) → starts_or_ticks e ≡ false → clock (e ∷ h) ≡ clock h
-  clock_stays (Root k t) s = refl
-  clock_stays (Put t p k) s = refl
   clock_stays (Tick ms) s = absurd (cc)
   clock_stays _ s = refl
+
+  command_stays : (e : Event) → starts_or_ticks e ≡ false → last_command (e ∷ h) ≡ last_command h
+  command_stays (Begin k) s = absurd (cc)
+  command_stays _ s = refl
 
   module _ (tables : List Table) (flight : List Sent) (now : ℕ) where
     -- the tables may be others, and so may the messages
     pub described_with : (e : Event) (after : List Table) (queue : List Sent) → starts_or_ticks e ≡ false → ((place : ℕ) → DescribesAll script h (slice_get after place)) → AllByRecursion (Carries script h) queue
         → Describing script h tables flight now → Describing script (e ∷ h) after queue now
     described_with e after queue s rows carried d = record {
-      rows_are = λ place. rows_stay e s (slice_get after place) (rows place);
-      carried = all_carried e s queue carried;
+      rows_are = λ place. rows_stay e (starts_none e s) (slice_get after place) (rows place);
+      carried = all_carried e (starts_none e s) queue carried;
       clock_is = d.clock_is ∙ sym (clock_stays e s);
-      clock_low = d.clock_low;
+      clock_low = subst (λ k. now ≤ k * day_ms) (sym (command_stays e s)) d.clock_low;
+      few_begun = subst (λ k. k ≤ 65536) (sym (command_stays e s)) d.few_begun;
+    }
+
+    -- a command begins, the next in order
+    pub begun_tells : (k : ℕ) → last_command h + 1 ≡ k → k ≤ 65536 → Describing script h tables flight now → Describing script (Begin k ∷ h) tables flight now
+    begun_tells k next few d = record {
+      rows_are = λ place. rows_stay (Begin k) refl (slice_get tables place) (d.rows_are place);
+      carried = all_carried (Begin k) refl flight d.carried;
+      clock_is = d.clock_is;
+      clock_low = longer day_ms now (last_command h) k next d.clock_low;
+      few_begun = few;
+    }
+
+    -- the clock moves
+    pub ticked_tells : (ms : ℕ) → now + ms ≤ last_command h * day_ms → Describing script h tables flight now → Describing script (Tick ms ∷ h) tables flight (now + ms)
+    ticked_tells ms low d = record {
+      rows_are = λ place. rows_stay (Tick ms) refl (slice_get tables place) (d.rows_are place);
+      carried = all_carried (Tick ms) refl flight d.carried;
+      clock_is = ap (λ m. m + ms) d.clock_is;
+      clock_low = low;
+      few_begun = d.few_begun;
     }
 
     pub quiet : (e : Event) → starts_or_ticks e ≡ false → Describing script h tables flight now → Describing script (e ∷ h) tables flight now

@@ -21,12 +21,13 @@ use Rattle.task_events.specs.declared.event.Event.TheVariants.{Root, Put}
 use Rattle.task_events.specs.Same.{same_task}
 use Rattle.task_events.specs.Tasks.{is_live, last_number}
 use Rattle.task_events.specs.Asks.{request_of_ask}
-use Rattle.task_events.specs.TaskRows.{clock, headers_of}
+use Rattle.task_events.specs.Clock.{clock}
+use Rattle.task_events.specs.TaskRows.{headers_of}
 use Rattle.task_events.specs.Lawful.{Lawful}
 use Rattle.task_laws.proofs.Asks.{ask_facts}
 use Rattle.task_laws.proofs.InFlight.{requests_in_flight}
 use Rattle.task_laws.proofs.Same.{same_task_tells, same_tests}
-use Rattle.command_roots.specs.Roots.{root_request, root_headers}
+use Rattle.command_roots.specs.Roots.{root_request, root_headers, scripted}
 use Rattle.world_moves.specs.declared.flight.Sent.{Sent}
 use Rattle.world_moves.specs.declared.flight.Sent.TheVariants as sent
 use Rattle.world_moves.specs.Describing.{IsDescribed, DescribesAll, Carries}
@@ -69,7 +70,7 @@ module _ (cluster : Cluster) (script : Script) (h : List Event) (tables : List T
   turned : (row : TaskInfo) → same_task t row.id ≡ false → same_task row.id t ≡ false
   turned row e = grind (arith, same_tests)
 
-  pub rows_put : (p : TaskId) (k : ℕ) (request : Request) (now : ℕ) (headers : Headers) → task ≡ task_for request (Some p) now headers → request_of_ask p k h ≡ Some request → now ≡ clock h → headers ≡ headers_of (root_headers script) p h
+  pub rows_put : (p : TaskId) (k : ℕ) (request : Request) (now : ℕ) (headers : Headers) → task ≡ task_for request (Some p) now headers → request_of_ask p k h ≡ Some request → now ≡ clock h → headers ≡ headers_of (scripted script) p h
       → ((place : ℕ) → DescribesAll script h (slice_get tables place)) → (place : ℕ) → DescribesAll script (Put t p k ∷ h) (slice_get after place)
   rows_put p k request now headers is asked moment carried rows = rows_after (Put t p k) stays new rows
     where
@@ -81,7 +82,7 @@ module _ (cluster : Cluster) (script : Script) (h : List Event) (tables : List T
       new : IsDescribed script (Put t p k ∷ h) (row_for t task)
       new = record { request = request; asked = rw (itself t) asked; action = ap (λ x. x.action) is; description = ap (λ x. x.description) is; start = rw (itself t) (ap (λ x. x.start_ms) is ∙ moment); headers = rw (itself t) (ap (λ x. x.headers) is ∙ carried) }
 
-  pub rows_root : (command : ℕ) (request : Request) (now : ℕ) (headers : Headers) → task ≡ task_for request None now headers → root_request script command ≡ Some request → now ≡ clock h → headers ≡ root_headers script command
+  pub rows_root : (command : ℕ) (request : Request) (now : ℕ) (headers : Headers) → task ≡ task_for request None now headers → root_request script command h ≡ Some request → now ≡ clock h → headers ≡ root_headers script command
       → ((place : ℕ) → DescribesAll script h (slice_get tables place)) → (place : ℕ) → DescribesAll script (Root command t ∷ h) (slice_get after place)
   rows_root command request now headers is asked moment carried rows = rows_after (Root command t) stays new rows
     where

@@ -1,9 +1,10 @@
 -- What a fetch shows of its work.
-use Rattle.std.proofs.Common.{◌≡◌, ℕ, List, [], Option, Some, refl, sym, ap, subst, ◌∙◌, arith}
+use Rattle.std.proofs.Common.{◌≡◌, ℕ, List, [], Option, Some, refl, sym, ap, subst, ◌∙◌, arith, None}
 use Rattle.task_ids.specs.declared.task_id.TaskId.{TaskId}
 use Rattle.task_ids.specs.declared.cluster.Cluster.{Cluster}
 use Rattle.task_ids.specs.declared.corpus.Corpus.{Corpus}
 use Rattle.task_ids.specs.declared.doc.Doc.{Doc}
+use Rattle.task_events.specs.declared.context.Context.{Context}
 use Rattle.task_events.specs.declared.request.Request.{Request}
 use Rattle.task_events.specs.declared.request.Request.TheVariants as asks
 use Rattle.task_events.specs.declared.request.FetchAsk.{FetchAsk}
@@ -12,9 +13,10 @@ use Rattle.task_events.specs.declared.step.Asked.{Asked}
 use Rattle.task_events.specs.Answers.{fetched}
 use Rattle.task_events.specs.FetchTask.{fetch_step}
 use Rattle.task_events.specs.Tasks.{no_counts}
+use Rattle.search_phase.specs.Fetches.{new_fetch}
 use Rattle.task_work.specs.declared.work.Work.{Work}
 use Rattle.task_work.specs.declared.work.Work.TheVariants as works
-use Rattle.task_work.specs.Works.{IsWorkOn, with_turn, new_work}
+use Rattle.task_work.specs.Works.{IsWorkOn, with_turn}
 use Rattle.world_moves.specs.Facts.{none_awaited}
 use Rattle.world_moves.specs.FetchRuns.{RunsFetch}
 use Rattle.world_moves.specs.Good.{IsGoodReply, written}
@@ -23,8 +25,11 @@ use Rattle.world_moves.proofs.LookingLaws.{asks_nothing, work_ends, works_or_end
 use Rattle.world_moves.proofs.PossibleHits.{hits_possible}
 
 module _ (cluster : Cluster) (corpus : Corpus) (ask : FetchAsk) where
-  pub fetch_starts : (t : TaskId) → IsWorkOn (new_work t (asks.Fetch ask) cluster.shards) (written cluster corpus ask.index ask.shard) → RunsFetch cluster corpus 0 [] ask (new_work t (asks.Fetch ask) cluster.shards)
-  fetch_starts t on = record { ask_is = refl; turns_are = refl; asks_nothing = refl; on = on }
+  pub fetch_starts : (t : TaskId) (w : Work) → (works.Fetch (new_fetch ask) None) ≡ w → IsWorkOn w (written cluster corpus ask.index ask.shard) → RunsFetch cluster corpus 0 [] ask w
+  fetch_starts t w is on = subst (RunsFetch cluster corpus 0 [] ask) is (first (subst (λ v. IsWorkOn v (written cluster corpus ask.index ask.shard)) (sym is) on))
+    where
+      first : IsWorkOn (works.Fetch (new_fetch ask) None) (written cluster corpus ask.index ask.shard) → RunsFetch cluster corpus 0 [] ask (works.Fetch (new_fetch ask) None)
+      first on = record { ask_is = refl; turns_are = refl; asks_nothing = refl; on = on }
 
   pub fetch_rejected : (n : ℕ) → IsGoodReply cluster corpus (asks.Fetch ask) (Rejected n)
   fetch_rejected n = (refl, tt, tt)
@@ -32,8 +37,8 @@ module _ (cluster : Cluster) (corpus : Corpus) (ask : FetchAsk) where
   pub fetch_cancelled : (t : TaskId) (c : ℕ) → IsGoodReply cluster corpus (asks.Fetch ask) (Cancelled t c no_counts)
   fetch_cancelled t c = (refl, tt, tt)
 
-module _ (cluster : Cluster) (corpus : Corpus) (t : TaskId) (asked : List Asked) (requests : List Request) (awaited : List (Option ℕ)) (turns : ℕ) where
-  pub fetch_laws : (ask : FetchAsk) (w : Work) → RunsFetch cluster corpus turns awaited ask w → KindLaws cluster corpus t asked requests awaited turns (Some (asks.Fetch ask)) w
+module _ (cluster : Cluster) (corpus : Corpus) (t : TaskId) (page : Option Context) (asked : List Asked) (requests : List Request) (awaited : List (Option ℕ)) (turns : ℕ) where
+  pub fetch_laws : (ask : FetchAsk) (w : Work) → RunsFetch cluster corpus turns awaited ask w → KindLaws cluster corpus t page asked requests awaited turns (Some (asks.Fetch ask)) w
   fetch_laws ask (works.Fetch f hits) x = record {
     follows = ap (λ z. Some (fetch_step z turns mine)) (sym x.ask_is) ∙ ap (λ z. Some (fetch_step f.ask z mine)) (sym x.turns_are);
     on = x.on;

@@ -1,18 +1,17 @@
 -- What is kept of each task after an event about one of them.
-use Rattle.std.proofs.Common.{◌≡◌, ◌≢◌, ◌⊎◌, ℕ, Bool, true, false, cond, List, ◌∷◌, Option, Some, None, refl, sym, ap, subst, ◌∙◌, inl, inr, arith}
+use Rattle.std.proofs.Common.{◌≡◌, ◌≢◌, ◌⊎◌, Bool, true, false, cond, List, ◌∷◌, Option, Some, None, refl, sym, ap, subst, ◌∙◌, inl, inr, arith}
 use Rattle.std.specs.BTreeMap.{is_at}
 use Rattle.std.specs.declared.cmp.Ordering.{Ordering}
 use Rattle.std.specs.declared.cmp.Ordering.TheVariants.{Less, Equal, Greater}
 use Rattle.std.specs.Ordering.{is_eq}
 use Rattle.task_ids.specs.declared.task_id.TaskId.{TaskId}
-use Rattle.task_ids.specs.declared.task_info.Headers.{Headers}
 use Rattle.task_ids.specs.declared.cluster.Cluster.{Cluster}
 use Rattle.task_ids.specs.declared.corpus.Corpus.{Corpus}
 use Rattle.task_ids.specs.TaskIdOrder.{task_id_cmp}
 use Rattle.task_ids.proofs.TaskIdKeys.{exact_ids, ids_total}
 use Rattle.std.specs.Cmp.{eq_by_cmp_equiv}
-use Rattle.task_events.specs.declared.request.Request.{Request}
 use Rattle.task_events.specs.declared.event.Event.{Event}
+use Rattle.task_events.specs.Requests.{Scripted}
 use Rattle.task_events.specs.Same.{same_task}
 use Rattle.task_laws.proofs.Same.{same_task_tells, same_tests}
 use Rattle.node_parts.specs.declared.running.Running.{Running}
@@ -34,25 +33,25 @@ is_at_task t q = by_case (is_at (task_id_cmp t) q) refl (same_task_tells t q)
     by_case true e (inr (differs, apart)) = absurd (apart (exact_ids t q (is_equal (task_id_cmp t q) e)))
     by_case false e (inr (differs, apart)) = e ∙ sym differs
 
-module _ (cluster : Cluster) (corpus : Corpus) (roots : ℕ → Option Request) (given : ℕ → Headers) where
+module _ (cluster : Cluster) (corpus : Corpus) (said : Scripted) where
   pub kept_after : (t : TaskId) (e : Event) (h : List Event) (tasks after : TaskId → Option Running) → about e ≡ Some t
-      → ((q : TaskId) → IsKept cluster corpus q (facts_of roots given q h) (tasks q))
-      → IsKept cluster corpus t (facts_of roots given t (e ∷ h)) (after t)
+      → ((q : TaskId) → IsKept cluster corpus q (facts_of said q h) (tasks q))
+      → IsKept cluster corpus t (facts_of said t (e ∷ h)) (after t)
       → ((q : TaskId) → same_task t q ≡ false → after q ≡ tasks q)
-      → (q : TaskId) → IsKept cluster corpus q (facts_of roots given q (e ∷ h)) (after q)
+      → (q : TaskId) → IsKept cluster corpus q (facts_of said q (e ∷ h)) (after q)
   kept_after t e h tasks after a kept here others q = by_case (same_task_tells t q)
     where
       elsewhere : same_task t q ≡ false → t ≢ q → is_about q e ≡ false
       elsewhere differs apart = rw a (grind (arith, same_tests, apart))
 
-      by_case : ((same_task t q ≡ true) × (t ≡ q)) ⊎ ((same_task t q ≡ false) × (t ≢ q)) → IsKept cluster corpus q (facts_of roots given q (e ∷ h)) (after q)
-      by_case (inl (is_one, same)) = subst (λ x. IsKept cluster corpus x (facts_of roots given x (e ∷ h)) (after x)) same here
-      by_case (inr (differs, apart)) = rw (frame roots given q e h (elsewhere differs apart)) (rw (others q differs) (kept q))
+      by_case : ((same_task t q ≡ true) × (t ≡ q)) ⊎ ((same_task t q ≡ false) × (t ≢ q)) → IsKept cluster corpus q (facts_of said q (e ∷ h)) (after q)
+      by_case (inl (is_one, same)) = subst (λ x. IsKept cluster corpus x (facts_of said x (e ∷ h)) (after x)) same here
+      by_case (inr (differs, apart)) = rw (frame said q e h (elsewhere differs apart)) (rw (others q differs) (kept q))
 
   -- an event that is about no task
   pub kept_same : (e : Event) (h : List Event) (tasks : TaskId → Option Running) → about e ≡ None
-      → ((q : TaskId) → IsKept cluster corpus q (facts_of roots given q h) (tasks q)) → (q : TaskId) → IsKept cluster corpus q (facts_of roots given q (e ∷ h)) (tasks q)
-  kept_same e h tasks a kept q = rw (frame roots given q e h (rw a refl)) (kept q)
+      → ((q : TaskId) → IsKept cluster corpus q (facts_of said q h) (tasks q)) → (q : TaskId) → IsKept cluster corpus q (facts_of said q (e ∷ h)) (tasks q)
+  kept_same e h tasks a kept q = rw (frame said q e h (rw a refl)) (kept q)
 
 -- a map that was changed at one id: what it has there, and that it has the same everywhere else
 pub at_changed : (t : TaskId) (o : Option Running) (tasks after : TaskId → Option Running) → ((q : TaskId) → after q ≡ cond (is_at (task_id_cmp t) q) o (tasks q)) → after t ≡ o

@@ -17,7 +17,11 @@ pub mod CancelledEnds
 pub mod CancelsAfterLeave
 pub mod CancelsAfterStart
 pub mod CancelsUntouched
+pub mod ChildParts
 pub mod Children
+pub mod ClockTies
+pub mod ContextTables
+pub mod ContextsPast
 pub mod CoresAfter
 pub mod CoresAfterLeave
 pub mod CountsAfter
@@ -47,6 +51,11 @@ pub mod Numbered
 pub mod OneChange
 pub mod OpenListings
 pub mod Outcomes
+pub mod PageLaws
+pub mod PagesAfter
+pub mod PagesEnd
+pub mod PagesLeft
+pub mod PagesMoved
 pub mod Parts
 pub mod PlainEnds
 pub mod PossibleHits
@@ -60,6 +69,7 @@ pub mod SameTies
 pub mod SearchAnswers
 pub mod SearchAsks
 pub mod SearchLaws
+pub mod SearchParts
 pub mod ShardsTold
 pub mod StepsAfter
 pub mod Tables

@@ -29,7 +29,7 @@ use Rattle.world_moves.specs.Cancels.{waiting_for}
 use Rattle.world_moves.specs.Cancelling.{Cancelling, HasRows, HasBansAt, HasCoreAt}
 use Rattle.world_moves.specs.Listings.{listing_cmp}
 use Rattle.world_moves.specs.Flights.{message_of}
-use Rattle.command_roots.specs.Roots.{root_request, root_headers}
+use Rattle.command_roots.specs.Roots.{scripted}
 use Rattle.world_moves.specs.Ties.{Ties, IsGood}
 use Rattle.world_moves.proofs.AtPlace.{set_at}
 use Rattle.world_moves.proofs.ByPlace.{all_push}
@@ -44,7 +44,7 @@ module _ (cluster : Cluster) (h : List Event) (n : ℕ) (p : TaskId) where
       → Ties cluster corpus script (Listed n p ∷ h) tasks tables (flight ++ sent.Notice (notices.Ack p n) ∷ [])
   after_listed corpus script tasks tables flight ties awaits opened marked = record {
     lawful = (record { opened = opened; all_marked = marked }, ties.lawful, awaits);
-    kept = kept_same cluster corpus (root_request script) (root_headers script) (Listed n p) h tasks refl ties.kept;
+    kept = kept_same cluster corpus (scripted script) (Listed n p) h tasks refl ties.kept;
     listed = λ place. listed_same cluster (Listed n p) h (λ m. refl) refl place _ (ties.listed place);
     sent = map-append (message_of (Listed n p ∷ h)) flight (sent.Notice (notices.Ack p n) ∷ []) ∙ ap (λ ms. ms ++ Some (Ack p n) ∷ []) (all_stay (Listed n p) h flight (in_flight h) ties.sent)
         ∙ sym (map-append Some (in_flight h) (Ack p n ∷ []));

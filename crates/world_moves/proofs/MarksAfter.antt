@@ -50,7 +50,7 @@ use Rattle.world_moves.specs.Left.{HasLeft}
 use Rattle.world_moves.specs.Cancelling.{Cancelling, IsRowOf, HasRows, HasBansAt, IsEntryOf, IsCancellationOf, waiting_but, cancels_of, naming_of}
 use Rattle.world_moves.specs.Facts.{facts_of}
 use Rattle.world_moves.specs.Flights.{message_of}
-use Rattle.command_roots.specs.Roots.{root_request, root_headers}
+use Rattle.command_roots.specs.Roots.{scripted}
 use Rattle.world_moves.specs.Ties.{Ties, Runs, IsTableAt, IsGood}
 use Rattle.world_moves.proofs.AtOneTask.{at_mark as mark_at}
 use Rattle.world_moves.proofs.CountsAfter.{let_go, let_go_differ, still_waiting, others_wait, left_map}
@@ -277,8 +277,8 @@ module _ (cluster : Cluster) (t : TaskId) (c : ℕ) (h : List Event) (lawful : L
       → Ties cluster corpus script (Mark t c ∷ h) after (slice_set tables (t.node - 1) (with_mark table t.number c)) (flight ++ queue)
   after_mark corpus script tasks after tables table flight queue r ties was here others its_table its_queue number = record {
     lawful = lawful;
-    kept = kept_after cluster corpus (root_request script) (root_headers script) t (Mark t c) h tasks after refl ties.kept
-        (rw here (rw (at_mark (root_request script) (root_headers script) t h c) (closed (kept_running cluster corpus script h tasks tables flight ties t lawful.0.live r was)))) others;
+    kept = kept_after cluster corpus (scripted script) t (Mark t c) h tasks after refl ties.kept
+        (rw here (rw (at_mark (scripted script) t h c) (closed (kept_running cluster corpus script h tasks tables flight ties t lawful.0.live r was)))) others;
     listed = set_at (λ place. IsTableAt cluster place h) (λ place. IsTableAt cluster place (Mark t c ∷ h)) tables (t.node - 1) table (with_mark table t.number c) its_table ties.listed
         (listed_here (subst (IsTableAt cluster (t.node - 1) h) its_table (ties.listed (t.node - 1)))) (λ place apart fits. listed_there place (slice_get tables place) fits);
     sent = map-append (message_of (Mark t c ∷ h)) flight queue ∙ ap (λ ms. ms ++ map (message_of (Mark t c ∷ h)) queue) (all_stay (Mark t c) h flight (in_flight h) ties.sent)
@@ -287,12 +287,12 @@ module _ (cluster : Cluster) (t : TaskId) (c : ℕ) (h : List Event) (lawful : L
     plain = ties.plain;
   }
     where
-      closed : Runs cluster corpus t (facts_of (root_request script) (root_headers script) t h) r → Runs cluster corpus t (record (facts_of (root_request script) (root_headers script) t h) { mark = Some c }) (record r { track = with_close r.track c })
+      closed : Runs cluster corpus t (facts_of (scripted script) t h) r → Runs cluster corpus t (record (facts_of (scripted script) t h) { mark = Some c }) (record r { track = with_close r.track c })
       closed x = record {
         live = x.live;
         id = x.id;
         token = x.token;
-        track = ap (λ track. with_close track c) x.track ∙ ap (λ o. record { task = t; asks = (facts_of (root_request script) (root_headers script) t h).awaited; closed = Some (unwrap_or o c) }) lawful.0.unmarked;
+        track = ap (λ track. with_close track c) x.track ∙ ap (λ o. record { task = t; asks = (facts_of (scripted script) t h).awaited; closed = Some (unwrap_or o c) }) lawful.0.unmarked;
         new = x.new;
         headers = x.headers;
         works = x.works;

@@ -7,6 +7,7 @@ use Rattle.task_ids.specs.declared.task_id.TaskId.{TaskId}
 use Rattle.task_ids.specs.declared.cluster.Cluster.{Cluster}
 use Rattle.task_ids.specs.declared.corpus.Corpus.{Corpus}
 use Rattle.task_ids.specs.declared.doc.Doc.{Doc}
+use Rattle.task_events.specs.declared.context.Context.{Context}
 use Rattle.task_events.specs.declared.request.Request.{Request}
 use Rattle.task_events.specs.declared.request.Request.TheVariants as asks
 use Rattle.task_events.specs.declared.request.ShardAsk.{ShardAsk}
@@ -17,10 +18,10 @@ use Rattle.task_events.specs.Looking.{is_done}
 use Rattle.task_events.specs.QueryTask.{query_step}
 use Rattle.task_events.specs.Tasks.{no_counts}
 use Rattle.corpus_shards.specs.Stored.{AreFew}
-use Rattle.search_phase.specs.Queries.{QueryState, without_keys, looked, version_at}
+use Rattle.search_phase.specs.Queries.{QueryState, new_query, without_keys, looked, version_at}
 use Rattle.task_work.specs.declared.work.Work.{Work}
 use Rattle.task_work.specs.declared.work.Work.TheVariants as works
-use Rattle.task_work.specs.Works.{IsWorkOn, with_turn, new_work}
+use Rattle.task_work.specs.Works.{IsWorkOn, with_turn}
 use Rattle.world_moves.specs.Facts.{none_awaited}
 use Rattle.world_moves.specs.Good.{IsGoodReply, written}
 use Rattle.world_moves.specs.QueryRuns.{RunsQuery}
@@ -46,8 +47,11 @@ version_asked None v all e = refl
 version_asked (Some a) v all e = grind (arith, nat_tests)
 
 module _ (cluster : Cluster) (corpus : Corpus) (ask : ShardAsk) where
-  pub query_starts : (t : TaskId) → IsWorkOn (new_work t (asks.Query ask) cluster.shards) (written cluster corpus ask.index ask.shard) → RunsQuery cluster corpus 0 [] ask (new_work t (asks.Query ask) cluster.shards)
-  query_starts t on = record { ask_is = refl; turns_are = refl; asks_nothing = refl; version_is = refl; on = on }
+  pub query_starts : (t : TaskId) (w : Work) → (works.Query (new_query ask) None) ≡ w → IsWorkOn w (written cluster corpus ask.index ask.shard) → RunsQuery cluster corpus 0 [] ask w
+  query_starts t w is on = subst (RunsQuery cluster corpus 0 [] ask) is (first (subst (λ v. IsWorkOn v (written cluster corpus ask.index ask.shard)) (sym is) on))
+    where
+      first : IsWorkOn (works.Query (new_query ask) None) (written cluster corpus ask.index ask.shard) → RunsQuery cluster corpus 0 [] ask (works.Query (new_query ask) None)
+      first on = record { ask_is = refl; turns_are = refl; asks_nothing = refl; version_is = refl; on = on }
 
   pub query_rejected : (n : ℕ) → IsGoodReply cluster corpus (asks.Query ask) (Rejected n)
   query_rejected n = (refl, tt, tt)
@@ -58,8 +62,8 @@ module _ (cluster : Cluster) (corpus : Corpus) (ask : ShardAsk) where
   query_good : AreFew corpus.lines cluster.shards → (v : ℕ) → v ≡ unwrap_or ask.version (length (written cluster corpus ask.index ask.shard)) → IsGoodReply cluster corpus (asks.Query ask) (Top (shard_top ask v (written cluster corpus ask.index ask.shard)))
   query_good few v e = (tops_possible ask v (written cluster corpus ask.index ask.shard) (version_asked ask.version v _ e) (few ask.index ask.shard), refl, e)
 
-module _ (cluster : Cluster) (corpus : Corpus) (t : TaskId) (asked : List Asked) (requests : List Request) (awaited : List (Option ℕ)) (turns : ℕ) where
-  pub query_laws : (ask : ShardAsk) (w : Work) → RunsQuery cluster corpus turns awaited ask w → KindLaws cluster corpus t asked requests awaited turns (Some (asks.Query ask)) w
+module _ (cluster : Cluster) (corpus : Corpus) (t : TaskId) (page : Option Context) (asked : List Asked) (requests : List Request) (awaited : List (Option ℕ)) (turns : ℕ) where
+  pub query_laws : (ask : ShardAsk) (w : Work) → RunsQuery cluster corpus turns awaited ask w → KindLaws cluster corpus t page asked requests awaited turns (Some (asks.Query ask)) w
   query_laws ask (works.Query q top) x = record {
     follows =
         ap (λ z. Some (query_step z (unwrap_or ask.version (length mine)) turns mine)) (sym x.ask_is)

@@ -10,7 +10,7 @@ use Rattle.task_ids.specs.declared.corpus.Corpus.{Corpus}
 use Rattle.task_ids.specs.declared.doc.Doc.{Doc}
 use Rattle.child_track.specs.Token.{Token}
 use Rattle.task_table.specs.Table.{Table}
-use Rattle.task_work.specs.Works.{IsWorkOn}
+use Rattle.task_work.specs.Works.{IsWorkOn, new_work}
 use Rattle.script_lang.specs.declared.command.Script.{Script}
 use Rattle.task_events.specs.declared.reply.Reply.TheVariants.{Rejected}
 use Rattle.task_events.specs.declared.event.Event.{Event}
@@ -29,7 +29,7 @@ use Rattle.node_parts.specs.declared.running.Running.{Running}
 use Rattle.world_moves.specs.Facts.{Facts, facts_of}
 use Rattle.world_moves.specs.Flights.{message_of, reply_in}
 use Rattle.world_moves.specs.Moves.{Delivers}
-use Rattle.command_roots.specs.Roots.{root_request, root_headers}
+use Rattle.command_roots.specs.Roots.{scripted}
 use Rattle.world_moves.specs.Ties.{Ties, IsGood}
 use Rattle.world_moves.proofs.AllKinds.{good_rejection}
 use Rattle.world_moves.proofs.RequestsInFlight.{Arrives}
@@ -55,12 +55,12 @@ module _ (cluster : Cluster) (corpus : Corpus) (script : Script) (h : List Event
     pub delivers_put : Delivers cluster h nth (Put t token.parent token.ask ∷ h)
     delivers_put = (Request token.parent token.ask to arrives.asked, Put t token.parent token.ask, arrives.here, (put_takes cluster h tables ties.listed to arrives.low arrives.high t task after put ties.lawful, node_is, refl, refl), refl)
 
-    pub after_put : (running : Running) (kept : TaskId → Option Running) (headers : Headers) → running ≡ first t (Some token) true arrives.asked cluster.shards headers → headers ≡ headers_of (root_headers script) token.parent h → ((writes : List Doc) → IsWorkOn running.work writes)
+    pub after_put : (running : Running) (kept : TaskId → Option Running) (headers : Headers) → running ≡ first t (Some token) true running.work headers → new_work t arrives.asked cluster.shards None ≡ Some running.work → headers ≡ headers_of (scripted script) token.parent h → ((writes : List Doc) → IsWorkOn running.work writes)
         → kept t ≡ Some running → ((q : TaskId) → same_task t q ≡ false → kept q ≡ tasks q)
         → Ties cluster corpus script (Put t token.parent token.ask ∷ h) kept after (remove flight nth)
-    after_put running kept headers is carried on here others = record {
+    after_put running kept headers is work carried on here others = record {
       lawful = (record { requested = arrives.requested; node = arrives.node ∙ ap Some (sym node_is); takes = takes }, ties.lawful, awaits);
-      kept = kept_after cluster corpus (root_request script) (root_headers script) t event h tasks kept refl ties.kept (rw here (runs_first cluster corpus t (Some token) true arrives.asked headers _ running facts is on)) others;
+      kept = kept_after cluster corpus (scripted script) t event h tasks kept refl ties.kept (rw here (runs_first cluster corpus t (Some token) true arrives.asked None headers _ running facts is work on tt)) others;
       listed = put_listed cluster h tables ties.listed to arrives.low arrives.high t task after put event (record { last = λ n. refl; live = refl });
       sent = all_stay event h (remove flight nth) (remove (in_flight h) nth) (pairs_left (message_of h) flight (in_flight h) nth ties.sent) ∙ ap (map Some) (sym arrives.taken);
       good = rw arrives.taken (all_left (IsGood cluster corpus h) (in_flight h) nth ties.good);
@@ -73,11 +73,11 @@ module _ (cluster : Cluster) (corpus : Corpus) (script : Script) (h : List Event
         takes : TakesSlot cluster t h
         takes = put_takes cluster h tables ties.listed to arrives.low arrives.high t task after put ties.lawful
 
-        facts : facts_of (root_request script) (root_headers script) t (Put t token.parent token.ask ∷ h) ≡ started (Some token) true arrives.asked headers
+        facts : facts_of (scripted script) t (Put t token.parent token.ask ∷ h) ≡ started (Some token) true arrives.asked None headers
         facts =
-            let none = unborn cluster t (root_request script) (root_headers script) h ties.lawful (let next = takes.next in omega arith) in
-            at_put (root_request script) (root_headers script) t h token.parent token.ask
-            ∙ ap (λ (f : Facts). record f { live = true; new = true; parent = Some token.parent; ask = token.ask; request = request_of_ask token.parent token.ask h; headers = headers_of (root_headers script) token.parent h }) none
+            let none = unborn cluster t (scripted script) h ties.lawful (let next = takes.next in omega arith) in
+            at_put (scripted script) t h token.parent token.ask
+            ∙ ap (λ (f : Facts). record f { live = true; new = true; parent = Some token.parent; ask = token.ask; request = request_of_ask token.parent token.ask h; headers = headers_of (scripted script) token.parent h }) none
             ∙ (λ i. record blank { live = true; new = true; parent = Some token.parent; ask = token.ask; request = arrives.request i; headers = sym carried i })
 
   -- no slot is free
@@ -91,7 +91,7 @@ module _ (cluster : Cluster) (corpus : Corpus) (script : Script) (h : List Event
     pub after_reject : Ties cluster corpus script (Reject to token.parent token.ask ∷ h) tasks tables (remove flight nth ++ rejected token (length h) ∷ [])
     after_reject = record {
       lawful = (record { requested = arrives.requested; node = arrives.node; full = full }, ties.lawful, awaits);
-      kept = kept_same cluster corpus (root_request script) (root_headers script) event h tasks refl ties.kept;
+      kept = kept_same cluster corpus (scripted script) event h tasks refl ties.kept;
       listed = λ place. listed_same cluster event h (λ n. refl) refl place _ (ties.listed place);
       sent = map-append (message_of (event ∷ h)) (remove flight nth) (answer ∷ []) ∙ ap (λ ms. ms ++ message_of (event ∷ h) answer ∷ []) others ∙ ap (λ m. map Some (remove (in_flight h) nth) ++ m ∷ []) this
           ∙ sym (map-append Some (remove (in_flight h) nth) (said ∷ [])) ∙ ap (λ ms. map Some (ms ++ said ∷ [])) (sym arrives.taken);

@@ -17,7 +17,7 @@ use Rattle.task_events.specs.Lawful.{Lawful}
 use Rattle.task_events.specs.Tasks.{is_live, parent_of}
 use Rattle.task_events.specs.TaskRows.{row_of, living_on, started_at, headers_of}
 use Rattle.task_laws.proofs.Reach.{reach_facts}
-use Rattle.command_roots.specs.Roots.{root_request, root_headers, rows_of}
+use Rattle.command_roots.specs.Roots.{rows_of, scripted}
 use Rattle.tasks_api.specs.declared.filter.Filter.{Filter}
 use Rattle.tasks_api.specs.Filters.{filter_matches}
 use Rattle.tasks_api.specs.Lists.{shown}
@@ -70,7 +70,7 @@ by_nodes nodes at (table ∷ tables) first (suc n) e fits =
 module _ (script : Script) (h : List Event) where
   -- the row of a task as the past says it
   abbrev told : TaskId → Option TaskInfo
-  told t = row_of (root_request script) (root_headers script) t h
+  told t = row_of (scripted script) t h
 
   -- is the row that a table has of it
   row_told : (row : TaskInfo) → IsRowOf h row → IsDescribed script h row → told row.id ≡ Some row
@@ -82,7 +82,7 @@ module _ (script : Script) (h : List Event) where
         description = description_of d.request;
         start_ms = started_at row.id h;
         parent = parent_of row.id h;
-        headers = headers_of (root_headers script) row.id h;
+        headers = headers_of (scripted script) row.id h;
         cancelled = mark_of row.id h;
       }) ≡ Some row
       same_row = rw (sym d.action, sym d.description, sym d.start, sym d.headers, sym is.0, sym is.1) refl

@@ -7,15 +7,14 @@ use Rattle.std.proofs.lemmas.Bool.{eqb-true, eq-eqb}
 use Rattle.std.proofs.lemmas.Bool.Decides.{nat_tests}
 use Rattle.std.proofs.lemmas.List.{length-map}
 use Rattle.std.proofs.lemmas.Option.{slice_get_within}
-use Rattle.task_ids.specs.declared.task_id.TaskId.{TaskId}
 use Rattle.task_ids.specs.declared.cluster.Cluster.{Cluster}
 use Rattle.task_ids.specs.declared.corpus.Corpus.{Corpus}
-use Rattle.task_events.specs.declared.request.SearchAsk.{SearchAsk}
 use Rattle.task_events.specs.declared.request.Request.{Request}
 use Rattle.task_events.specs.declared.reply.Reply.{Reply}
 use Rattle.task_events.specs.declared.step.Asked.{Asked}
 use Rattle.task_events.specs.Steps.{with_answer as asked_with_answer}
 use Rattle.task_events.specs.Kinds.{can_have}
+use Rattle.task_events.specs.Readings.{Reading}
 use Rattle.task_events.specs.Searches.{requests_of}
 use Rattle.search_phase.specs.Searching.{Searching, IsSearching, takes, answered_by, with_answer}
 use Rattle.search_phase.proofs.Answered.{IsAwaited, EachAnswer-answer, request_stays}
@@ -23,6 +22,7 @@ use Rattle.search_phase.proofs.Lookups.{slice_get-take}
 use Rattle.world_moves.specs.SearchRuns.{SearchesFor}
 use Rattle.world_moves.specs.Good.{IsGoodReply}
 use Rattle.world_moves.proofs.Numbered.{is_searching}
+use Rattle.world_moves.proofs.SearchParts.{any_shards, plan_parts}
 
 -- ---- the asks of a search, which are numbered on from b
 
@@ -137,14 +137,14 @@ within (x ∷ xs) (suc i) e = let l = within xs i e in omega arith
 
 -- ---- a search that takes an answer
 
-module _ (cluster : Cluster) (corpus : Corpus) (t : TaskId) (ask : SearchAsk) (asked : List Asked) (requests : List Request) (open_asks : List (Option ℕ)) (i : ℕ) (r : Request) (reply : Reply)
+module _ (cluster : Cluster) (corpus : Corpus) (q : Reading) (asked : List Asked) (requests : List Request) (open_asks : List (Option ℕ)) (i : ℕ) (r : Request) (reply : Reply)
     (there : slice_get requests i ≡ Some r) (unanswered : is_some (get_or open_asks i None) ≡ true) (good : IsGoodReply cluster corpus r reply) where
   abbrev state : Searching
-  state = record { task = t; ask = ask; shards = cluster.shards; asked = asked }
+  state = record { reading = q; asked = asked }
 
-  module _ (x : SearchesFor cluster corpus t ask asked requests open_asks state) where
-    in_plan : slice_get (requests_of ask cluster.shards asked) i ≡ Some r
-    in_plan = (slice_get-take (length asked) i (requests_of ask cluster.shards asked) r (ap (λ l. slice_get l i) (sym x.planned) ∙ there)).0
+  module _ (x : SearchesFor cluster corpus q asked requests open_asks state) where
+    in_plan : slice_get (requests_of q asked) i ≡ Some r
+    in_plan = (slice_get-take (length asked) i (requests_of q asked) r (ap (λ l. slice_get l i) (sym x.planned) ∙ there)).0
 
     the_ask : (a : Asked) × (slice_get asked i ≡ Some a)
     the_ask = has_at asked i (let l = slice_get_within requests i r there in let e = x.as_many in omega arith)
@@ -153,27 +153,29 @@ module _ (cluster : Cluster) (corpus : Corpus) (t : TaskId) (ask : SearchAsk) (a
     no_answer = answered_at asked open_asks i the_ask.0 x.answered the_ask.1 unanswered
 
     searching : IsSearching state
-    searching = is_searching cluster corpus t ask asked requests open_asks x
+    searching = is_searching cluster corpus q asked requests open_asks x
 
     is_awaited : IsAwaited state (1 + i) r i the_ask.0
     is_awaited = record { at = the_ask.1; asks_for = in_plan; number = number_at 1 asked i the_ask.0 x.numbered the_ask.1; open_yet = no_answer }
 
     pub takes_it : takes state (1 + i) reply ≡ true
     takes_it =
-        ap (λ o. option_map_or (λ request. can_have cluster.shards request reply) o false) (found 1 asked (requests_of ask cluster.shards asked) i the_ask.0 r x.numbered the_ask.1 in_plan no_answer)
-        ∙ good.0
+        ap (λ o. option_map_or (λ request. can_have (length q.shards) request reply) o false) (found 1 asked (requests_of q asked) i the_ask.0 r x.numbered the_ask.1 in_plan no_answer)
+        ∙ any_shards (length q.shards) cluster.shards r reply (plan_parts q asked i r in_plan) ∙ good.0
 
-    pub searches_on : SearchesFor cluster corpus t ask (map (answered_by (1 + i) reply) asked) requests (slice_set open_asks i None) (with_answer state (1 + i) reply)
+    pub searches_on : SearchesFor cluster corpus q (map (answered_by (1 + i) reply) asked) requests (slice_set open_asks i None) (with_answer state (1 + i) reply)
     searches_on =
         let later : List Asked = map (answered_by (1 + i) reply) asked in
         let as_long : length later ≡ length asked = length-map asked (answered_by (1 + i) reply) in
         record {
           state_is = refl;
+          reading_is = x.reading_is;
+          few = x.few;
           numbered = same_numbers (1 + i) reply asked ∙ x.numbered ∙ ap (range_with_len 1) (sym as_long);
           planned =
               x.planned
-              ∙ take_alike (length asked) (requests_of ask cluster.shards asked) (requests_of ask cluster.shards later) (λ j l. sym (request_stays state (1 + i) reply r i the_ask.0 searching is_awaited j l))
-              ∙ ap (λ n. take n (requests_of ask cluster.shards later)) (sym as_long);
+              ∙ take_alike (length asked) (requests_of q asked) (requests_of q later) (λ j l. sym (request_stays state (1 + i) reply r i the_ask.0 searching is_awaited j l))
+              ∙ ap (λ n. take n (requests_of q later)) (sym as_long);
           as_many = x.as_many ∙ sym as_long;
           answered = noted 1 reply asked open_asks i x.numbered x.answered;
           good = EachAnswer-answer state (1 + i) reply r i the_ask.0 searching is_awaited (IsGoodReply cluster corpus) x.good good;

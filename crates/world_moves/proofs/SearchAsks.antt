@@ -1,26 +1,23 @@
 -- What a search asks for, in the order of its plan.
 use Rattle.std.proofs.Common.{◌≡◌, ◌≤◌, ◌<◌, ℕ, zero, suc, ◌+◌, Bool, true, false, cond, List, [], ◌∷◌, ◌++◌, length, map, take, Option, Some, None, refl, sym, ap, subst, ◌∙◌, arith}
-use Rattle.std.specs.Prelude.{is_some, not, nat_lt, slice_get, filter, filter_map, option_and_then}
+use Rattle.std.specs.Prelude.{◌&&◌, is_some, not, nat_lt, slice_get, filter, filter_map, option_and_then}
 use Rattle.std.specs.List.{cons_option, list_all, range_with_len}
 use Rattle.std.proofs.lemmas.Bool.Decides.{nat_tests}
 use Rattle.std.proofs.lemmas.List.{length-map, map-append, length-take}
 use Rattle.std.proofs.lemmas.Option.{slice_get_within}
-use Rattle.task_ids.specs.declared.task_id.TaskId.{TaskId}
 use Rattle.task_ids.specs.declared.cluster.Cluster.{Cluster}
 use Rattle.task_ids.specs.declared.corpus.Corpus.{Corpus}
-use Rattle.task_events.specs.declared.request.SearchAsk.{SearchAsk}
 use Rattle.task_events.specs.declared.request.Request.{Request}
 use Rattle.task_events.specs.declared.reply.Reply.{Reply}
 use Rattle.task_events.specs.declared.step.Asked.{Asked}
 use Rattle.task_events.specs.declared.step.Do.TheVariants.{AskNext}
+use Rattle.task_events.specs.Readings.{Reading}
 use Rattle.task_events.specs.Searches.{top_of, tops_in, winners_among, has_winner, won_tops, fetch_of, fetches_of, has_queried, requests_of}
 use Rattle.task_events.specs.SearchTask.{ask_or_end}
 use Rattle.search_phase.specs.Searching.{Searching, wants_to_ask, next_step, is_above}
 use Rattle.search_phase.specs.Searching as searching
 use Rattle.search_phase.proofs.Asks.{requests_of-ask, EachAnswer-ask}
 use Rattle.search_phase.proofs.Requests.{length-requests_before, length-requests_after}
-use Rattle.task_work.specs.declared.work.Work.TheVariants as works
-use Rattle.task_work.specs.Works.{can_ask}
 use Rattle.world_moves.specs.SearchRuns.{SearchesFor}
 use Rattle.world_moves.specs.Good.{IsGoodReply}
 use Rattle.world_moves.proofs.AsksCounted.{length-grown}
@@ -53,29 +50,31 @@ asks_what (Some r) answered reply request e = cc
 asks_what None true reply request e = absurd (cc)
 asks_what None false reply request e = absurd (cc)
 
-module _ (cluster : Cluster) (corpus : Corpus) (t : TaskId) (asked : List Asked) (requests : List Request) (awaited : List (Option ℕ)) (request : Request) where
-  as_many_asked : (ask : SearchAsk) (s : Searching) → SearchesFor cluster corpus t ask asked requests awaited s → length awaited ≡ length asked
-  as_many_asked ask s x =
+module _ (cluster : Cluster) (corpus : Corpus) (r : Reading) (asked : List Asked) (requests : List Request) (awaited : List (Option ℕ)) (request : Request) where
+  as_many_asked : (s : Searching) → SearchesFor cluster corpus r asked requests awaited s → length awaited ≡ length asked
+  as_many_asked s x =
       let e : length (map (λ a. is_some a.answer) asked) ≡ length (map (λ o. not (is_some o)) awaited) = ap length x.answered in
       omega (arith, length-map asked (λ a. is_some a.answer), length-map awaited (λ o. not (is_some o)))
 
-  request_next : (ask : SearchAsk) (s : Searching) → SearchesFor cluster corpus t ask asked requests awaited s → next_step s ≡ AskNext request → slice_get (requests_of ask cluster.shards asked) (length asked) ≡ Some request
-  request_next ask s x plans = subst (λ z. slice_get (requests_of z.ask z.shards z.asked) (length z.asked) ≡ Some request) x.state_is (asks_what _ _ _ request plans)
+  request_next : (s : Searching) → SearchesFor cluster corpus r asked requests awaited s → next_step s ≡ AskNext request → slice_get (requests_of r asked) (length asked) ≡ Some request
+  request_next s x plans = subst (λ z. slice_get (requests_of z.reading z.asked) (length z.asked) ≡ Some request) x.state_is (asks_what _ _ _ request plans)
 
-  pub searches_on : (ask : SearchAsk) (s : Searching) (k n : ℕ) → SearchesFor cluster corpus t ask asked requests awaited s → next_step s ≡ AskNext request → k ≡ length awaited + 1
-      → SearchesFor cluster corpus t ask (asked ++ record { ask = k; answer = None } ∷ []) (requests ++ request ∷ []) (awaited ++ Some n ∷ []) (searching.with_ask s k)
-  searches_on ask s k n x plans number =
+  pub searches_on : (s : Searching) (k n : ℕ) → SearchesFor cluster corpus r asked requests awaited s → next_step s ≡ AskNext request → k ≡ length awaited + 1
+      → SearchesFor cluster corpus r (asked ++ record { ask = k; answer = None } ∷ []) (requests ++ request ∷ []) (awaited ++ Some n ∷ []) (searching.with_ask s k)
+  searches_on s k n x plans number =
       let a : Asked = record { ask = k; answer = None } in
-      let as_many : length awaited ≡ length asked = as_many_asked ask s x in
+      let as_many : length awaited ≡ length asked = as_many_asked s x in
       let longer : length (asked ++ a ∷ []) ≡ suc (length asked) = omega (arith, length-grown asked a) in
       record {
         state_is = ap (λ z. searching.with_ask z k) x.state_is;
+        reading_is = x.reading_is;
+        few = x.few;
         numbered = numbered-grown 1 asked a x.numbered (omega arith);
         planned =
             ap (λ l. l ++ request ∷ []) x.planned
-            ∙ sym (take-grown (length asked) (requests_of ask cluster.shards asked) request (request_next ask s x plans))
-            ∙ ap (λ l. take (suc (length asked)) l) (sym (requests_of-ask ask cluster.shards asked k))
-            ∙ ap (λ m. take m (requests_of ask cluster.shards (asked ++ a ∷ []))) (sym longer);
+            ∙ sym (take-grown (length asked) (requests_of r asked) request (request_next s x plans))
+            ∙ ap (λ l. take (suc (length asked)) l) (sym (requests_of-ask r asked k))
+            ∙ ap (λ m. take m (requests_of r (asked ++ a ∷ []))) (sym longer);
         as_many = let e = x.as_many in omega (arith, length-grown requests request);
         answered =
             map-append (λ a. is_some a.answer) asked (a ∷ [])
@@ -84,9 +83,9 @@ module _ (cluster : Cluster) (corpus : Corpus) (t : TaskId) (asked : List Asked)
         good = EachAnswer-ask (IsGoodReply cluster corpus) s k x.good;
       }
 
-  pub may_ask : (ask : SearchAsk) (s : Searching) → SearchesFor cluster corpus t ask asked requests awaited s → next_step s ≡ AskNext request → can_ask (works.Search s) (length awaited + 1) ≡ true
-  may_ask ask s x plans =
-      let as_many : length awaited ≡ length asked = as_many_asked ask s x in
+  pub may_ask : (s : Searching) → SearchesFor cluster corpus r asked requests awaited s → next_step s ≡ AskNext request → (wants_to_ask (next_step s) && is_above (length awaited + 1) s.asked) ≡ true
+  may_ask s x plans =
+      let as_many : length awaited ≡ length asked = as_many_asked s x in
       let wants : wants_to_ask (next_step s) ≡ true = ap wants_to_ask plans in
       let high : is_above (length awaited + 1) s.asked ≡ true = subst (λ z. is_above (length awaited + 1) z.asked ≡ true) (sym x.state_is) (above 1 (length awaited + 1) asked x.numbered (omega arith)) in
       rw (wants, high) refl
@@ -109,27 +108,27 @@ mapped f (x ∷ xs) = one_more (f x) (filter_map f xs) (length xs) (mapped f xs)
     one_more None ys n l = omega arith
     one_more (Some y) ys n l = omega arith
 
--- a search asks each shard at most twice
-requests_few : (ask : SearchAsk) (shards : ℕ) (asked : List Asked) → length (requests_of ask shards asked) ≤ shards + shards
-requests_few ask shards asked = by_case (has_queried shards asked) refl
+-- each shard is asked at most twice
+requests_few : (r : Reading) (asked : List Asked) → length (requests_of r asked) ≤ length r.shards + length r.shards
+requests_few r asked = by_case (has_queried (length r.shards) asked) refl
   where
-    by_case : (b : Bool) → has_queried shards asked ≡ b → length (requests_of ask shards asked) ≤ shards + shards
-    by_case false e = let n = length-requests_before ask shards asked e in omega arith
+    by_case : (b : Bool) → has_queried (length r.shards) asked ≡ b → length (requests_of r asked) ≤ length r.shards + length r.shards
+    by_case false e = let n = length-requests_before r asked e in omega arith
     by_case true e =
-        let n = length-requests_after ask shards asked e in
-        let tops = tops_in shards asked in
-        let fetches : length (fetches_of ask tops) ≡ length (won_tops ask.body tops) = length-map (won_tops ask.body tops) (fetch_of ask (winners_among ask.body tops)) in
-        let won : length (won_tops ask.body tops) ≤ length tops = filtered (has_winner (winners_among ask.body tops)) tops in
-        let answered : length tops ≤ length (take shards asked) = mapped (λ a. option_and_then top_of a.answer) (take shards asked) in
-        let first : length (take shards asked) ≤ shards = omega (arith, length-take shards asked) in
+        let n = length-requests_after r asked e in
+        let tops = tops_in (length r.shards) asked in
+        let fetches : length (fetches_of r.ask tops) ≡ length (won_tops r.ask.body tops) = length-map (won_tops r.ask.body tops) (fetch_of r.ask (winners_among r.ask.body tops)) in
+        let won : length (won_tops r.ask.body tops) ≤ length tops = filtered (has_winner (winners_among r.ask.body tops)) tops in
+        let answered : length tops ≤ length (take (length r.shards) asked) = mapped (λ a. option_and_then top_of a.answer) (take (length r.shards) asked) in
+        let first : length (take (length r.shards) asked) ≤ length r.shards = omega (arith, length-take (length r.shards) asked) in
         omega arith
 
-pub few_asks : (cluster : Cluster) (corpus : Corpus) (t : TaskId) (asked : List Asked) (requests : List Request) (awaited : List (Option ℕ)) (request : Request) (ask : SearchAsk) (s : Searching)
-    → SearchesFor cluster corpus t ask asked requests awaited s → next_step s ≡ AskNext request → length awaited + 1 < 4294967296
-few_asks cluster corpus t asked requests awaited request ask s x plans =
-    let as_many = as_many_asked cluster corpus t asked requests awaited request ask s x in
-    let next = request_next cluster corpus t asked requests awaited request ask s x plans in
-    let below : length asked < length (requests_of ask cluster.shards asked) = slice_get_within (requests_of ask cluster.shards asked) (length asked) request next in
-    let few = requests_few ask cluster.shards asked in
-    let shards : cluster.shards ≤ 15 = cluster.shards_in_range.1 in
+pub few_asks : (cluster : Cluster) (corpus : Corpus) (r : Reading) (asked : List Asked) (requests : List Request) (awaited : List (Option ℕ)) (request : Request) (s : Searching)
+    → SearchesFor cluster corpus r asked requests awaited s → next_step s ≡ AskNext request → length awaited + 1 < 4294967296
+few_asks cluster corpus r asked requests awaited request s x plans =
+    let as_many = as_many_asked cluster corpus r asked requests awaited request s x in
+    let next = request_next cluster corpus r asked requests awaited request s x plans in
+    let below : length asked < length (requests_of r asked) = slice_get_within (requests_of r asked) (length asked) request next in
+    let few = requests_few r asked in
+    let shards : length r.shards ≤ 15 = x.few in
     omega arith

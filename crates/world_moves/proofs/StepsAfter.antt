@@ -15,7 +15,7 @@ use Rattle.script_lang.specs.declared.command.Script.{Script}
 use Rattle.world_moves.specs.declared.flight.Sent.{Sent}
 use Rattle.node_parts.specs.declared.running.Running.{Running}
 use Rattle.world_moves.specs.Facts.{facts_of}
-use Rattle.command_roots.specs.Roots.{root_request, root_headers}
+use Rattle.command_roots.specs.Roots.{scripted}
 use Rattle.world_moves.specs.Ties.{Ties, Runs}
 use Rattle.world_moves.proofs.FactsAfter.{at_pass}
 use Rattle.world_moves.proofs.FlightAfter.{all_stay}
@@ -24,7 +24,7 @@ use Rattle.world_moves.proofs.NodeTablesSame.{listed_same}
 
 module _ (cluster : Cluster) (corpus : Corpus) (script : Script) (h : List Event) (tasks : TaskId → Option Running) (tables : List Table) (flight : List Sent) (ties : Ties cluster corpus script h tasks tables flight) where
   -- what is kept of a live task
-  pub kept_running : (t : TaskId) → is_live t h ≡ true → (r : Running) → tasks t ≡ Some r → Runs cluster corpus t (facts_of (root_request script) (root_headers script) t h) r
+  pub kept_running : (t : TaskId) → is_live t h ≡ true → (r : Running) → tasks t ≡ Some r → Runs cluster corpus t (facts_of (scripted script) t h) r
   kept_running t l r e = rw e at (ties.kept t)
 
   -- a live task is kept
@@ -36,18 +36,18 @@ module _ (cluster : Cluster) (corpus : Corpus) (script : Script) (h : List Event
       → Ties cluster corpus script (Pass t ∷ h) after tables flight
   after_pass t r after awaits l n no_ban e here others = record {
     lawful = (record { live = l; first = n; no_ban = no_ban }, ties.lawful, awaits);
-    kept = kept_after cluster corpus (root_request script) (root_headers script) t (Pass t) h tasks after refl ties.kept (rw here (rw (at_pass (root_request script) (root_headers script) t h) (passed (kept_running t l r e)))) others;
+    kept = kept_after cluster corpus (scripted script) t (Pass t) h tasks after refl ties.kept (rw here (rw (at_pass (scripted script) t h) (passed (kept_running t l r e)))) others;
     listed = λ place. listed_same cluster (Pass t) h (λ n. refl) refl place _ (ties.listed place);
     sent = all_stay (Pass t) h flight _ ties.sent;
     good = ties.good;
     plain = ties.plain;
   }
     where
-      passed : Runs cluster corpus t (facts_of (root_request script) (root_headers script) t h) r → Runs cluster corpus t (record (facts_of (root_request script) (root_headers script) t h) { new = false }) (record r { is_new = false })
+      passed : Runs cluster corpus t (facts_of (scripted script) t h) r → Runs cluster corpus t (record (facts_of (scripted script) t h) { new = false }) (record r { is_new = false })
       passed x = record { live = x.live; id = x.id; token = x.token; track = x.track; new = refl; headers = x.headers; works = x.works }
 
   -- what is kept of a task is live, and what is not kept is not
-  pub runs_of : (t : TaskId) (r : Running) → tasks t ≡ Some r → Runs cluster corpus t (facts_of (root_request script) (root_headers script) t h) r
+  pub runs_of : (t : TaskId) (r : Running) → tasks t ≡ Some r → Runs cluster corpus t (facts_of (scripted script) t h) r
   runs_of t r e = rw e at (ties.kept t)
 
   pub gone_of : (t : TaskId) → tasks t ≡ None → is_live t h ≡ false

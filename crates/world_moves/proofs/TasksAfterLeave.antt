@@ -28,7 +28,7 @@ use Rattle.node_parts.specs.declared.running.Running.{Running}
 use Rattle.world_moves.specs.Facts.{facts_of, awaited_by, none_awaited, about}
 use Rattle.world_moves.specs.Flights.{message_of, told_parent, reply_in}
 use Rattle.world_moves.specs.Plain.{AnswersPlainly}
-use Rattle.command_roots.specs.Roots.{root_request, root_headers}
+use Rattle.command_roots.specs.Roots.{scripted}
 use Rattle.world_moves.specs.Ties.{Ties, Runs, IsGood}
 use Rattle.world_moves.proofs.LiveRows.{row_of_task}
 use Rattle.world_moves.proofs.NoneAwaited.{none_counted}
@@ -109,7 +109,7 @@ module _ (cluster : Cluster) (corpus : Corpus) (script : Script) (h : List Event
   table_is table e = let its = table_of cluster h tables ties.listed t.node t.node_in_range.0 in_cluster in its.1 ∙ ap Some (sym (e ∙ get_or_from_slice_get tables (t.node - 1) its.0 table its.1))
 
   module _ (r : Running) (here : tasks t ≡ Some r) where
-    pub runs : Runs cluster corpus t (facts_of (root_request script) (root_headers script) t h) r
+    pub runs : Runs cluster corpus t (facts_of (scripted script) t h) r
     runs = kept_running cluster corpus script h tasks tables flight ties t live r here
 
     pub own_track : r.track.task ≡ r.ticket.id
@@ -132,7 +132,7 @@ module _ (cluster : Cluster) (corpus : Corpus) (script : Script) (h : List Event
         → Ties cluster corpus script (e ∷ h) after (slice_set tables (t.node - 1) (without_task table t.number)) (flight ++ told_parent receipt (length h) ++ unbans)
     after_leave reply e leaves lawful plain good table receipt after unbans its_table sealed_is gone others unbans_are = record {
       lawful = lawful;
-      kept = kept_after cluster corpus (root_request script) (root_headers script) t e h tasks after leaves.of_task ties.kept (rw gone leaves.ended) others;
+      kept = kept_after cluster corpus (scripted script) t e h tasks after leaves.of_task ties.kept (rw gone leaves.ended) others;
       listed = end_listed t cluster e h leaves.left leaves.last tables table ties.listed t.node_in_range.0 its_table;
       sent = map-append said (flight ++ told) unbans ∙ ap (λ ms. ms ++ map said unbans) told_too ∙ ap (λ ms. map Some (in_flight h ++ answer) ++ ms) unbans_are
           ∙ sym (map-append Some (in_flight h ++ answer) (unbans_from t (e ∷ h))) ∙ ap (map Some) (sym leaves.sends);

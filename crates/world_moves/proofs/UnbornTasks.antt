@@ -1,12 +1,11 @@
 -- The past says nothing of a task that has not started.
-use Rattle.std.proofs.Common.{◌≡◌, ◌<◌, ℕ, false, List, [], ◌∷◌, Option, None, refl, ◌∙◌, arith}
+use Rattle.std.proofs.Common.{◌≡◌, ◌<◌, false, List, [], ◌∷◌, None, refl, ◌∙◌, arith}
 use Rattle.task_ids.specs.declared.task_id.TaskId.{TaskId}
-use Rattle.task_ids.specs.declared.task_info.Headers.{Headers}
 use Rattle.task_ids.specs.declared.cluster.Cluster.{Cluster}
 use Rattle.task_ids.specs.Headers.{no_headers}
-use Rattle.task_events.specs.declared.request.Request.{Request}
 use Rattle.task_events.specs.declared.event.Event.{Event}
 use Rattle.task_events.specs.declared.event.Event.TheVariants.{Root, Ask, Put, Pass, Refuse, Mark, Work, Answered, End}
+use Rattle.task_events.specs.Requests.{Scripted}
 use Rattle.task_events.specs.Tasks.{last_number}
 use Rattle.task_events.specs.Allowed.{Allowed}
 use Rattle.task_events.specs.Lawful.{Lawful}
@@ -17,7 +16,7 @@ use Rattle.world_moves.specs.Facts.{Facts, facts_of, is_about}
 use Rattle.world_moves.proofs.FactsAfter.{frame}
 
 abbrev pub blank : Facts
-blank = record { live = false; new = false; parent = None; ask = 0; mark = None; awaited = []; requests = []; request = None; asked = []; turns = 0; headers = no_headers }
+blank = record { live = false; new = false; parent = None; ask = 0; mark = None; awaited = []; requests = []; request = None; page = None; asked = []; turns = 0; headers = no_headers }
 
 module _ (cluster : Cluster) (t : TaskId) where
   not_about : (e : Event) (h : List Event) → Allowed cluster e h → AskFacts h → last_number t.node (e ∷ h) < t.number → is_about t e ≡ false
@@ -37,6 +36,6 @@ module _ (cluster : Cluster) (t : TaskId) where
   unborn_before (Put u p k) h a l = let next = a.takes.next in grind (arith, same_tests)
   unborn_before _ h a l = l
 
-  pub unborn : (roots : ℕ → Option Request) (given : ℕ → Headers) (h : List Event) → Lawful cluster h → last_number t.node h < t.number → facts_of roots given t h ≡ blank
-  unborn roots given [] lawful l = refl
-  unborn roots given (e ∷ h) lawful l = frame roots given t e h (not_about e h lawful.0 (ask_facts cluster h lawful.1) l) ∙ unborn roots given h lawful.1 (unborn_before e h lawful.0 l)
+  pub unborn : (said : Scripted) (h : List Event) → Lawful cluster h → last_number t.node h < t.number → facts_of said t h ≡ blank
+  unborn said [] lawful l = refl
+  unborn said (e ∷ h) lawful l = frame said t e h (not_about e h lawful.0 (ask_facts cluster h lawful.1) l) ∙ unborn said h lawful.1 (unborn_before e h lawful.0 l)

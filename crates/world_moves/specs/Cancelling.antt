@@ -15,7 +15,8 @@ use Rattle.task_events.specs.Same.{same_task}
 use Rattle.task_events.specs.Tasks.{has_ended, parent_of}
 use Rattle.task_events.specs.Bans.{mark_of, banned_nodes, is_acked, bans_are_placed, standing_ban, unbans_are_sent}
 use Rattle.node_parts.specs.declared.listing.Listing.{Listing}
-use Rattle.world_moves.specs.Cancels.{root_of, waiting_for, waits_for_end}
+use Rattle.command_roots.specs.Roots.{root_of}
+use Rattle.world_moves.specs.Cancels.{waiting_for, waits_for_end}
 use Rattle.world_moves.specs.Listings.{listing_cmp, is_open}
 
 -- a row tells the parent of its task, and its mark

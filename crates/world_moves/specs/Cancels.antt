@@ -4,7 +4,7 @@ use Rattle.std.specs.List.{list_all}
 use Rattle.task_ids.specs.declared.task_id.TaskId.{TaskId}
 use Rattle.task_ids.specs.declared.cluster.Cluster.{Cluster}
 use Rattle.task_events.specs.declared.event.Event.{Event}
-use Rattle.task_events.specs.declared.event.Event.TheVariants.{Root, Cancel, NotFound, Mark, Acked, Refuse, End, AnswerPlaced, AnswerDone}
+use Rattle.task_events.specs.declared.event.Event.TheVariants.{Cancel, NotFound, Mark, Acked, Refuse, End, AnswerPlaced, AnswerDone}
 use Rattle.task_events.specs.Same.{same_task}
 use Rattle.task_events.specs.Tasks.{is_live, has_ended}
 use Rattle.task_events.specs.Bans.{mark_of, bans_are_placed}
@@ -14,13 +14,7 @@ use Rattle.tasks_api.specs.Lists.{shown}
 use Rattle.script_lang.specs.declared.command.CancelTarget.{CancelTarget}
 use Rattle.script_lang.specs.declared.command.CancelTarget.TheVariants.{Task, Matching, Command as Of}
 use Rattle.script_lang.specs.declared.command.Script.{Script}
-use Rattle.command_roots.specs.Roots.{rows_of}
-
--- the task that a command started
-abbrev pub root_of : ℕ → List Event → Option TaskId
-root_of k [] = None
-root_of k (Root c t ∷ h) = if k == c then Some t else root_of k h
-root_of k (_ ∷ h) = root_of k h
+use Rattle.command_roots.specs.Roots.{root_of, rows_of}
 
 -- the cancels that named a task, in the order of their commands
 abbrev pub named_by : TaskId → List Event → List ℕ

@@ -1,26 +1,29 @@
 -- What task lists show of the live tasks, as the world's tables say it.
-use Rattle.std.specs.Prelude.{◌≡◌, ℕ, ◌<◌, ◌^◌, List, Option, Some, None, All, slice_get, ⊤}
+use Rattle.std.specs.Prelude.{◌≡◌, ℕ, ◌*◌, ◌≤◌, List, Option, Some, None, All, slice_get, ⊤}
 use Rattle.std.specs.List.{AllByRecursion}
 use Rattle.task_ids.specs.declared.task_info.TaskInfo.{TaskInfo}
 use Rattle.task_table.specs.Table.{Table}
 use Rattle.script_lang.specs.declared.command.Script.{Script}
+use Rattle.script_lang.specs.KeepAlives.{day_ms}
 use Rattle.task_events.specs.declared.request.Request.{Request}
 use Rattle.task_events.specs.declared.event.Event.{Event}
 use Rattle.task_events.specs.Kinds.{action_of, description_of}
-use Rattle.task_events.specs.Steps.{request_of}
-use Rattle.task_events.specs.TaskRows.{clock, started_at, headers_of}
-use Rattle.command_roots.specs.Roots.{root_request, root_headers}
+use Rattle.task_events.specs.Cancels.{last_command}
+use Rattle.task_events.specs.Clock.{clock}
+use Rattle.task_events.specs.Requests.{request_of}
+use Rattle.task_events.specs.TaskRows.{started_at, headers_of}
+use Rattle.command_roots.specs.Roots.{scripted}
 use Rattle.world_moves.specs.declared.flight.Sent.{Sent}
 use Rattle.world_moves.specs.declared.flight.Sent.TheVariants as sent
 
 -- A row tells of its task what it does and works on, when it started, and what its request carried.
 pub record IsDescribed (script : Script) (h : List Event) (row : TaskInfo) : Type 0 where
   pub request : Request
-  pub asked : request_of (root_request script) row.id h ≡ Some request
+  pub asked : request_of (scripted script) row.id h ≡ Some request
   pub action : row.action ≡ action_of request
   pub description : row.description ≡ description_of request
   pub start : row.start_ms ≡ started_at row.id h
-  pub headers : row.headers ≡ headers_of (root_headers script) row.id h
+  pub headers : row.headers ≡ headers_of (scripted script) row.id h
 
 abbrev pub DescribesAll : Script → List Event → Option Table → Type 0
 DescribesAll script h None = ⊤
@@ -28,7 +31,7 @@ DescribesAll script h (Some table) = All (IsDescribed script h) table.live
 
 -- a request in flight carries what that of the asking task did
 abbrev pub Carries : Script → List Event → Sent → Type 0
-Carries script h (sent.Request token to at headers) = headers ≡ headers_of (root_headers script) token.parent h
+Carries script h (sent.Request token to at headers) = headers ≡ headers_of (scripted script) token.parent h
 Carries script h _ = ⊤
 
 -- The rows tell it of all live tasks, the requests in flight of those that will be, and the world knows the moment.
@@ -36,5 +39,6 @@ pub record Describing (script : Script) (h : List Event) (tables : List Table) (
   pub rows_are : (place : ℕ) → DescribesAll script h (slice_get tables place)
   pub carried : AllByRecursion (Carries script h) flight
   pub clock_is : now ≡ clock h
-  -- no command moves the clock yet
-  pub clock_low : now < 2 ^ 43
+  -- each command moves the clock by a day at most, and there are at most 65,535 of them and the closing drain
+  pub clock_low : now ≤ last_command h * day_ms
+  pub few_begun : last_command h ≤ 65536

@@ -6,6 +6,7 @@ use Rattle.task_ids.specs.declared.task_id.TaskId.{TaskId}
 use Rattle.task_ids.specs.declared.task_info.Headers.{Headers}
 use Rattle.child_track.specs.Token.{Token}
 use Rattle.child_track.specs.Track.{Track}
+use Rattle.task_events.specs.declared.context.Context.{Context}
 use Rattle.task_events.specs.declared.request.Request.{Request}
 use Rattle.task_events.specs.declared.step.Asked.{Asked}
 use Rattle.task_events.specs.declared.event.Event.{Event}
@@ -13,7 +14,9 @@ use Rattle.task_events.specs.declared.event.Event.TheVariants.{Root, Ask, Put, P
 use Rattle.task_events.specs.Same.{same_task}
 use Rattle.task_events.specs.Tasks.{is_live, is_new, parent_of, ask_of}
 use Rattle.task_events.specs.Bans.{mark_of}
-use Rattle.task_events.specs.Steps.{request_of, asked_by, turns_of}
+use Rattle.task_events.specs.Contexts.{page_of}
+use Rattle.task_events.specs.Requests.{Scripted, request_of}
+use Rattle.task_events.specs.Steps.{asked_by, turns_of}
 use Rattle.task_events.specs.TaskRows.{headers_of}
 
 -- of each ask of a task in order, the node that is still to answer it
@@ -43,13 +46,15 @@ pub record Facts : Type 0 where
   pub awaited : List (Option ℕ)
   pub requests : List Request
   pub request : Option Request
+  -- the context of which it shows a page, as that stood when it started
+  pub page : Option Context
   pub asked : List Asked
   pub turns : ℕ
   pub headers : Headers
 
--- what the past says of a task, given what each command's root is asked to do and what its request carries
-abbrev pub facts_of : (ℕ → Option Request) → (ℕ → Headers) → TaskId → List Event → Facts
-facts_of roots given t h = record {
+-- what the past says of a task, given what the commands say
+abbrev pub facts_of : Scripted → TaskId → List Event → Facts
+facts_of said t h = record {
   live = is_live t h;
   new = is_new t h;
   parent = parent_of t h;
@@ -57,10 +62,11 @@ facts_of roots given t h = record {
   mark = mark_of t h;
   awaited = awaited_by t h;
   requests = requested_by t h;
-  request = request_of roots t h;
+  request = request_of said t h;
+  page = page_of said t h;
   asked = asked_by t h;
   turns = turns_of t h;
-  headers = headers_of given t h;
+  headers = headers_of said t h;
 }
 
 -- the task that an event is about

@@ -15,18 +15,22 @@ use Rattle.task_events.specs.Kinds.{kind_of, can_have}
 abbrev pub written : Cluster → Corpus → List ℕ → ℕ → List Doc
 written cluster corpus index shard = writes_of corpus cluster.shards index shard
 
-abbrev pub shard_writes : Cluster → Corpus → List ℕ → Option ℕ → List Doc
-shard_writes cluster corpus index None = []
-shard_writes cluster corpus index (Some shard) = written cluster corpus index shard
+abbrev pub shard_writes : Cluster → Corpus → Option (List ℕ × ℕ) → List Doc
+shard_writes cluster corpus None = []
+shard_writes cluster corpus (Some place) = written cluster corpus place.0 place.1
 
 -- the writes that a task's work looks at: those of the shard of its request
 abbrev pub own_writes : Cluster → Corpus → Option Request → List Doc
 own_writes cluster corpus None = []
-own_writes cluster corpus (Some r) = shard_writes cluster corpus (kind_of r).index (kind_of r).shard
+own_writes cluster corpus (Some r) = shard_writes cluster corpus (kind_of r).place
 
--- what a request reads: the writes of the shards of its index
+abbrev pub index_writes : Cluster → Corpus → Option (List ℕ × ℕ) → ℕ → List Doc
+index_writes cluster corpus None shard = []
+index_writes cluster corpus (Some place) shard = written cluster corpus place.0 shard
+
+-- what a request of a shard reads: the writes of the shards of its index
 abbrev pub writes_for : Cluster → Corpus → Request → ℕ → List Doc
-writes_for cluster corpus r shard = written cluster corpus (kind_of r).index shard
+writes_for cluster corpus r shard = index_writes cluster corpus (kind_of r).place shard
 
 -- a query is answered at the version that it names, or else at the newest of its shard
 abbrev pub IsCurrent : Cluster → Corpus → Request → Reply → Type 0

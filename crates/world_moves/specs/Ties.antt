@@ -14,12 +14,14 @@ use Rattle.task_work.specs.declared.work.Work.{Work}
 use Rattle.task_work.specs.Works.{place_of}
 use Rattle.corpus_shards.specs.Stored.{Stored, AreFew}
 use Rattle.script_lang.specs.declared.command.Script.{Script}
+use Rattle.task_events.specs.declared.context.Context.{Context}
 use Rattle.task_events.specs.declared.request.Request.{Request}
-use Rattle.task_events.specs.declared.request.Request.TheVariants.{Search, Query, Fetch}
+use Rattle.task_events.specs.declared.request.Request.TheVariants.{Search, Query, Fetch, Scroll}
 use Rattle.task_events.specs.Documents.{writes_of}
 use Rattle.task_events.specs.declared.step.Asked.{Asked}
 use Rattle.task_events.specs.declared.event.Event.{Event}
 use Rattle.task_events.specs.TaskRows.{living_on}
+use Rattle.task_events.specs.Readings.{search_reading}
 use Rattle.task_events.specs.Tasks.{last_number}
 use Rattle.task_events.specs.Asks.{request_of_ask}
 use Rattle.task_events.specs.Messages.{Message, in_flight}
@@ -27,12 +29,12 @@ use Rattle.task_events.specs.Messages.Message.{Answer, Ban}
 use Rattle.task_events.specs.Lawful.{AwaitsNoMark, Lawful}
 use Rattle.node_parts.specs.declared.running.Running.{Running}
 use Rattle.world_moves.specs.declared.state.State.{State}
-use Rattle.command_roots.specs.Roots.{root_request, root_headers}
+use Rattle.command_roots.specs.Roots.{scripted}
 use Rattle.world_moves.specs.declared.flight.Sent.{Sent}
 use Rattle.world_moves.specs.FetchRuns.{RunsFetch}
 use Rattle.world_moves.specs.Good.{IsGoodReply}
 use Rattle.world_moves.specs.QueryRuns.{RunsQuery}
-use Rattle.world_moves.specs.SearchRuns.{RunsSearch}
+use Rattle.world_moves.specs.SearchRuns.{RunsSearch, RunsPage}
 use Rattle.world_moves.specs.Facts.{Facts, facts_of, token_from, track_from}
 use Rattle.world_moves.specs.Flights.{message_of}
 use Rattle.world_moves.specs.Plain.{AnswersPlainly}
@@ -40,13 +42,15 @@ use Rattle.world_moves.specs.Cancels.{waiting_for}
 use Rattle.world_moves.specs.Cancelling.{Cancelling}
 use Rattle.world_moves.specs.Describing.{Describing}
 use Rattle.world_moves.specs.Left.{HasLeft, left_in}
+use Rattle.world_moves.specs.Paging.{Paging}
 
 -- the work of a task is as far as the past says, for what it was asked to do
-abbrev pub WorksFor : Cluster → Corpus → TaskId → List Asked → List Request → List (Option ℕ) → ℕ → Option Request → Work → Type 0
-WorksFor cluster corpus t asked requests awaited turns None work = ⊥
-WorksFor cluster corpus t asked requests awaited turns (Some (Search ask)) work = RunsSearch cluster corpus t asked requests awaited ask work
-WorksFor cluster corpus t asked requests awaited turns (Some (Query ask)) work = RunsQuery cluster corpus turns awaited ask work
-WorksFor cluster corpus t asked requests awaited turns (Some (Fetch ask)) work = RunsFetch cluster corpus turns awaited ask work
+abbrev pub WorksFor : Cluster → Corpus → TaskId → Option Context → List Asked → List Request → List (Option ℕ) → ℕ → Option Request → Work → Type 0
+WorksFor cluster corpus t page asked requests awaited turns None work = ⊥
+WorksFor cluster corpus t page asked requests awaited turns (Some (Search ask)) work = RunsSearch cluster corpus (search_reading t ask cluster.shards) asked requests awaited work
+WorksFor cluster corpus t page asked requests awaited turns (Some (Query ask)) work = RunsQuery cluster corpus turns awaited ask work
+WorksFor cluster corpus t page asked requests awaited turns (Some (Fetch ask)) work = RunsFetch cluster corpus turns awaited ask work
+WorksFor cluster corpus t page asked requests awaited turns (Some (Scroll ask)) work = RunsPage cluster corpus ask.id page asked requests awaited work
 
 -- what is kept of a live task is what the past says of it
 pub record Runs (cluster : Cluster) (corpus : Corpus) (t : TaskId) (facts : Facts) (running : Running) : Type 0 where
@@ -56,7 +60,7 @@ pub record Runs (cluster : Cluster) (corpus : Corpus) (t : TaskId) (facts : Fact
   pub track : running.track ≡ track_from t facts
   pub new : running.is_new ≡ facts.new
   pub headers : running.headers ≡ facts.headers
-  pub works : WorksFor cluster corpus t facts.asked facts.requests facts.awaited facts.turns facts.request running.work
+  pub works : WorksFor cluster corpus t facts.page facts.asked facts.requests facts.awaited facts.turns facts.request running.work
 
 -- a task is kept exactly where it is live
 abbrev pub IsKept : Cluster → Corpus → TaskId → Facts → Option Running → Type 0
@@ -83,7 +87,7 @@ IsGood cluster corpus h _ = ⊤
 
 pub record Ties (cluster : Cluster) (corpus : Corpus) (script : Script) (h : List Event) (tasks : TaskId → Option Running) (tables : List Table) (flight : List Sent) : Type 0 where
   pub lawful : Lawful cluster h
-  pub kept : (t : TaskId) → IsKept cluster corpus t (facts_of (root_request script) (root_headers script) t h) (tasks t)
+  pub kept : (t : TaskId) → IsKept cluster corpus t (facts_of (scripted script) t h) (tasks t)
   pub listed : (place : ℕ) → IsTableAt cluster place h (slice_get tables place)
   pub sent : map (message_of h) flight ≡ map Some (in_flight h)
   pub good : AllByRecursion (IsGood cluster corpus h) (in_flight h)
@@ -105,25 +109,29 @@ HasCancels waiting s = Cancelling s.cluster waiting s.history s.tables.items (ge
 abbrev pub HasDescriptions : State → Type 0
 HasDescriptions s = Describing s.script.now s.history s.tables.items s.flight s.clock
 
+-- and the tables of contexts
+abbrev pub HasContexts : State → Type 0
+HasContexts s = Paging s.cluster s.script.now s.history s.contexts.items
+
 -- All tables say of the past what they should, while one cancel, perhaps, is still naming tasks.
 pub record IsTiedWhile (naming : Option ℕ) (s : State) : Type 0 where
   pub ties : HasTies s
   pub cancels : HasCancels (λ t. waiting_for t s.history) s
   pub counts : HasLeft naming s.history (left_in s.left)
   pub tells : HasDescriptions s
+  pub pages : HasContexts s
   pub awaits : AwaitsNoMark s.history
 
 -- and while none is
 abbrev pub IsTied : State → Type 0
 IsTied s = IsTiedWhile None s
 
--- the cluster, the documents, the script and the clock stay
+-- the cluster, the documents and the script stay
 pub record Keeps (old new : State) : Type 0 where
   pub cluster : new.cluster ≡ old.cluster
   pub corpus : new.corpus.now ≡ old.corpus.now
   pub shards : new.shards ≡ old.shards
   pub script : new.script.now ≡ old.script.now
-  pub clock : new.clock ≡ old.clock
 
 -- The shards are those of the corpus.
 pub record HasShards (s : State) : Type 0 where

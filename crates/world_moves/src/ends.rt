@@ -1,6 +1,6 @@
 //! The end of a live task.
 
-ghost use Rattle.std.specs.Prelude.{◌≡◌, ◌∷◌, ◌++◌, ◌≤◌, true, false, length, [], Err, None, Some, IfErr, OnOk, OnErr};
+ghost use Rattle.std.specs.Prelude.{◌≡◌, ◌∷◌, ◌++◌, ◌≤◌, true, false, length, [], Err, None, Some, IsSome, IsSomeAnd, IfErr, OnOk, OnErr};
 ghost use Rattle.child_track.specs.Track.{unanswered, sealed};
 ghost use Rattle.task_table.specs.Table.{IsLive, without_task};
 ghost use Rattle.task_events.specs.declared.history.TheConstants.{MAX_EVENTS};
@@ -13,18 +13,27 @@ ghost use Rattle.world_moves.specs.Cancels.{with_answers, with_due};
 ghost use Rattle.world_moves.specs.Flights.{told_parent};
 ghost use Rattle.world_moves.specs.Moves.{IsPartOf, IsCutShort, MayLeave};
 ghost use Rattle.world_moves.specs.Ties.{IsTied, Keeps, HasShards, task_at, KeepsLaws};
+ghost use Rattle.node_parts.specs.Opening.{FitsContext, opened_by, page_id};
 ghost use Rattle.node_parts.specs.Running.{DoesNext};
+ghost use Rattle.world_moves.specs.Paging.{context_in, after_opening, after_return};
+ghost use Rattle.task_events.specs.Contexts.{cursor_in};
+ghost use Rattle.task_ids.specs.declared.task_id.TaskId.{TaskId};
 
 use crate::append::append;
 use crate::flight::{Flight, Sent};
+use crate::pages::{give_back, open};
 use crate::performing::perform;
 use crate::sending::send;
 use crate::state::State;
 use child_track::Receipt;
+use node_parts::contexts::{cursor_of, opened_by, page_id};
 use node_parts::running::Running;
+use scroll_table::ScrollTable;
+use std::alloc::Global;
 use task_events::{Do, Event, Reply, Stop};
 use task_ids::TaskId;
 use task_table::TaskTable;
+use task_work::Work;
 
 /// Takes a task out of the table of its node. Its receipt is left.
 fn end_in(table: &mut TaskTable, running: Running) -> Receipt
@@ -50,6 +59,36 @@ fn tell_parent(flight: &mut Flight, receipt: Receipt, at: usize) -> Result<(), S
     send(flight, Sent::Answer { receipt, at })
 }
 
+/// Notes what the end of a task makes of contexts: a page gives its own back, and a search with hits opens one. It fails only for want
+/// of memory (`Memory`).
+fn note_end(
+    alloc: Global,
+    contexts: &mut Vec<ScrollTable>,
+    work: &Work,
+    task: TaskId,
+    reply: &Reply,
+    now: u64,
+) -> Result<(), Stop>
+    requires used { (id : TaskId) → page_id work.now ≡ Some id → IsSomeAnd (context_in contexts.old.items id) (λ c. IsSome c.busy) }
+    requires there { task.node ≤ length contexts.old.items }
+    requires fits { FitsContext work.now reply.now }
+    requires fresh { IsSome (opened_by work.now task reply.now now) → context_in contexts.old.items task ≡ None }
+    ensures ended { OnOk result ((q : TaskId) → context_in contexts.new.items q
+        ≡ after_opening (opened_by work.now task reply.now now) task q
+        (after_return now (page_id work.now) (cursor_in reply.now) q (context_in contexts.old.items q))) }
+    ensures as_many { OnOk result (length contexts.new.items ≡ length contexts.old.items) }
+    ensures memory { IfErr result (λ stop. stop ≡ Stop.Memory) }
+{
+    let Ok(after) = cursor_of(reply) else {
+        return Err(Stop::Memory);
+    };
+    give_back(contexts, page_id(work), after, now);
+    match opened_by(alloc, work, task, reply, now) {
+        Ok(opened) => open(contexts, task, opened),
+        Err(_) => Err(Stop::Memory),
+    }
+}
+
 /// A task that has passed and whose work ends next ends with its reply. The task that asked for it is told.
 ///
 /// It fails where the history is full (`HistoryFull`, at 4,000,000 events) or memory runs out (`Memory`); then nothing
@@ -72,6 +111,21 @@ pub fn finish(state: &mut State<'_>, task: TaskId, reply: Reply) -> Result<(), S
     let Some(running) = state.tasks.remove(&task) else {
         unreachable!()
     };
+    match note_end(
+        state.alloc,
+        &mut state.contexts,
+        &running.work,
+        task,
+        &reply,
+        state.clock,
+    ) {
+        Ok(()) => {}
+        Err(stop) => {
+            drop(running);
+            drop(reply);
+            return Err(stop);
+        }
+    }
     let receipt = end_in(&mut state.tables[task.node as usize - 1], running);
     let at = state.history.len();
     match tell_parent(&mut state.flight, receipt, at) {
@@ -104,6 +158,12 @@ fn leave(state: &mut State<'_>, task: TaskId, event: Event) -> Result<(), Stop>
     let Some(running) = state.tasks.remove(&task) else {
         unreachable!()
     };
+    give_back(
+        &mut state.contexts,
+        page_id(&running.work),
+        None,
+        state.clock,
+    );
     let receipt = end_in(&mut state.tables[place], running);
     let at = state.history.len();
     match tell_parent(&mut state.flight, receipt, at) {

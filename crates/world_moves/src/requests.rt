@@ -122,7 +122,15 @@ pub fn deliver_request(state: &mut State<'_>, nth: usize) -> Result<(), Stop>
         Ok(ticket) => {
             let task = ticket.id();
             let request = request_at(&state.history, at);
-            let running = with_work(state.alloc, ticket, request, &state.cluster, true, headers)?;
+            let running = with_work(
+                state.alloc,
+                ticket,
+                request,
+                &state.cluster,
+                None,
+                true,
+                headers,
+            )?;
             let event = Event::Put { task, parent, ask };
             keep_started(&mut state.history, &mut state.tasks, running, event)
         }

@@ -5,6 +5,7 @@ use corpus_shards::Shards;
 use node_parts::listing::Listing;
 use node_parts::running::Running;
 use script_lang::Script;
+use scroll_table::ScrollTable;
 use std::alloc::Global;
 use std::collections::{BTreeMap, BTreeSet};
 use task_events::History;
@@ -35,6 +36,8 @@ pub struct State<'a> {
     pub flight: Flight,
     /// The task of each command that started one.
     pub roots: BTreeMap<u32, TaskId>,
+    /// The contexts on each node, from the first on.
+    pub contexts: Vec<ScrollTable>,
     /// The bans that stand on each node, from the first on.
     pub bans: Vec<BanTable>,
     /// The cancellations of each node's tasks, from the first on.

@@ -14,6 +14,7 @@ use Rattle.world_moves.proofs.CutShort.{cut_only}
 use Rattle.corpus_shards.proofs.Cases.{some_of, then_ok, of_err}
 use Rattle.world_moves.proofs.DescriptionsAfter.{quiet_sent, carry_taken}
 use Rattle.world_moves.proofs.QuietCounts.{still_counts}
+use Rattle.world_moves.proofs.PagesAfter.{quiet_pages}
 use Rattle.world_moves.proofs.answers.deliver_answer.Goals as goal
 
 pub unreachable-requires : goal.unreachable-requires
@@ -66,6 +67,7 @@ returns-clause-tied c =
           (noted s.cluster (λ t. waiting_for t s.history) s.history _ _ _ _ _ c.requires.tied.cancels (Answered c.in-Some.parent c.take_answer-receipt.result.0.ask) refl refl);
       counts = rw happened (still_counts None (Answered c.in-Some.parent c.take_answer-receipt.result.0.ask) s.history _ refl c.requires.tied.counts);
       tells = rw (happened, c.take_answer-receipt.ensures.rest) (quiet_sent s.script.now s.history _ s.flight _ (Answered c.in-Some.parent c.take_answer-receipt.result.0.ask) _ refl (carry_taken s.script.now s.history s.flight c.args.nth c.requires.tied.tells.carried) c.requires.tied.tells);
+      pages = rw happened (quiet_pages s.cluster s.script.now s.history s.contexts.items c.requires.tied.pages (Answered c.in-Some.parent c.take_answer-receipt.result.0.ask) refl);
       awaits = subst AwaitsNoMark (sym happened) tt;
     }))
 

@@ -3,7 +3,7 @@ use Rattle.std.specs.Option.{option_copied_mut}
 use Rattle.task_events.specs.declared.event.Event.TheVariants.{Ask}
 use Rattle.task_events.specs.Asks.{last_ask}
 use Rattle.task_events.specs.TaskRows.{headers_of}
-use Rattle.command_roots.specs.Roots.{root_headers}
+use Rattle.command_roots.specs.Roots.{scripted}
 use Rattle.world_moves.specs.declared.flight.Sent.TheVariants.{Request}
 use Rattle.node_parts.specs.Running.{PlansToAsk}
 use Rattle.world_moves.specs.Cancels.{waiting_for}
@@ -15,6 +15,7 @@ use Rattle.world_moves.proofs.DescriptionsAfter.{quiet_sent, carry_both}
 use Rattle.world_moves.proofs.QuietCounts.{still_counts}
 use Rattle.world_moves.proofs.StepsAfter.{kept_running}
 use Rattle.corpus_shards.proofs.Cases.{some_of, then_ok}
+use Rattle.world_moves.proofs.PagesAfter.{quiet_pages}
 use Rattle.world_moves.proofs.asks.ask.Goals as goal
 
 pub ask-requires-clause-few : goal.ask-requires-clause-few
@@ -61,7 +62,7 @@ returns-clause-tied c =
     let flight : c.send.new.flight ≡ s.flight ++ Request c.in-Ok-ask.token c.node_for-to.result (length s.history) c.in-Ok.headers ∷ [] =
     c.in-Ok-send.ensures.ok ∙ ap (λ at. s.flight ++ Request c.in-Ok-ask.token c.node_for-to.result at c.in-Ok.headers ∷ []) c.len-at.ensures in
     let runs = kept_running s.cluster s.corpus.now s.script.now s.history _ _ _ c.requires.tied.ties c.args.task c.requires.live r was in
-    let carried : c.in-Ok.headers ≡ headers_of (root_headers s.script.now) c.in-Ok-ask.token.parent s.history = c.in-Ok.ensures ∙ runs.headers ∙ ap (λ p. headers_of (root_headers s.script.now) p s.history) (sym (ap (λ t. t.parent) token)) in
+    let carried : c.in-Ok.headers ≡ headers_of (scripted s.script.now) c.in-Ok-ask.token.parent s.history = c.in-Ok.ensures ∙ runs.headers ∙ ap (λ p. headers_of (scripted s.script.now) p s.history) (sym (ap (λ t. t.parent) token)) in
     let asks = Ask c.args.task (last_ask c.args.task s.history + 1) c.node_for-to.result c.args.request in
     let w = c.ask.new.self in
     let changed = ((c.get_mut.follows.holds w).3 (some_of _ _ was)).0 in
@@ -72,6 +73,7 @@ returns-clause-tied c =
       cancels = noted s.cluster (λ t. waiting_for t s.history) s.history _ _ _ _ _ c.requires.tied.cancels (Ask c.args.task (last_ask c.args.task s.history + 1) c.node_for-to.result c.args.request) refl refl;
       counts = still_counts None asks s.history _ refl c.requires.tied.counts;
       tells = quiet_sent s.script.now s.history s.tables.items s.flight _ asks _ refl (carry_both s.script.now s.history s.flight (Request c.in-Ok-ask.token c.node_for-to.result (length s.history) c.in-Ok.headers ∷ []) c.requires.tied.tells.carried (carried, tt)) c.requires.tied.tells;
+      pages = quiet_pages s.cluster s.script.now s.history s.contexts.items c.requires.tied.pages asks refl;
       awaits = tt;
     }))
 

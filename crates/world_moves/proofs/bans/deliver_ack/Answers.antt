@@ -17,6 +17,7 @@ use Rattle.world_moves.proofs.CoresAfter.{has_core}
 use Rattle.corpus_shards.proofs.Cases.{then_ok, then_err}
 use Rattle.world_moves.proofs.Outcomes.{all_ok}
 use Rattle.world_moves.proofs.CutShort.{cut_as, cut_first, cut_move}
+use Rattle.world_moves.proofs.PagesAfter.{quiet_pages, answered_pages}
 use Rattle.world_moves.proofs.bans.deliver_ack.Goals as goal
 
 pub index_mut-requires : goal.index_mut-requires
@@ -99,6 +100,7 @@ returns-clause-tied c =
       tells = rw (happened, queued ∙ ap (λ queue. queue ++ messages_in p.node c.as_slice.result.now) rest) (answers_described s.cluster p (Acked p n ∷ s.history) s.script.now _ _ _
           (quiet_sent s.script.now s.history _ s.flight _ (Acked p n) _ refl
           (carry_both s.script.now s.history _ _ (carry_taken s.script.now s.history s.flight c.args.nth c.requires.tied.tells.carried) (acts_carry s.script.now s.history p.node c.as_slice.result.now)) c.requires.tied.tells));
+      pages = rw happened (answered_pages s.cluster s.script.now (Acked p n ∷ s.history) s.contexts.items p (quiet_pages s.cluster s.script.now s.history s.contexts.items c.requires.tied.pages (Acked p n) refl));
       awaits = rw happened (answers_await s.cluster p (Acked p n ∷ s.history) tt);
     }))
 

@@ -10,6 +10,7 @@ use Rattle.world_moves.specs.Left.{left_in}
 use Rattle.world_moves.specs.Flights.{told_parent}
 use Rattle.task_events.specs.Lawful.{Lawful}
 use Rattle.world_moves.specs.Moves.{IsPartOf}
+use Rattle.world_moves.specs.Paging.{context_in, after_return}
 use Rattle.world_moves.specs.Plain.{AnswersPlainly}
 use Rattle.world_moves.specs.Ties.{task_at}
 use Rattle.world_moves.proofs.KeptTasks.{at_changed, off_changed}
@@ -26,6 +27,8 @@ use Rattle.corpus_shards.proofs.Cases.{then_ok, then_err, on_err}
 use Rattle.world_moves.proofs.Outcomes.{all_ok}
 use Rattle.world_moves.proofs.Parts.{part_lawful, part_plain, later_part}
 use Rattle.world_moves.proofs.CutShort.{cut_as, cut_first}
+use Rattle.world_moves.proofs.PagesAfter.{answered_pages}
+use Rattle.world_moves.proofs.PagesLeft.{in_use, left_pages}
 use Rattle.world_moves.proofs.ends.leave.Goals as goal
 
 pub unreachable-requires : goal.unreachable-requires
@@ -39,6 +42,12 @@ index_mut-requires c =
     let low = c.args.task.node_in_range.0 in
     let many = has_table s.cluster s.corpus.now s.script.now s.history _ _ _ c.requires.tied.ties c.args.task (leaver_lives c.args.task s.history c.args.event c.requires.leaves) in
     omega (arith, low, many)
+
+pub give_back-requires : goal.give_back-requires
+give_back-requires c =
+    let s = c.args.state.now in
+    let was = sym c.remove.ensures.value ∙ c.in-Some.is in
+    record { used = λ id shown. in_use s.cluster s.corpus.now s.script.now s.history _ _ _ c.requires.tied.ties s.contexts.items c.requires.tied.pages c.args.task (leaver_lives c.args.task s.history c.args.event c.requires.leaves) c.in-Some.running was id (sym c.page_id.ensures ∙ shown) }
 
 pub end_in-receipt-requires-clause-live : goal.end_in-receipt-requires-clause-live
 end_in-receipt-requires-clause-live c =
@@ -121,6 +130,7 @@ returns-then-not-has-clause-tied c =
           rw (c.in_ok-append.ensures.ok, row, sent) (described_with s.script.now s.history s.tables.items s.flight _ e _ _ (starts_none c.args.task s.history e leaves)
           (rows_left s.script.now s.history s.tables.items (c.args.task.node - 1) c.args.task.number c.index_mut.result.now its c.requires.tied.tells.rows_are)
           (carry_both s.script.now s.history s.flight _ c.requires.tied.tells.carried (told_carries s.script.now s.history c.end_in-receipt.result _)) c.requires.tied.tells);
+      pages = rw c.in_ok-append.ensures.ok (left_pages s.cluster s.corpus.now s.script.now s.history _ _ _ c.requires.tied.ties s.contexts.items c.requires.tied.pages c.args.task live r was s.clock c.requires.tied.tells.clock_is e c.requires.leaves c.give_back.new.contexts.items c.give_back.ensures.as_many (λ q. c.give_back.ensures.returned q ∙ ap (λ o. after_return s.clock o None q (context_in s.contexts.items q)) c.page_id.ensures));
       awaits = rw c.in_ok-append.ensures.ok (awaits_none c.args.task s.history e c.requires.leaves);
     }
 
@@ -224,23 +234,24 @@ returns-clause-tied c =
           (described_with s.script.now s.history s.tables.items s.flight _ e _ _ (starts_none c.args.task s.history e leaves)
           (rows_left s.script.now s.history s.tables.items (c.args.task.node - 1) c.args.task.number c.index_mut.result.now its c.requires.tied.tells.rows_are)
           (carry_both s.script.now s.history _ _ (carry_both s.script.now s.history s.flight _ c.requires.tied.tells.carried (told_carries s.script.now s.history receipt _)) (acts_carry s.script.now s.history c.args.task.node acts)) c.requires.tied.tells));
+      pages = rw happened (answered_pages s.cluster s.script.now (e ∷ s.history) c.give_back.new.contexts.items c.args.task (left_pages s.cluster s.corpus.now s.script.now s.history _ _ _ c.requires.tied.ties s.contexts.items c.requires.tied.pages c.args.task live r was s.clock c.requires.tied.tells.clock_is e m c.give_back.new.contexts.items c.give_back.ensures.as_many (λ q. c.give_back.ensures.returned q ∙ ap (λ o. after_return s.clock o None q (context_in s.contexts.items q)) c.page_id.ensures)));
       awaits = rw happened (answers_await s.cluster c.args.task (e ∷ s.history) awaits);
     })
 
 pub returns-clause-keeps : goal.returns-clause-keeps
-returns-clause-keeps c = record { cluster = refl; corpus = refl; shards = refl; script = refl; clock = refl }
+returns-clause-keeps c = record { cluster = refl; corpus = refl; shards = refl; script = refl }
 
 pub returns-then-not-has-clause-keeps : goal.returns-then-not-has-clause-keeps
-returns-then-not-has-clause-keeps c = record { cluster = refl; corpus = refl; shards = refl; script = refl; clock = refl }
+returns-then-not-has-clause-keeps c = record { cluster = refl; corpus = refl; shards = refl; script = refl }
 
 pub returns-in_default-ended-clause-keeps : goal.returns-in_default-ended-clause-keeps
-returns-in_default-ended-clause-keeps c = record { cluster = refl; corpus = refl; shards = refl; script = refl; clock = refl }
+returns-in_default-ended-clause-keeps c = record { cluster = refl; corpus = refl; shards = refl; script = refl }
 
 pub returns-in_err-append-clause-keeps : goal.returns-in_err-append-clause-keeps
-returns-in_err-append-clause-keeps c = record { cluster = refl; corpus = refl; shards = refl; script = refl; clock = refl }
+returns-in_err-append-clause-keeps c = record { cluster = refl; corpus = refl; shards = refl; script = refl }
 
 pub returns-in-Err-clause-keeps : goal.returns-in-Err-clause-keeps
-returns-in-Err-clause-keeps c = record { cluster = refl; corpus = refl; shards = refl; script = refl; clock = refl }
+returns-in-Err-clause-keeps c = record { cluster = refl; corpus = refl; shards = refl; script = refl }
 
 pub returns-in_default-ended-clause-laws : goal.returns-in_default-ended-clause-laws
 returns-in_default-ended-clause-laws c =

@@ -23,6 +23,7 @@ use Rattle.corpus_shards.proofs.Cases.{some_of, on_err}
 use Rattle.world_moves.proofs.SameTies.{same_ties}
 use Rattle.world_moves.proofs.StepsAfter.{is_kept, kept_running}
 use Rattle.world_moves.proofs.Tables.{table_of, node_has_table}
+use Rattle.world_moves.proofs.PagesAfter.{quiet_pages}
 use Rattle.world_moves.proofs.marks.mark.Goals as goal
 
 pub unreachable-requires : goal.unreachable-requires
@@ -119,5 +120,6 @@ returns-clause-tied c =
       tells = rw (past, tables, sent) (described_with s.script.now s.history s.tables.items s.flight _ (Mark t c.args.cancel) _ _ refl
           (rows_marked s.script.now s.history s.tables.items (t.node - 1) t.number c.args.cancel c.index_mut.result.now row c.requires.tells.rows_are)
           (carry_both s.script.now s.history s.flight _ c.requires.tells.carried (acts_carry s.script.now s.history t.node done)) c.requires.tells);
+      pages = rw past (quiet_pages s.cluster s.script.now s.history s.contexts.items c.requires.pages (Mark t c.args.cancel) refl);
       awaits = subst AwaitsNoMark (sym past) tt;
     }

@@ -9,6 +9,7 @@ use Rattle.world_moves.proofs.StepsAfter.{is_kept, after_pass}
 use Rattle.world_moves.proofs.CancelsUntouched.{noted}
 use Rattle.world_moves.proofs.DescriptionsAfter.{quiet}
 use Rattle.world_moves.proofs.QuietCounts.{still_counts}
+use Rattle.world_moves.proofs.PagesAfter.{quiet_pages}
 use Rattle.world_moves.proofs.passing.pass.Goals as goal
 
 pub unreachable-requires : goal.unreachable-requires
@@ -29,5 +30,6 @@ returns-clause-tied c =
       cancels = noted s.cluster (λ t. waiting_for t s.history) s.history _ _ _ _ _ c.requires.tied.cancels (Pass c.args.task) refl refl;
       counts = still_counts None (Pass c.args.task) s.history _ refl c.requires.tied.counts;
       tells = quiet s.script.now s.history _ _ _ (Pass c.args.task) refl c.requires.tied.tells;
+      pages = quiet_pages s.cluster s.script.now s.history s.contexts.items c.requires.tied.pages (Pass c.args.task) refl;
       awaits = tt;
     })

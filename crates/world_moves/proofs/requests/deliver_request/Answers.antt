@@ -16,7 +16,7 @@ use Rattle.world_moves.specs.Cancels.{waiting_for}
 use Rattle.world_moves.specs.Describing.{Carries}
 use Rattle.node_parts.specs.Starting.{task_for}
 use Rattle.task_events.specs.TaskRows.{headers_of}
-use Rattle.command_roots.specs.Roots.{root_headers}
+use Rattle.command_roots.specs.Roots.{scripted}
 use Rattle.world_moves.specs.Ties.{task_at}
 use Rattle.world_moves.proofs.RequestsInFlight.{arrives}
 use Rattle.world_moves.proofs.KeptTasks.{at_changed, off_changed}
@@ -32,6 +32,9 @@ use Rattle.world_moves.proofs.DescriptionsAfter.{quiet_sent, carry_both, carry_t
 use Rattle.world_moves.proofs.DescriptionsStart.{new_number, rows_put, carried_put}
 use Rattle.world_moves.proofs.QuietCounts.{still_counts}
 use Rattle.world_moves.proofs.CutShort.{cut_only}
+use Rattle.task_work.specs.Works.{is_page, new_work}
+use Rattle.world_moves.proofs.ChildParts.{part_no_page, sent_part}
+use Rattle.world_moves.proofs.PagesAfter.{quiet_pages, put_pages}
 use Rattle.world_moves.proofs.requests.deliver_request.Goals as goal
 
 pub child_of-requires : goal.child_of-requires
@@ -63,6 +66,15 @@ put_on-requires-clause-token c =
     let a = arrives s.cluster s.corpus.now s.script.now s.history _ _ s.flight c.requires.tied.ties c.args.nth _ _ _ _ c.take_request-token.ensures.taken in
     sym (ap (λ x. x.parent) (c.in-Ok.ensures a.asked a.stands) ∙ ap Some c.parent-parent.ensures)
 
+pub with_work-requires : goal.with_work-requires
+with_work-requires c =
+    let s = c.args.state.now in
+    let token = c.take_request-token.result.0 in
+    let a = arrives s.cluster s.corpus.now s.script.now s.history _ _ s.flight c.requires.tied.ties c.args.nth _ _ _ _ c.take_request-token.ensures.taken in
+    let asked : c.request_at-request.result.now ≡ a.asked = cc (c.request_at-request.ensures, a.stands) in
+    let part = sent_part s.cluster s.corpus.now s.script.now s.history _ _ s.flight c.requires.tied.ties token.parent token.ask a.asked a.requested a.request in
+    record { given = sym (ap is_page asked ∙ part_no_page a.asked part) }
+
 pub returns-in_ok-running-in-Ok-put_on-clause-delivered : goal.returns-in_ok-running-in-Ok-put_on-clause-delivered
 returns-in_ok-running-in-Ok-put_on-clause-delivered c =
     let s = c.args.state.now in
@@ -84,15 +96,17 @@ returns-in_ok-running-in-Ok-put_on-clause-tied c =
     let put : IsPutOn s.tables.items c.take_request-token.result.1 t c.in-Ok.child c.put_on.new.tables.items = record { id = c.in-Ok-put_on.ensures.id; row = c.in-Ok-put_on.ensures.row; free = c.in-Ok-put_on.ensures.free } in
     let asked : c.request_at-request.result.now ≡ a.asked = cc (c.request_at-request.ensures, a.stands) in
     let headers = c.take_request-token.result.3 in
-    let is : running ≡ first t (Some token) true a.asked s.cluster.shards headers = c.in_ok-running-in-Ok-put_on.ensures.running
-    ∙ ap (λ (o : Option Token). first t o true c.request_at-request.result.now s.cluster.shards headers) c.in-Ok-put_on.ensures.token ∙ ap (λ (r : Request). first t (Some token) true r s.cluster.shards headers) asked in
-    let carried : headers ≡ headers_of (root_headers s.script.now) token.parent s.history = all_here (Carries s.script.now s.history) s.flight c.args.nth _ c.requires.tied.tells.carried c.take_request-token.ensures.taken in
+    let is : running ≡ first t (Some token) true running.work headers = c.in_ok-running-in-Ok-put_on.ensures.running
+    ∙ ap (λ (o : Option Token). first t o true running.work headers) c.in-Ok-put_on.ensures.token in
+    let work : new_work t a.asked s.cluster.shards None ≡ Some running.work = ap (λ (r : Request). new_work t r s.cluster.shards None) (sym asked) ∙ c.in_ok-running-in-Ok-put_on.ensures.work in
+    let part = sent_part s.cluster s.corpus.now s.script.now s.history _ _ s.flight c.requires.tied.ties token.parent token.ask a.asked a.requested a.request in
+    let carried : headers ≡ headers_of (scripted s.script.now) token.parent s.history = all_here (Carries s.script.now s.history) s.flight c.args.nth _ c.requires.tied.tells.carried c.take_request-token.ensures.taken in
     let child = c.in-Ok.ensures a.asked a.stands ∙ ap (λ q. task_for a.asked (Some q) s.clock headers) c.parent-parent.ensures in
     both_ok c.keep_started.result _ _ _ c.keep_started.ensures.happened c.keep_started.ensures.kept (λ event kept. (let happened : c.keep_started.new.history ≡ Put t token.parent token.ask ∷ s.history = cc (event, c.id-task.ensures, c.parent-parent.ensures, c.ask-ask.ensures) in
     let changed = subst (λ (k : TaskId). (q : TaskId) → task_at c.keep_started.new.tasks q ≡ cond (is_at (task_id_cmp k) q) (Some running) (task_at s.tasks q)) (ap (λ (r : Running). r.ticket.id) is) kept in
     record {
       ties = same_ties s.cluster s.corpus.now s.script.now (task_at c.keep_started.new.tasks) _ _ _ _ _ _ happened refl c.take_request-token.ensures.rest
-          (after_put s.cluster s.corpus.now s.script.now s.history (task_at s.tasks) s.tables.items s.flight c.requires.tied.ties c.requires.tied.awaits c.args.nth token c.take_request-token.result.1 _ a t _ _ put running (task_at c.keep_started.new.tasks) headers is carried
+          (after_put s.cluster s.corpus.now s.script.now s.history (task_at s.tasks) s.tables.items s.flight c.requires.tied.ties c.requires.tied.awaits c.args.nth token c.take_request-token.result.1 _ a t _ _ put running (task_at c.keep_started.new.tasks) headers is work carried
           c.in_ok-running-in-Ok-put_on.ensures.begun (at_changed t (Some running) (task_at s.tasks) _ changed) (off_changed t (Some running) (task_at s.tasks) _ changed));
       cancels = same_cancels s.cluster _ _ _ _ _ _ _ _ happened refl
           (noted_put s.cluster s.history s.tables.items c.requires.tied.ties.listed c.take_request-token.result.1 a.low a.high t _ _ put c.requires.tied.ties.lawful (λ t. waiting_for t s.history) _ _ _ _ c.requires.tied.cancels token.parent token.ask (ap (λ x. x.parent) child));
@@ -105,7 +119,9 @@ returns-in_ok-running-in-Ok-put_on-clause-tied c =
             (new_number s.cluster s.script.now s.history s.tables.items c.requires.tied.ties.listed c.take_request-token.result.1 a.low a.high t _ _ put c.requires.tied.ties.lawful) c.requires.tied.tells.carried token.parent token.ask);
         clock_is = c.requires.tied.tells.clock_is;
         clock_low = c.requires.tied.tells.clock_low;
+        few_begun = c.requires.tied.tells.few_begun;
       });
+      pages = rw happened (put_pages s.cluster s.script.now s.history s.contexts.items c.requires.tied.pages t token.parent token.ask a.asked a.request part);
       awaits = subst AwaitsNoMark (sym happened) tt;
     }))
 
@@ -141,6 +157,7 @@ returns-in-Some-clause-tied c =
       counts = rw happened (still_counts None (Reject to token.parent token.ask) s.history _ refl c.requires.tied.counts);
       tells = rw (happened, c.in-Err-Full.ensures.err, answered) (quiet_sent s.script.now s.history s.tables.items s.flight _ (Reject to token.parent token.ask) _ refl
           (carry_both s.script.now s.history (remove s.flight c.args.nth) (rejected token (length s.history) ∷ []) (carry_taken s.script.now s.history s.flight c.args.nth c.requires.tied.tells.carried) (tt, tt)) c.requires.tied.tells);
+      pages = rw happened (quiet_pages s.cluster s.script.now s.history s.contexts.items c.requires.tied.pages (Reject to token.parent token.ask) refl);
       awaits = subst AwaitsNoMark (sym happened) tt;
     }))
 

@@ -11,6 +11,7 @@ use Rattle.world_moves.proofs.TurnsAfter.{is_on, after_turn}
 use Rattle.world_moves.proofs.CancelsUntouched.{noted}
 use Rattle.world_moves.proofs.DescriptionsAfter.{quiet}
 use Rattle.world_moves.proofs.QuietCounts.{still_counts}
+use Rattle.world_moves.proofs.PagesAfter.{quiet_pages}
 use Rattle.world_moves.proofs.turns.turn.Goals as goal
 
 pub unreachable-requires : goal.unreachable-requires
@@ -25,7 +26,7 @@ turn-requires c =
     let was = sym c.get_mut.ensures.value ∙ ap option_copied_mut c.in-Some.is in
     let runs = kept_running s.cluster s.corpus.now s.script.now s.history _ _ _ c.requires.tied.ties c.args.task c.requires.live r was in
     let next = rw was at c.requires.next in
-    rw (c.shard_of_work-shard.ensures, c.requires.shards.shards_are) (next _ (is_on s.cluster s.corpus.now c.args.task _ _ _ _ _ r.work runs.works))
+    rw (c.shard_of_work-shard.ensures, c.requires.shards.shards_are) (next _ (is_on s.cluster s.corpus.now c.args.task _ _ _ _ _ _ r.work runs.works))
 
 pub returns-clause-tied : goal.returns-clause-tied
 returns-clause-tied c =
@@ -37,7 +38,7 @@ returns-clause-tied c =
     let runs = kept_running s.cluster s.corpus.now s.script.now s.history _ _ _ c.requires.tied.ties c.args.task c.requires.live r was in
     let next = rw was at c.requires.next in
     let shard = c.shard_of_work-shard.ensures ∙ ap (λ stored. looked_at stored r.work) c.requires.shards.shards_are in
-    let on = is_on s.cluster s.corpus.now c.args.task _ _ _ _ _ r.work runs.works in
+    let on = is_on s.cluster s.corpus.now c.args.task _ _ _ _ _ _ r.work runs.works in
     let was_on = subst (λ writes. IsWorkOn r.work writes) (sym shard) on in
     rw c.in_ok-append.ensures.ok (record {
       ties = after_turn s.cluster s.corpus.now s.script.now s.history _ _ _ c.requires.tied.ties c.args.task r c.turn.new.self _ c.requires.tied.awaits c.requires.live c.requires.passed c.requires.unmarked was
@@ -46,5 +47,6 @@ returns-clause-tied c =
       cancels = noted s.cluster (λ t. waiting_for t s.history) s.history _ _ _ _ _ c.requires.tied.cancels (Work c.args.task) refl refl;
       counts = still_counts None (Work c.args.task) s.history _ refl c.requires.tied.counts;
       tells = quiet s.script.now s.history _ _ _ (Work c.args.task) refl c.requires.tied.tells;
+      pages = quiet_pages s.cluster s.script.now s.history s.contexts.items c.requires.tied.pages (Work c.args.task) refl;
       awaits = tt;
     })
