@@ -1,30 +1,35 @@
 -- Why commands come to an early end, and what they can do.
-use Rattle.std.proofs.Common.{◌≡◌, ◌⊎◌, ◌≤◌, ◌<◌, ◌-◌, ℕ, zero, suc, Bool, true, false, List, [], ◌∷◌, ◌++◌, length, get_or, Option, Some, None, refl, sym, ap, subst, inl, inr, ◌∙◌, arith}
-use Rattle.std.specs.Prelude.{slice_get, is_some, ◌&&◌}
+use Rattle.std.proofs.Common.{◌≡◌, ◌⊎◌, ◌≤◌, ◌<◌, ◌+◌, ◌*◌, ◌^◌, ◌-◌, ℕ, zero, suc, Bool, true, false, List, [], ◌∷◌, ◌++◌, length, get_or, Option, Some, None, refl, sym, ap, subst, inl, inr, ◌∙◌, arith}
+use Rattle.std.specs.Prelude.{slice_get, is_some, is_ok, option_map, option_and_then, ◌&&◌, Result, Ok, Err}
 use Rattle.serde_json.specs.Data.{Data}
 use Rattle.query_match.specs.declared.body.SearchBody.{SearchBody}
 use Rattle.query_parse.specs.Bodies.{body_at}
 use Rattle.search_phase.proofs.Requests.{slice_get_none}
+use Rattle.task_events.specs.declared.context.Context.{Context}
+use Rattle.scroll_table.specs.declared.context.PageError.{PageError}
 use Rattle.task_ids.specs.declared.cluster.Cluster.{Cluster}
 use Rattle.task_ids.specs.declared.corpus.Corpus.{Corpus}
 use Rattle.std.proofs.lemmas.List.{length-append}
 use Rattle.task_ids.specs.declared.task_id.TaskId.{TaskId}
 use Rattle.task_events.specs.declared.event.Event.{Event}
 use Rattle.task_events.specs.declared.event.Event.TheVariants.{Begin}
+use Rattle.task_events.specs.declared.request.Request.TheVariants as asks
+use Rattle.script_lang.specs.declared.command.ContextTarget.{ContextTarget}
 use Rattle.script_lang.specs.declared.command.Command.{Command}
-use Rattle.script_lang.specs.declared.command.Command.TheVariants.{Search, Cancel, ListTasks, Deliver, Step, ListStep, Settle, History}
+use Rattle.script_lang.specs.declared.command.Command.TheVariants.{Search, Scroll, ClearScroll, Cancel, ListTasks, Tick, Deliver, Step, ListStep, Settle, History}
 use Rattle.script_lang.specs.declared.command.Script.{Script}
+use Rattle.script_lang.specs.KeepAlives.{day_ms}
 use Rattle.world_moves.specs.Moves.{Delivers, IsPartly, Starts}
 use Rattle.world_moves.specs.declared.state.State.{State}
 use Rattle.corpus_shards.specs.Stored.{has_index}
-use Rattle.command_roots.specs.Roots.{body_or_none, command_at}
+use Rattle.command_roots.specs.Roots.{body_or_none, command_at, context_named, least_size, request_in, root_request}
 use Rattle.world_moves.specs.Ties.{Keeps}
 use Rattle.world_steps.specs.Runs.{AnswersStep, FirstMoves, Steps}
 use Rattle.world_steps.specs.declared.acting.Stepped.{Stepped}
 use Rattle.world_steps.specs.declared.acting.Stepped.TheVariants.{Done}
 use Rattle.node_parts.specs.declared.listing.Listing.{Listing}
 use Rattle.world_moves.specs.Listings.{ListSteps}
-use Rattle.world_steps.specs.Scripts.{CanDo, CanRun, can_start, closing, DeliversWhere, ListsWhere, StartsWhere, PartlyDoes, PartlyCommands, PartlyDrains}
+use Rattle.world_steps.specs.Scripts.{CanDo, CanRun, can_start, closing, error_in, DeliversWhere, ListsWhere, StartsWhere, PartlyDoes, PartlyCommands, PartlyDrains}
 
 -- a part of a delivery is one of a delivery where there is a message
 pub partly_where : (cluster : Cluster) (nth : ℕ) (h new : List Event) → IsPartly (λ g made. Delivers cluster g nth made) h new → IsPartly (DeliversWhere cluster nth) h new
@@ -54,7 +59,10 @@ can_do nodes (first ∷ more) all (suc place) command at = can_do nodes more all
 
 -- a command that has done nothing yet has done a part
 pub nothing_done : (cluster : Cluster) (corpus : Corpus) (script : Script) (k : ℕ) (command : Command) (h new : List Event) → new ≡ h → PartlyDoes cluster corpus script k command h new
-nothing_done cluster corpus script k (Search index node body opaque_id) h new same = inl same
+nothing_done cluster corpus script k (Search index node scroll body opaque_id) h new same = inl same
+nothing_done cluster corpus script k (Scroll target keep opaque_id) h new same = inl same
+nothing_done cluster corpus script k (ClearScroll target) h new same = inl same
+nothing_done cluster corpus script k (Tick ms) h new same = inl same
 nothing_done cluster corpus script k (Cancel target reason wait) h new same = inl same
 nothing_done cluster corpus script k (ListTasks wanted group detailed) h new same = inl same
 nothing_done cluster corpus script k (Deliver nth) h new same = inl same
@@ -102,6 +110,19 @@ part_of_drain cluster corpus script h new part = begun (part_of_begin (closing s
     begun (inl same) = inl same
     begun (inr same) = inr ([], Begin (closing script) ∷ h, refl, inl same)
 
+-- ---- a root that comes where it can
+
+module _ (cluster : Cluster) (can : Bool) (k node : ℕ) where
+  pub stays_where : can ≡ false → (h : List Event) → StartsWhere cluster can k node h h
+  stays_where cannot h = rw cannot refl
+
+  pub comes_where : can ≡ true → (h new : List Event) → (started : Bool) → Starts cluster h k node started new → StartsWhere cluster can k node h new
+  comes_where can h new started s = rw can (started, s)
+
+  pub partly_comes_where : can ≡ true → (h new : List Event) → IsPartly (λ x y. (started : Bool) × Starts cluster x k node started y) h new → IsPartly (StartsWhere cluster can k node) h new
+  partly_comes_where can h new (inl same) = inl same
+  partly_comes_where can h new (inr (whole, (started, s), part)) = inr (whole, comes_where can h whole started s, part)
+
 -- ---- a search
 
 false_and : (a b : Bool) → b ≡ false → (a && b) ≡ false
@@ -111,25 +132,51 @@ false_and false b e = refl
 both_hold : {found : SearchBody} {o : Option SearchBody} {b : Bool} → o ≡ Some found → b ≡ true → (is_some o && b) ≡ true
 both_hold good known = rw (good, known) refl
 
-module _ (cluster : Cluster) (corpus : Corpus) (index : List ℕ) (body : Data) (k node : ℕ) where
-  abbrev Where : List Event → List Event → Type 0
-  Where h new = StartsWhere cluster (can_start corpus index body) k node h new
+module _ (cluster : Cluster) (corpus : Corpus) (index : List ℕ) (scroll : Option ℕ) (body : Data) (k node : ℕ) where
+  abbrev body_of : Option SearchBody
+  body_of = body_or_none (body_at (is_some scroll) (least_size scroll) body)
+
+  abbrev pub Where : List Event → List Event → Type 0
+  Where h new = StartsWhere cluster (can_start corpus index scroll body) k node h new
 
   pub unknown_index : (h : List Event) → has_index corpus.lines index ≡ false → Where h h
-  unknown_index h unknown = subst (λ b. StartsWhere cluster b k node h h) (sym (false_and (is_some (body_or_none (body_at false 0 body))) (has_index corpus.lines index) unknown)) refl
+  unknown_index h unknown = stays_where cluster (can_start corpus index scroll body) k node (false_and (is_some body_of) (has_index corpus.lines index) unknown) h
 
-  pub comes : (found : SearchBody) (h new : List Event) → body_or_none (body_at false 0 body) ≡ Some found → has_index corpus.lines index ≡ true → (started : Bool) → Starts cluster h k node started new → Where h new
-  comes found h new good known started s = subst (λ b. StartsWhere cluster b k node h new) (sym (both_hold good known)) (started, s)
-
-  -- ---- early ends
-
-  pub partly_comes : (found : SearchBody) (h new : List Event) → body_or_none (body_at false 0 body) ≡ Some found → has_index corpus.lines index ≡ true
-      → IsPartly (λ x y. (started : Bool) × Starts cluster x k node started y) h new → IsPartly Where h new
-  partly_comes found h new good known (inl same) = inl same
-  partly_comes found h new good known (inr (whole, (started, s), part)) = inr (whole, comes found h whole good known started s, part)
-
-  pub can_come : (found : SearchBody) → body_or_none (body_at false 0 body) ≡ Some found → has_index corpus.lines index ≡ true → can_start corpus index body ≡ true
+  pub can_come : (found : SearchBody) → body_of ≡ Some found → has_index corpus.lines index ≡ true → can_start corpus index scroll body ≡ true
   can_come found good known = both_hold good known
+
+  pub comes : (found : SearchBody) (h new : List Event) → body_of ≡ Some found → has_index corpus.lines index ≡ true → (started : Bool) → Starts cluster h k node started new → Where h new
+  comes found h new good known started s = comes_where cluster (can_start corpus index scroll body) k node (can_come found good known) h new started s
+
+  pub partly_comes : (found : SearchBody) (h new : List Event) → body_of ≡ Some found → has_index corpus.lines index ≡ true
+      → IsPartly (λ x y. (started : Bool) × Starts cluster x k node started y) h new → IsPartly Where h new
+  partly_comes found h new good known part = partly_comes_where cluster (can_start corpus index scroll body) k node (can_come found good known) h new part
+
+-- ---- a page
+
+-- there is a page or a reason why there is none
+pub has_page : (r : Result Context PageError) → is_some (error_in r) ≡ false → is_ok r ≡ true
+has_page (Ok c) e = refl
+has_page (Err error) e = absurd (cc)
+
+pub has_no_page : (r : Result Context PageError) → is_some (error_in r) ≡ true → is_ok r ≡ false
+has_no_page (Ok c) e = absurd (cc)
+has_no_page (Err error) e = refl
+
+-- a scroll asks for a page of the context that it is about
+pub asks_page : (script : Script) (k : ℕ) (h : List Event) (target : ContextTarget) (keep : Option ℕ) (opaque_id : Option (List ℕ)) → command_at script k ≡ Some (Scroll target keep opaque_id)
+    → (id : TaskId) → context_named target h ≡ Some id → root_request script k h ≡ Some (asks.Scroll (record { id = id; keep = keep; owner = None }))
+asks_page script k h target keep opaque_id there id named = ap (option_and_then (λ command. request_in command h)) there ∙ ap (option_map (λ u. asks.Scroll (record { id = u; keep = keep; owner = None }))) named
+
+-- ---- the clock
+
+-- one command more leaves room for a day more
+pub day_more : (n k now : ℕ) → n + 1 ≡ k → now ≤ n * day_ms → now + day_ms ≤ k * day_ms
+day_more n k now next low = omega (arith, next, low)
+
+-- so far it has gone no further than a script has commands
+pub clock_low : (n now : ℕ) → n ≤ 65536 → now ≤ n * day_ms → now < 2 ^ 43
+clock_low n now few low = omega (arith, few, low)
 
 -- ---- what stays as a command begins
 
@@ -148,5 +195,4 @@ keeps_on first then = record {
   corpus = then.corpus ∙ first.corpus;
   shards = then.shards ∙ first.shards;
   script = then.script ∙ first.script;
-  clock = then.clock ∙ first.clock;
 }

@@ -1,9 +1,12 @@
 -- Where nothing has happened, empty tables fit.
-use Rattle.std.proofs.Common.{◌≡◌, ◌≤◌, ℕ, ◌+◌, zero, suc, false, List, [], map, Option, Some, None, refl, sym, subst, arith}
-use Rattle.std.specs.Prelude.{slice_get}
+use Rattle.std.proofs.Common.{◌≡◌, ◌≤◌, ℕ, ◌+◌, ◌-◌, zero, suc, false, length, List, [], map, Option, Some, None, refl, sym, ap, ◌∙◌, subst, arith}
+use Rattle.std.specs.Prelude.{slice_get, option_and_then}
 use Rattle.std.specs.List.{range_with_len}
 use Rattle.std.specs.BTreeSet.{BTreeSet, contains}
-use Rattle.std.specs.FinMap.{FinMap, empty, get-empty}
+use Rattle.std.specs.FinMap.{FinMap, empty, get, get-empty}
+use Rattle.task_events.specs.declared.context.Context.{Context}
+use Rattle.world_moves.specs.Paging.{Paging, context_in}
+use Rattle.std.proofs.lemmas.List.FromFn.{length-map-range_with_len}
 use Rattle.std.proofs.lemmas.List.Elements.{All-nil}
 use Rattle.task_ids.specs.TaskIdOrder.{task_id_cmp}
 use Rattle.cancel_core.specs.Cancellations.{Cancellations, no_cancellations}
@@ -20,7 +23,7 @@ use Rattle.world_moves.specs.Cancelling.{Cancelling, IsEntryOf, IsRowOf, HasRows
 use Rattle.world_moves.specs.Describing.{Describing, DescribesAll, IsDescribed}
 use Rattle.world_moves.specs.Left.{HasLeft}
 use Rattle.world_moves.specs.Listings.{listing_cmp}
-use Rattle.world_steps.specs.World.{tables_from, cores_from, no_bans}
+use Rattle.world_steps.specs.World.{tables_from, cores_from, no_bans, no_contexts}
 
 -- the table of a place among those of the nodes from one on
 table_at : (cluster : Cluster) (from many place : ℕ) → from + many ≡ cluster.nodes → IsTableAt cluster (from + place) [] (slice_get (tables_from from many cluster.slots) place)
@@ -80,4 +83,21 @@ nothing_told cluster script tables are = record {
   carried = tt;
   clock_is = refl;
   clock_low = omega arith;
+  few_begun = omega arith;
 }
+
+-- ---- contexts
+
+none_in : (cluster : Cluster) (tables : List (FinMap task_id_cmp Context)) → tables ≡ no_contexts cluster.nodes → (id : TaskId) → context_in tables id ≡ None
+none_in cluster tables are id = each_node cluster (λ p o. option_and_then (λ table. get table id) o ≡ None) (λ p. empty) tables are (λ p. get-empty task_id_cmp id) (λ p l. refl) (id.node - 1)
+
+pub nothing_opened : (cluster : Cluster) (script : Script) (tables : List (FinMap task_id_cmp Context)) → tables ≡ no_contexts cluster.nodes → Paging cluster script [] tables
+nothing_opened cluster script tables are = record {
+  as_many = ap length are ∙ length-map-range_with_len (λ p. none) 0 cluster.nodes;
+  stand = none_in cluster tables are;
+  counts = λ id c e. absurd (cc);
+  used = λ t ask live e. absurd (cc);
+}
+  where
+    none : FinMap task_id_cmp Context
+    none = empty

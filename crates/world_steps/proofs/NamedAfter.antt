@@ -31,7 +31,7 @@ use Rattle.node_parts.specs.declared.running.Running.{Running}
 use Rattle.world_moves.specs.Cancels.{waiting_for, waits_for_end, named_by, tasks_named, is_answered, is_through, left_of, with_cancel}
 use Rattle.world_moves.specs.Cancelling.{Cancelling, HasCoreAt, HasRows, HasBansAt, IsEntryOf, is_under_way, waiting_but}
 use Rattle.world_moves.specs.Left.{HasLeft}
-use Rattle.command_roots.specs.Roots.{root_request, root_headers}
+use Rattle.command_roots.specs.Roots.{scripted}
 use Rattle.world_moves.specs.Ties.{Ties}
 use Rattle.world_moves.proofs.CancelFrame.{entry_frame, cores_kept}
 use Rattle.world_moves.proofs.FlightAfter.{all_stay}
@@ -69,7 +69,7 @@ module _ (cluster : Cluster) (h : List Event) (c : ℕ) (t : TaskId) (wait : Boo
       → Ties cluster corpus script (Cancel c t wait ∷ h) tasks tables flight
   ties_after_cancel corpus script tasks tables flight ties = record {
     lawful = cancel_lawful;
-    kept = kept_same cluster corpus (root_request script) (root_headers script) (Cancel c t wait) h tasks refl ties.kept;
+    kept = kept_same cluster corpus (scripted script) (Cancel c t wait) h tasks refl ties.kept;
     listed = λ place. listed_same cluster (Cancel c t wait) h (λ n. refl) refl place _ (ties.listed place);
     sent = all_stay (Cancel c t wait) h flight _ ties.sent;
     good = ties.good;

@@ -13,7 +13,7 @@ use Rattle.task_events.specs.Lawful.{AwaitsNoMark}
 use Rattle.world_moves.specs.declared.flight.Sent.{Sent}
 use Rattle.node_parts.specs.declared.running.Running.{Running}
 use Rattle.world_moves.specs.Cancels.{after_cancel_of, after_naming}
-use Rattle.command_roots.specs.Roots.{root_request, root_headers}
+use Rattle.command_roots.specs.Roots.{scripted}
 use Rattle.world_moves.specs.Ties.{Ties}
 use Rattle.world_moves.proofs.FlightAfter.{all_stay}
 use Rattle.world_moves.proofs.KeptTasks.{kept_same}
@@ -32,7 +32,7 @@ pub ties_after_missing : (cluster : Cluster) (corpus : Corpus) (script : Script)
     → Ties cluster corpus script h tasks tables flight → AwaitsNoMark h → beginning h ≡ Some c → Ties cluster corpus script (NotFound c ∷ h) tasks tables flight
 ties_after_missing cluster corpus script h tasks tables flight c ties awaits begun = record {
   lawful = (begun, ties.lawful, awaits);
-  kept = kept_same cluster corpus (root_request script) (root_headers script) (NotFound c) h tasks refl ties.kept;
+  kept = kept_same cluster corpus (scripted script) (NotFound c) h tasks refl ties.kept;
   listed = λ place. listed_same cluster (NotFound c) h (λ n. refl) refl place _ (ties.listed place);
   sent = all_stay (NotFound c) h flight _ ties.sent;
   good = ties.good;

@@ -17,13 +17,16 @@ use Rattle.task_events.specs.Allowed.{IsDue}
 use Rattle.task_events.specs.Cancels.{beginning, is_named}
 use Rattle.task_events.specs.Lawful.{AwaitsNoMark, Lawful}
 use Rattle.task_laws.proofs.Commands.{beginning_first, beginning_last}
-use Rattle.command_roots.specs.Roots.{root_request, root_headers}
+use Rattle.command_roots.specs.Roots.{scripted}
 use Rattle.node_parts.specs.declared.listing.Listing.{Listing}
 use Rattle.node_parts.specs.declared.running.Running.{Running}
 use Rattle.world_moves.specs.declared.flight.Sent.{Sent}
 use Rattle.world_moves.specs.Cancelling.{Cancelling}
 use Rattle.world_moves.specs.Cancels.{answer_by, is_answered, is_due, left_of, waiting_for, waits_for_end, with_answer}
 use Rattle.world_moves.specs.Describing.{Describing}
+use Rattle.world_moves.specs.Paging.{Paging}
+use Rattle.world_moves.proofs.PagesAfter.{quiet_pages}
+use Rattle.task_events.specs.declared.context.Context.{Context}
 use Rattle.world_moves.specs.Left.{HasLeft}
 use Rattle.world_moves.specs.Ties.{Ties}
 use Rattle.world_moves.proofs.CancelAnswersAfter.{all_through}
@@ -89,7 +92,7 @@ module _ (cluster : Cluster) (h : List Event) (c : ℕ) (wait : Bool) (naming : 
       → (b : Bool) → Lawful cluster (answer_by b c ∷ h) → Ties cluster corpus script (answer_by b c ∷ h) tasks tables flight
   ties_by corpus script tasks tables flight ties true lawful = record {
     lawful = lawful;
-    kept = kept_same cluster corpus (root_request script) (root_headers script) (AnswerDone c) h tasks refl ties.kept;
+    kept = kept_same cluster corpus (scripted script) (AnswerDone c) h tasks refl ties.kept;
     listed = λ place. listed_same cluster (AnswerDone c) h (λ n. refl) refl place _ (ties.listed place);
     sent = all_stay (AnswerDone c) h flight _ ties.sent;
     good = ties.good;
@@ -97,7 +100,7 @@ module _ (cluster : Cluster) (h : List Event) (c : ℕ) (wait : Bool) (naming : 
   }
   ties_by corpus script tasks tables flight ties false lawful = record {
     lawful = lawful;
-    kept = kept_same cluster corpus (root_request script) (root_headers script) (AnswerPlaced c) h tasks refl ties.kept;
+    kept = kept_same cluster corpus (scripted script) (AnswerPlaced c) h tasks refl ties.kept;
     listed = λ place. listed_same cluster (AnswerPlaced c) h (λ n. refl) refl place _ (ties.listed place);
     sent = all_stay (AnswerPlaced c) h flight _ ties.sent;
     good = ties.good;
@@ -123,6 +126,13 @@ module _ (cluster : Cluster) (h : List Event) (c : ℕ) (wait : Bool) (naming : 
 
   pub tells_after_answer : (script : Script) (tables : List Table) (flight : List Sent) (now : ℕ) → Describing script h tables flight now → Describing script (answer_by wait c ∷ h) tables flight now
   tells_after_answer script tables flight now d = tells_by script tables flight now d wait
+
+  pages_by : (script : Script) (contexts : List (FinMap task_id_cmp Context)) → Paging cluster script h contexts → (b : Bool) → Paging cluster script (answer_by b c ∷ h) contexts
+  pages_by script contexts p true = quiet_pages cluster script h contexts p (AnswerDone c) refl
+  pages_by script contexts p false = quiet_pages cluster script h contexts p (AnswerPlaced c) refl
+
+  pub pages_after_answer : (script : Script) (contexts : List (FinMap task_id_cmp Context)) → Paging cluster script h contexts → Paging cluster script (answer_by wait c ∷ h) contexts
+  pages_after_answer script contexts p = pages_by script contexts p wait
 
   no_mark_by : (b : Bool) → AwaitsNoMark (answer_by b c ∷ h)
   no_mark_by true = tt

@@ -77,7 +77,6 @@ module _ (start now next : State) (ready : BTreeSet TaskId) where
       corpus = keeps.corpus ∙ s.keeps.corpus;
       shards = keeps.shards ∙ s.keeps.shards;
       script = keeps.script ∙ s.keeps.script;
-      clock = keeps.clock ∙ s.keeps.clock;
     };
     passes = one_more start.cluster start.corpus.now start.script.now start.history now.history next.history s.passes (moves_from_start s.keeps moved);
   }

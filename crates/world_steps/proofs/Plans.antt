@@ -11,8 +11,10 @@ use Rattle.task_events.specs.declared.step.Do.TheVariants.{AskNext, Turn, Wait, 
 use Rattle.task_events.specs.declared.event.Event.{Event}
 use Rattle.task_events.specs.declared.event.Event.TheVariants.{End}
 use Rattle.task_events.specs.declared.reply.Reply.TheVariants.{Cancelled}
+use Rattle.task_events.specs.Contexts.{page_of}
 use Rattle.task_events.specs.Tasks.{is_live, is_new, no_counts}
-use Rattle.task_events.specs.Steps.{event_of, first_step, cancelled_step, asked_by, turns_of, request_of}
+use Rattle.task_events.specs.Requests.{request_of}
+use Rattle.task_events.specs.Steps.{event_of, first_step, cancelled_step, asked_by, turns_of}
 use Rattle.task_events.specs.Asks.{unanswered}
 use Rattle.task_events.specs.Bans.{ban_over, mark_of}
 use Rattle.task_work.specs.Works.{IsWorkOn, next_of, does_wait}
@@ -20,7 +22,7 @@ use Rattle.script_lang.specs.declared.command.Script.{Script}
 use Rattle.world_moves.specs.declared.flight.Sent.{Sent}
 use Rattle.node_parts.specs.declared.running.Running.{Running}
 use Rattle.world_moves.specs.Facts.{facts_of, awaited_by, requested_by, none_awaited}
-use Rattle.command_roots.specs.Roots.{root_request, root_headers}
+use Rattle.command_roots.specs.Roots.{scripted}
 use Rattle.world_steps.specs.Runs as runs
 use Rattle.world_moves.specs.Ties.{Ties, Runs}
 use Rattle.world_moves.specs.Good.{own_writes}
@@ -39,10 +41,10 @@ acts cluster t h (Finish reply) = refl
 module _ (cluster : Cluster) (corpus : Corpus) (script : Script) (h : List Event) (tasks : TaskId → Option Running) (tables : List Table) (flight : List Sent) (ties : Ties cluster corpus script h tasks tables flight) where
   -- the writes that the work of a task looks at
   abbrev pub writes_at : TaskId → List Doc
-  writes_at t = own_writes cluster corpus (request_of (root_request script) t h)
+  writes_at t = own_writes cluster corpus (request_of (scripted script) t h)
 
-  laws_at : (t : TaskId) → is_live t h ≡ true → (r : Running) → tasks t ≡ Some r → KindLaws cluster corpus t (asked_by t h) (requested_by t h) (awaited_by t h) (turns_of t h) (request_of (root_request script) t h) r.work
-  laws_at t l r e = kind_laws cluster corpus t _ _ _ _ (request_of (root_request script) t h) r.work (kept_running cluster corpus script h tasks tables flight ties t l r e).works
+  laws_at : (t : TaskId) → is_live t h ≡ true → (r : Running) → tasks t ≡ Some r → KindLaws cluster corpus t (page_of (scripted script) t h) (asked_by t h) (requested_by t h) (awaited_by t h) (turns_of t h) (request_of (scripted script) t h) r.work
+  laws_at t l r e = kind_laws cluster corpus t _ _ _ _ _ (request_of (scripted script) t h) r.work (kept_running cluster corpus script h tasks tables flight ties t l r e).works
 
   pub next_new : (t : TaskId) → is_new t h ≡ true → runs.next_of cluster corpus script t h ≡ Some (first_step t (ban_over t h))
   next_new t n = rw n refl
@@ -67,7 +69,7 @@ module _ (cluster : Cluster) (corpus : Corpus) (script : Script) (h : List Event
   pub acts_kept : (t : TaskId) → is_live t h ≡ true → (r : Running) → tasks t ≡ Some r → (is_live t h && is_some (runs.next_of cluster corpus script t h)) ≡ can_act r (writes_at t)
   acts_kept t l r e = rw l (by_new (is_new t h) refl)
     where
-      kept : Runs cluster corpus t (facts_of (root_request script) (root_headers script) t h) r
+      kept : Runs cluster corpus t (facts_of (scripted script) t h) r
       kept = kept_running cluster corpus script h tasks tables flight ties t l r e
 
       by_mark : is_new t h ≡ false → (o : Option ℕ) → mark_of t h ≡ o → is_some (runs.next_of cluster corpus script t h) ≡ can_act r (writes_at t)

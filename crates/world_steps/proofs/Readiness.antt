@@ -17,12 +17,13 @@ use Rattle.task_events.specs.Bans.{mark_of}
 use Rattle.task_events.specs.Tasks.{is_live, is_new}
 use Rattle.task_events.specs.Lawful.{Lawful}
 use Rattle.task_events.specs.Kinds.{kind_of}
-use Rattle.task_events.specs.Steps.{event_of, planned_step, request_of}
+use Rattle.task_events.specs.Requests.{request_of}
+use Rattle.task_events.specs.Steps.{event_of, planned_step}
 use Rattle.script_lang.specs.declared.command.Script.{Script}
 use Rattle.task_work.specs.Works.{does_wait}
 use Rattle.world_moves.specs.Facts.{Facts, facts_of, about, is_about, awaited_by, none_awaited}
 use Rattle.world_moves.specs.Flights.{event_at}
-use Rattle.command_roots.specs.Roots.{root_request, root_headers}
+use Rattle.command_roots.specs.Roots.{scripted}
 use Rattle.world_steps.specs.Runs.{next_of}
 use Rattle.world_moves.specs.Ties.{Keeps}
 use Rattle.world_steps.specs.World.{HasReady, HadReady, is_ready, past_of}
@@ -34,7 +35,7 @@ use Rattle.world_moves.proofs.FactsAfter.{frame}
 
 -- what a task's facts say of it
 abbrev plan_from : Cluster → Corpus → TaskId → Facts → Request → Do
-plan_from cluster corpus t facts r = (kind_of r).step cluster corpus t facts.asked facts.turns
+plan_from cluster corpus t facts r = (kind_of r).step cluster corpus t facts.page facts.asked facts.turns
 
 -- whether its work goes on
 abbrev works_from : Cluster → Corpus → TaskId → Facts → Bool
@@ -109,17 +110,17 @@ module _ (cluster : Cluster) (corpus : Corpus) (script : Script) where
   one_event t h (Finish reply) = refl
 
   by_request : (t : TaskId) (h : List Event) (o : Option Request)
-      → is_some (option_and_then (event_of cluster t h) (option_map (λ r. planned_step cluster corpus t r h) o)) ≡ option_map_or (λ r. not (does_wait (plan_from cluster corpus t (facts_of (root_request script) (root_headers script) t h) r))) o false
+      → is_some (option_and_then (event_of cluster t h) (option_map (λ r. planned_step cluster corpus (scripted script) t r h) o)) ≡ option_map_or (λ r. not (does_wait (plan_from cluster corpus t (facts_of (scripted script) t h) r))) o false
   by_request t h None = refl
-  by_request t h (Some r) = one_event t h (planned_step cluster corpus t r h)
+  by_request t h (Some r) = one_event t h (planned_step cluster corpus (scripted script) t r h)
 
   -- the facts of the task
   abbrev facts_at : TaskId → List Event → Facts
-  facts_at t h = facts_of (root_request script) (root_headers script) t h
+  facts_at t h = facts_of (scripted script) t h
 
   by_mark : (t : TaskId) (h : List Event) → Lawful cluster h → is_new t h ≡ false → (o : Option ℕ) → mark_of t h ≡ o
       → is_some (next_of cluster corpus script t h) ≡ cond (is_some (mark_of t h)) (none_awaited (awaited_by t h)) (works_from cluster corpus t (facts_at t h))
-  by_mark t h l n None m = rw n (rw m (by_request t h (request_of (root_request script) t h)))
+  by_mark t h l n None m = rw n (rw m (by_request t h (request_of (scripted script) t h)))
   by_mark t h l n (Some c) m = rw n (rw m (ends_cancelled cluster t h l c))
 
   by_new : (t : TaskId) (h : List Event) → Lawful cluster h → (b : Bool) → is_new t h ≡ b
@@ -132,7 +133,7 @@ module _ (cluster : Cluster) (corpus : Corpus) (script : Script) where
 
   -- an event changes this of no task but that which it is about
   pub acts_same : (t : TaskId) (e : Event) (h : List Event) → Lawful cluster (e ∷ h) → is_about t e ≡ false → is_ready cluster corpus script (e ∷ h) t ≡ is_ready cluster corpus script h t
-  acts_same t e h l apart = acts_by_facts t (e ∷ h) l ∙ ap (acts_from cluster corpus t) (frame (root_request script) (root_headers script) t e h apart) ∙ sym (acts_by_facts t h l.1)
+  acts_same t e h l apart = acts_by_facts t (e ∷ h) l ∙ ap (acts_from cluster corpus t) (frame (scripted script) t e h apart) ∙ sym (acts_by_facts t h l.1)
 
   -- nor do some events that are about others
   unmet : (q : TaskId) (n : ℕ) (h : List Event) → Lawful cluster h → list_any (is_about q) (take n h) ≡ false → is_ready cluster corpus script (drop n h) q ≡ is_ready cluster corpus script h q

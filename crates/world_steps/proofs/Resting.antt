@@ -10,14 +10,15 @@ use Rattle.task_events.specs.declared.step.Do.TheVariants.{AskNext, Turn, Wait, 
 use Rattle.task_events.specs.Asks.{unanswered}
 use Rattle.task_events.specs.Bans.{mark_of, listing_is_open}
 use Rattle.task_events.specs.Laws.{IsAtRest, IsLeaf, IsDrained}
-use Rattle.task_events.specs.Steps.{request_of, event_of}
+use Rattle.task_events.specs.Requests.{request_of}
+use Rattle.task_events.specs.Steps.{event_of}
 use Rattle.task_events.specs.Tasks.{is_live, is_new}
 use Rattle.task_laws.proofs.Rest.{leaf}
 use Rattle.task_work.specs.Works.{next_of, does_wait}
 use Rattle.script_lang.specs.declared.command.Script.{Script}
 use Rattle.world_moves.specs.declared.flight.Sent.{Sent}
 use Rattle.node_parts.specs.declared.running.Running.{Running}
-use Rattle.command_roots.specs.Roots.{root_request}
+use Rattle.command_roots.specs.Roots.{scripted}
 use Rattle.world_steps.specs.Runs as runs
 use Rattle.world_moves.specs.Ties.{Ties}
 use Rattle.world_moves.proofs.AllKinds.{kind_laws}
@@ -42,7 +43,7 @@ module _ (cluster : Cluster) (corpus : Corpus) (script : Script) (h : List Event
           let writes = writes_at cluster corpus script h tasks tables flight ties u in
           let works = (kept_running cluster corpus script h tasks tables flight ties u l.live r e).works in
           let next = next_old cluster corpus script h tasks tables flight ties u l.live l.passed l.unmarked r e in
-          has_event cluster u h (next_of r.work writes) ((kind_laws cluster corpus u _ _ _ _ (request_of (root_request script) u h) r.work works).moves writes (none_to_await cluster u h ties.lawful l.answered)) (sym next ∙ none)
+          has_event cluster u h (next_of r.work writes) ((kind_laws cluster corpus u _ _ _ _ _ (request_of (scripted script) u h) r.work works).moves writes (none_to_await cluster u h ties.lawful l.answered)) (sym next ∙ none)
 
   pub drained : runs.IsSettled cluster corpus script h → IsDrained h
   drained s = record { nothing_in_flight = s.nothing_in_flight; no_listing = closed; nothing_live = λ t. gone t (is_live t h) refl }

@@ -7,8 +7,9 @@ use Rattle.task_ids.specs.declared.cluster.Cluster.{Cluster}
 use Rattle.task_ids.specs.declared.corpus.Corpus.{Corpus}
 use Rattle.task_ids.specs.declared.doc.Doc.{Doc}
 use Rattle.task_table.specs.Table.{Table}
-use Rattle.task_work.specs.Works.{IsWorkOn}
+use Rattle.task_work.specs.Works.{IsWorkOn, new_work}
 use Rattle.script_lang.specs.declared.command.Script.{Script}
+use Rattle.task_events.specs.declared.context.Context.{Context}
 use Rattle.task_events.specs.declared.request.Request.{Request}
 use Rattle.task_events.specs.declared.event.Event.{Event}
 use Rattle.task_events.specs.declared.event.Event.TheVariants.{Begin, Root, RootRejected}
@@ -16,13 +17,15 @@ use Rattle.task_events.specs.Same.{same_task}
 use Rattle.task_events.specs.Tasks.{live_on}
 use Rattle.task_events.specs.Cancels.{last_command, beginning}
 use Rattle.task_events.specs.Allowed.{TakesSlot}
+use Rattle.task_events.specs.Contexts.{asked_page, context_at}
 use Rattle.task_events.specs.Lawful.{AwaitsNoMark}
 use Rattle.world_moves.specs.declared.flight.Sent.{Sent}
 use Rattle.node_parts.specs.declared.running.Running.{Running}
 use Rattle.world_moves.specs.Facts.{Facts, facts_of}
 use Rattle.world_moves.specs.Moves.{IsStart}
-use Rattle.command_roots.specs.Roots.{root_request, root_headers}
+use Rattle.command_roots.specs.Roots.{root_request, root_headers, scripted}
 use Rattle.world_moves.specs.Ties.{Ties}
+use Rattle.world_moves.proofs.AllKinds.{IsPageOf}
 use Rattle.world_moves.proofs.FactsAfter.{at_root}
 use Rattle.world_moves.proofs.FlightAfter.{all_stay}
 use Rattle.world_moves.proofs.KeptTasks.{kept_after, kept_same}
@@ -35,7 +38,7 @@ module _ (cluster : Cluster) (corpus : Corpus) (script : Script) (h : List Event
   pub after_begin : last_command h + 1 ≡ command → Ties cluster corpus script (Begin command ∷ h) tasks tables flight
   after_begin next = record {
     lawful = (sym next, ties.lawful, awaits);
-    kept = kept_same cluster corpus (root_request script) (root_headers script) (Begin command) h tasks refl ties.kept;
+    kept = kept_same cluster corpus (scripted script) (Begin command) h tasks refl ties.kept;
     listed = λ place. listed_same cluster (Begin command) h (λ n. refl) refl place _ (ties.listed place);
     sent = all_stay (Begin command) h flight _ ties.sent;
     good = ties.good;
@@ -47,7 +50,7 @@ module _ (cluster : Cluster) (corpus : Corpus) (script : Script) (h : List Event
     pub after_root_rejected : cluster.slots ≤ live_on node h → Ties cluster corpus script (RootRejected command node ∷ h) tasks tables flight
     after_root_rejected full = record {
       lawful = (record { begins = begun; low = low; high = high; full = full }, ties.lawful, awaits);
-      kept = kept_same cluster corpus (root_request script) (root_headers script) (RootRejected command node) h tasks refl ties.kept;
+      kept = kept_same cluster corpus (scripted script) (RootRejected command node) h tasks refl ties.kept;
       listed = λ place. listed_same cluster (RootRejected command node) h (λ n. refl) refl place _ (ties.listed place);
       sent = all_stay (RootRejected command node) h flight _ ties.sent;
       good = ties.good;
@@ -65,21 +68,23 @@ module _ (cluster : Cluster) (corpus : Corpus) (script : Script) (h : List Event
       pub starts_root : IsStart cluster h command node true (Root command t)
       starts_root = (takes, node_is, refl)
 
-      pub after_root : (request : Request) (headers : Headers) (running : Running) (kept : TaskId → Option Running) → root_request script command ≡ Some request → headers ≡ root_headers script command
-          → running ≡ first t None false request cluster.shards headers → ((writes : List Doc) → IsWorkOn running.work writes)
+      pub after_root : (request : Request) (page : Option Context) (headers : Headers) (running : Running) (kept : TaskId → Option Running) → root_request script command h ≡ Some request → headers ≡ root_headers script command
+          → page ≡ asked_page (λ id. context_at (scripted script) id h) (Some request) → IsPageOf page request
+          → running ≡ first t None false running.work headers → new_work t request cluster.shards page ≡ Some running.work → ((writes : List Doc) → IsWorkOn running.work writes)
           → kept t ≡ Some running → ((q : TaskId) → same_task t q ≡ false → kept q ≡ tasks q)
           → Ties cluster corpus script (Root command t ∷ h) kept after flight
-      after_root request headers running kept asked carried is on here others = record {
+      after_root request page headers running kept asked carried shows sound is work on here others = record {
         lawful = (record { begins = begun; in_cluster = rw node_is high; takes = takes }, ties.lawful, awaits);
-        kept = kept_after cluster corpus (root_request script) (root_headers script) t (Root command t) h tasks kept refl ties.kept (rw here (runs_first cluster corpus t None false request headers _ running facts is on)) others;
+        kept = kept_after cluster corpus (scripted script) t (Root command t) h tasks kept refl ties.kept (rw here (runs_first cluster corpus t None false request page headers _ running facts is work on sound)) others;
         listed = put_listed cluster h tables ties.listed node low high t task after put (Root command t) (record { last = λ n. refl; live = refl });
         sent = all_stay (Root command t) h flight _ ties.sent;
         good = ties.good;
         plain = ties.plain;
       }
         where
-          facts : facts_of (root_request script) (root_headers script) t (Root command t ∷ h) ≡ started None false request headers
+          facts : facts_of (scripted script) t (Root command t ∷ h) ≡ started None false request page headers
           facts =
-              let none = unborn cluster t (root_request script) (root_headers script) h ties.lawful (let next = takes.next in omega arith) in
-              at_root (root_request script) (root_headers script) t h command ∙ ap (λ (f : Facts). record f { live = true; request = root_request script command; headers = root_headers script command }) none
-              ∙ (λ i. record blank { live = true; request = asked i; headers = sym carried i })
+              let none = unborn cluster t (scripted script) h ties.lawful (let next = takes.next in omega arith) in
+              at_root (scripted script) t h command
+              ∙ ap (λ (f : Facts). record f { live = true; request = root_request script command h; page = asked_page (λ id. context_at (scripted script) id h) (root_request script command h); headers = root_headers script command }) none
+              ∙ (λ i. record blank { live = true; request = asked i; page = (ap (asked_page (λ id. context_at (scripted script) id h)) asked ∙ sym shows) i; headers = sym carried i })

@@ -8,16 +8,14 @@ use Rattle.std.specs.List.{list_any, cons_option}
 use mathlib.Core.List.{reverse-cons}
 use Rattle.task_ids.specs.declared.task_id.TaskId.{TaskId}
 use Rattle.task_ids.specs.declared.task_info.TaskInfo.{TaskInfo}
-use Rattle.task_ids.specs.declared.task_info.Headers.{Headers}
 use Rattle.task_ids.specs.declared.cluster.Cluster.{Cluster}
-use Rattle.task_events.specs.declared.request.Request.{Request}
 use Rattle.task_events.specs.declared.event.Event.{Event}
 use Rattle.task_events.specs.Same.{same_task}
 use Rattle.task_events.specs.Asks.{up_to}
 use Rattle.task_events.specs.Tasks.{is_live, live_tasks}
 use Rattle.task_events.specs.TaskRows.{row_of, living_on, live_rows}
 use Rattle.task_events.specs.Cancels.{is_named}
-use Rattle.task_events.specs.Steps.{request_of}
+use Rattle.task_events.specs.Requests.{Scripted, request_of}
 use Rattle.task_events.specs.Lawful.{Lawful}
 use Rattle.task_laws.proofs.Same.{same_tests}
 use Rattle.task_laws.proofs.Numbers.{number, number-append}
@@ -26,7 +24,7 @@ use Rattle.tasks_api.specs.declared.filter.Filter.{Filter}
 use Rattle.tasks_api.specs.Filters.{filter_matches}
 use Rattle.tasks_api.specs.Lists.{shown}
 use Rattle.script_lang.specs.declared.command.Script.{Script}
-use Rattle.command_roots.specs.Roots.{root_request, root_headers, rows_of}
+use Rattle.command_roots.specs.Roots.{rows_of, scripted}
 use Rattle.world_steps.specs.Naming.{CanName}
 
 -- the other way round as many pass
@@ -57,14 +55,14 @@ number-flat test rows_at n ns = grind (arith, flat_map-append rows_at ns (n ∷ 
 
 module _ (t : TaskId) (h : List Event) where
   -- a task's row has its id
-  number-row : (roots : ℕ → Option Request) (given : ℕ → Headers) (u : TaskId) (rows : List TaskInfo) → number (same_task t) (ids_of (cons_option (row_of roots given u h) rows)) ≤ cond (same_task t u) 1 0 + number (same_task t) (ids_of rows)
-  number-row roots given u rows = grind (arith, option_cases (request_of roots u h))
+  number-row : (said : Scripted) (u : TaskId) (rows : List TaskInfo) → number (same_task t) (ids_of (cons_option (row_of said u h) rows)) ≤ cond (same_task t u) 1 0 + number (same_task t) (ids_of rows)
+  number-row said u rows = grind (arith, option_cases (request_of said u h))
 
-  number-rows : (roots : ℕ → Option Request) (given : ℕ → Headers) (ts : List TaskId) → number (same_task t) (ids_of (filter_map (λ u. row_of roots given u h) ts)) ≤ number (same_task t) ts
-  number-rows roots given [] = omega arith
-  number-rows roots given (u ∷ ts) =
-      let first = number-row roots given u (filter_map (λ u. row_of roots given u h) ts) in
-      let rest = number-rows roots given ts in
+  number-rows : (said : Scripted) (ts : List TaskId) → number (same_task t) (ids_of (filter_map (λ u. row_of said u h) ts)) ≤ number (same_task t) ts
+  number-rows said [] = omega arith
+  number-rows said (u ∷ ts) =
+      let first = number-row said u (filter_map (λ u. row_of said u h) ts) in
+      let rest = number-rows said ts in
       omega arith
 
   -- a task is among those of its own node alone
@@ -76,12 +74,12 @@ module _ (t : TaskId) (h : List Event) where
   number-living n = number-reverse (same_task t) (filter (λ u. n == u.node) (live_tasks h)) ∙ number-there n (live_tasks h)
 
   -- each node is asked once
-  number-live_rows : (roots : ℕ → Option Request) (given : ℕ → Headers) (m : ℕ) → number (same_task t) (ids_of (live_rows m roots given h)) ≤ cond (nat_le t.node m) (number (same_task t) (live_tasks h)) 0
-  number-live_rows roots given zero = omega arith
-  number-live_rows roots given (suc m) =
-      let before = number-live_rows roots given m in
-      let split = number-flat (same_task t) (λ n. filter_map (λ u. row_of roots given u h) (living_on n h)) (suc m) (up_to m) in
-      let last = number-rows roots given (living_on (suc m) h) in
+  number-live_rows : (said : Scripted) (m : ℕ) → number (same_task t) (ids_of (live_rows m said h)) ≤ cond (nat_le t.node m) (number (same_task t) (live_tasks h)) 0
+  number-live_rows said zero = omega arith
+  number-live_rows said (suc m) =
+      let before = number-live_rows said m in
+      let split = number-flat (same_task t) (λ n. filter_map (λ u. row_of said u h) (living_on n h)) (suc m) (up_to m) in
+      let last = number-rows said (living_on (suc m) h) in
       let there = number-living (suc m) in
       grind (arith, nat_tests)
 
@@ -89,7 +87,7 @@ module _ (t : TaskId) (h : List Event) where
 pub targets_live : (cluster : Cluster) (script : Script) (wanted : Filter) (h : List Event) → Lawful cluster h → (t : TaskId) → number (same_task t) (map (λ row. row.id) (shown wanted (rows_of cluster script h))) ≤ cond (is_live t h) 1 0
 targets_live cluster script wanted h lawful t =
     let picked = number-picked t (λ row. filter_matches wanted row) (rows_of cluster script h) in
-    let all = number-live_rows t h (root_request script) (root_headers script) cluster.nodes in
+    let all = number-live_rows t h (scripted script) cluster.nodes in
     let once = (living_facts cluster h lawful).once t in
     grind arith
 

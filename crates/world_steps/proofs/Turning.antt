@@ -11,18 +11,19 @@ use Rattle.task_ids.specs.declared.corpus.Corpus.{Corpus}
 use Rattle.task_events.specs.declared.step.Do.{Do}
 use Rattle.task_events.specs.declared.step.Do.TheVariants.{AskNext, Turn, Wait, Finish}
 use Rattle.task_events.specs.declared.event.Event.{Event}
-use Rattle.task_events.specs.declared.event.Event.TheVariants.{Begin, Refuse, Cancel, NotFound, Mark, Listed, Acked, End, AnswerPlaced, AnswerDone}
+use Rattle.task_events.specs.declared.event.Event.TheVariants.{Begin, Refuse, Cancel, NotFound, Mark, Listed, Acked, End, AnswerPlaced, AnswerDone, Tick as TickEvent}
 use Rattle.task_events.specs.Asks.{Pending, unanswered}
 use Rattle.task_events.specs.Bans.{mark_of, ban_over}
 use Rattle.task_events.specs.Cancels.{last_command}
 use Rattle.task_events.specs.Messages.{Message}
 use Rattle.task_events.specs.Messages.Message.{Request, Answer, Ban, Ack, Unban}
-use Rattle.task_events.specs.Steps.{event_of, first_step, cancelled_step, step_of_passed, planned_step, request_of}
+use Rattle.task_events.specs.Requests.{request_of}
+use Rattle.task_events.specs.Steps.{event_of, first_step, cancelled_step, step_of_passed, planned_step}
 use Rattle.task_events.specs.Tasks.{is_live, is_new}
 use Rattle.task_events.specs.Turns.{is_begin}
 use Rattle.script_lang.specs.declared.command.Script.{Script}
 use Rattle.script_lang.specs.declared.command.Command.{Command}
-use Rattle.script_lang.specs.declared.command.Command.TheVariants.{Search, Cancel, ListTasks, Deliver, Step, ListStep, Settle, History}
+use Rattle.script_lang.specs.declared.command.Command.TheVariants.{Search, Scroll, ClearScroll, Cancel, ListTasks, Tick, Deliver, Step, ListStep, Settle, History}
 use Rattle.world_steps.specs.declared.acting.Stepped.{Stepped}
 use Rattle.world_steps.specs.declared.acting.Stepped.TheVariants.{Done, Waiting, NotRunning}
 use Rattle.script_lang.specs.declared.command.CancelTarget.{CancelTarget}
@@ -30,12 +31,12 @@ use Rattle.script_lang.specs.declared.command.CancelTarget.TheVariants.{Task, Ma
 use Rattle.node_parts.specs.declared.listing.Listing.{Listing}
 use Rattle.world_moves.specs.declared.listings.ListStep.{ListStep as ListingAnswer}
 use Rattle.world_moves.specs.declared.listings.ListStep.TheVariants.{Done as Listing_done, NoListing}
-use Rattle.world_moves.specs.Cancels.{after_cancel, after_cancel_of, after_naming, answer_to, due_for, is_due, root_of, targets, waits_for_end, with_answers, with_cancel, with_cancels, with_due}
+use Rattle.world_moves.specs.Cancels.{after_cancel, after_cancel_of, after_naming, answer_to, due_for, is_due, targets, waits_for_end, with_answers, with_cancel, with_cancels, with_due}
 use Rattle.world_moves.specs.Listings.{AnswersListing, IsListStep, ListSteps}
 use Rattle.world_moves.specs.Moves.{IsDelivery, Delivers, IsStart, Starts}
-use Rattle.command_roots.specs.Roots.{root_request}
+use Rattle.command_roots.specs.Roots.{root_of, scripted}
 use Rattle.world_steps.specs.Runs.{AnswersStep, FirstMoves, Passes, Settles}
-use Rattle.world_steps.specs.Scripts.{can_start, StartsWhere, DeliversWhere, ListsWhere, Does, Commands, Drains, IsTurn, closing}
+use Rattle.world_steps.specs.Scripts.{can_start, can_page, page_node, StartsWhere, DeliversWhere, ListsWhere, Does, Commands, Drains, IsTurn, closing}
 
 -- some events came after, with none of which a command began
 abbrev pub Follows : List Event → List Event → Type 0
@@ -173,7 +174,7 @@ module _ (cluster : Cluster) (t : TaskId) (h : List Event) where
 module _ (cluster : Cluster) (corpus : Corpus) (script : Script) where
   pub stepped_there : (t : TaskId) (h new : List Event) (stepped : Stepped) → AnswersStep cluster corpus script t h stepped new → Follows h new
   stepped_there t h new Done (e, live, next, same) =
-      subst (Follows h) (sym same) (due_after e h (by_step cluster t h (is_new t h) (mark_of t h) (option_map (λ request. planned_step cluster corpus t request h) (request_of (root_request script) t h)) e next))
+      subst (Follows h) (sym same) (due_after e h (by_step cluster t h (is_new t h) (mark_of t h) (option_map (λ request. planned_step cluster corpus (scripted script) t request h) (request_of (scripted script) t h)) e next))
   stepped_there t h new Waiting (live, waits, same) = stays h new same
   stepped_there t h new NotRunning (gone, same) = stays h new same
 
@@ -198,7 +199,10 @@ module _ (cluster : Cluster) (corpus : Corpus) (script : Script) where
   delivered_where nth h new (inr (none, same)) = stays h new same
 
   done : (k : ℕ) (command : Command) (h new : List Event) → Does cluster corpus script k command h new → Follows h new
-  done k (Search index node body opaque_id) h new d = started_where (can_start corpus index body) k node h new d
+  done k (Search index node scroll body opaque_id) h new d = started_where (can_start corpus index scroll body) k node h new d
+  done k (Scroll target keep opaque_id) h new d = started_where (can_page script target h) k (page_node target h) h new d
+  done k (ClearScroll target) h new same = stays h new same
+  done k (Tick ms) h new same = one_event h new (TickEvent ms) refl same
   done k (Cancel target reason wait) h new d = cancel_after cluster script k target wait h new d
   done k (ListTasks wanted group detailed) h new same = stays h new same
   done k (Deliver nth) h new d = delivered_where nth h new d

@@ -1,4 +1,5 @@
 pub mod Naming
+pub mod PagesFollow
 pub mod Runs
 pub mod Scripts
 pub mod World

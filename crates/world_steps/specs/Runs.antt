@@ -14,7 +14,7 @@ use Rattle.task_events.specs.Steps.{next_step}
 use Rattle.script_lang.specs.declared.command.Script.{Script}
 use Rattle.world_steps.specs.declared.acting.Stepped.{Stepped}
 use Rattle.world_steps.specs.declared.acting.Stepped.TheVariants.{Done, Waiting, NotRunning}
-use Rattle.command_roots.specs.Roots.{root_request}
+use Rattle.command_roots.specs.Roots.{scripted}
 use Rattle.world_moves.specs.Cancels.{with_due}
 use Rattle.node_parts.specs.declared.listing.Listing.{Listing}
 use Rattle.world_moves.specs.Listings.{is_open, IsFirstListing, ListSteps}
@@ -23,7 +23,7 @@ use Rattle.world_moves.specs.Moves.{Delivers, IsPartly, DeliveryLacksNumber, Sto
 module _ (cluster : Cluster) (corpus : Corpus) (script : Script) where
   -- what a live task does next, and nothing where it waits
   abbrev pub next_of : TaskId → List Event → Option Event
-  next_of t h = next_step cluster corpus (root_request script) t h
+  next_of t h = next_step cluster corpus (scripted script) t h
 
   -- the past after a step of a task, and after the answers that come due with it
   abbrev pub Steps : TaskId → List Event → List Event → Type 0

@@ -1,24 +1,29 @@
 -- The run of a script: command by command, and then the closing drain.
-use Rattle.std.specs.Prelude.{◌≡◌, ℕ, zero, suc, ◌+◌, ◌≤◌, Bool, true, false, ◌&&◌, List, [], ◌∷◌, ◌++◌, ◌⊎◌, length, is_some, Some, ⊤}
+use Rattle.std.specs.Prelude.{◌≡◌, ℕ, zero, suc, ◌+◌, ◌≤◌, Bool, true, false, ◌&&◌, List, [], ◌∷◌, ◌++◌, ◌⊎◌, length, is_some, is_ok, Option, Some, None, Result, Ok, Err, ⊤}
 use Rattle.std.specs.List.{list_any}
+use Rattle.std.specs.Option.{option_map_or}
 use Rattle.serde_json.specs.Data.{Data}
 use Rattle.query_parse.specs.Bodies.{body_at}
 use Rattle.task_ids.specs.declared.cluster.Cluster.{Cluster}
 use Rattle.task_ids.specs.declared.corpus.Corpus.{Corpus}
 use Rattle.task_events.specs.declared.event.Event.{Event}
-use Rattle.task_events.specs.declared.event.Event.TheVariants.{Begin}
+use Rattle.task_events.specs.declared.context.Context.{Context}
+use Rattle.task_events.specs.declared.event.Event.TheVariants.{Begin, Tick as TickEvent}
 use Rattle.task_events.specs.declared.stop.Stop.{Stop}
 use Rattle.task_events.specs.Messages.{in_flight}
 use Rattle.task_events.specs.Turns.{is_begin}
+use Rattle.scroll_table.specs.declared.context.PageError.{PageError}
 use Rattle.script_lang.specs.declared.command.Command.{Command}
-use Rattle.script_lang.specs.declared.command.Command.TheVariants.{Search, Cancel, ListTasks, Deliver, Step, ListStep, Settle, History}
+use Rattle.script_lang.specs.declared.command.ContextTarget.{ContextTarget}
+use Rattle.script_lang.specs.declared.command.Command.TheVariants.{Search, Scroll, ClearScroll, Cancel, ListTasks, Tick, Deliver, Step, ListStep, Settle, History}
 use Rattle.script_lang.specs.declared.command.Script.{Script}
 use Rattle.world_steps.specs.declared.acting.Stepped.{Stepped}
 use Rattle.node_parts.specs.declared.listing.Listing.{Listing}
 use Rattle.world_moves.specs.Cancels.{after_cancel}
 use Rattle.world_moves.specs.Listings.{is_open, ListSteps}
+use Rattle.script_lang.specs.KeepAlives.{day_ms}
 use Rattle.world_moves.specs.Moves.{Delivers, Starts, NodeLacksNumber, DeliveryLacksNumber, IsPartly, Stops}
-use Rattle.command_roots.specs.Roots.{body_or_none, command_at}
+use Rattle.command_roots.specs.Roots.{body_or_none, command_at, context_named, least_size, page_answer}
 use Rattle.corpus_shards.specs.Stored.{has_index}
 use Rattle.world_steps.specs.Runs.{AnswersStep, Settles, PartlySettles, SettlingLacksNumber}
 
@@ -28,11 +33,14 @@ IsTurn k h new = (events : List Event) × (new ≡ events ++ Begin k ∷ h) × (
 
 -- ---- the scripts that run
 
--- a command that the world can do: a search starts on a node of the cluster, and the number of a command is that of a cancel
+-- a command that the world can do: a search starts on a node of the cluster, and the clock moves by a day at most
 abbrev pub CanDo : ℕ → Command → Type 0
-CanDo nodes (Search index node body opaque_id) = (1 ≤ node) × (node ≤ nodes)
+CanDo nodes (Search index node scroll body opaque_id) = (1 ≤ node) × (node ≤ nodes)
+CanDo nodes (Scroll target keep opaque_id) = ⊤
+CanDo nodes (ClearScroll target) = ⊤
 CanDo nodes (Cancel target reason wait) = ⊤
 CanDo nodes (ListTasks wanted group detailed) = ⊤
+CanDo nodes (Tick ms) = ms ≤ day_ms
 CanDo nodes (Deliver nth) = ⊤
 CanDo nodes (Step task) = ⊤
 CanDo nodes (ListStep node parent) = ⊤
@@ -51,10 +59,23 @@ closing script = length script.commands + 1
 -- ---- one command
 
 -- the body of a search has no fault, and some document is of its index
-abbrev pub can_start : Corpus → List ℕ → Data → Bool
-can_start corpus index body = is_some (body_or_none (body_at false 0 body)) && has_index corpus.lines index
+abbrev pub can_start : Corpus → List ℕ → Option ℕ → Data → Bool
+can_start corpus index scroll body = is_some (body_or_none (body_at (is_some scroll) (least_size scroll) body)) && has_index corpus.lines index
 
--- a search that can start comes to its node; else nothing happens
+-- the context that a scroll is about stands, and no task uses it
+abbrev pub can_page : Script → ContextTarget → List Event → Bool
+can_page script target h = is_ok (page_answer script target h)
+
+-- why it is not so, if it is not
+abbrev pub error_in : Result Context PageError → Option PageError
+error_in (Ok context) = None
+error_in (Err error) = Some error
+
+-- the node of that context
+abbrev pub page_node : ContextTarget → List Event → ℕ
+page_node target h = option_map_or (λ id. id.node) (context_named target h) 0
+
+-- a root that can start comes to its node; else nothing happens
 abbrev pub StartsWhere : Cluster → Bool → ℕ → ℕ → List Event → List Event → Type 0
 StartsWhere cluster true k node h new = (started : Bool) × Starts cluster h k node started new
 StartsWhere cluster false k node h new = new ≡ h
@@ -70,9 +91,12 @@ ListsWhere l h new = ListSteps l h new ⊎ ((is_open l h ≡ false) × (new ≡ 
 module _ (cluster : Cluster) (corpus : Corpus) (script : Script) where
   -- what a command with this number appends after its beginning
   abbrev pub Does : ℕ → Command → List Event → List Event → Type 0
-  Does k (Search index node body opaque_id) h new = StartsWhere cluster (can_start corpus index body) k node h new
+  Does k (Search index node scroll body opaque_id) h new = StartsWhere cluster (can_start corpus index scroll body) k node h new
+  Does k (Scroll target keep opaque_id) h new = StartsWhere cluster (can_page script target h) k (page_node target h) h new
+  Does k (ClearScroll target) h new = new ≡ h
   Does k (Cancel target reason wait) h new = new ≡ after_cancel cluster script k target wait h
   Does k (ListTasks wanted group detailed) h new = new ≡ h
+  Does k (Tick ms) h new = new ≡ TickEvent ms ∷ h
   Does k (Deliver nth) h new = DeliversWhere cluster nth h new
   Does k (Step task) h new = (stepped : Stepped) × AnswersStep cluster corpus script task h stepped new
   Does k (ListStep node parent) h new = ListsWhere (record { node = node; parent = parent }) h new
@@ -119,7 +143,8 @@ module _ (cluster : Cluster) (corpus : Corpus) (script : Script) where
 
   -- The next event of a command would start or put a task for which its node has no number.
   abbrev pub CommandLacksNumber : Command → List Event → List Event → Type 0
-  CommandLacksNumber (Search index node body opaque_id) h new = (can_start corpus index body ≡ true) × NodeLacksNumber cluster h node × (new ≡ h)
+  CommandLacksNumber (Search index node scroll body opaque_id) h new = (can_start corpus index scroll body ≡ true) × NodeLacksNumber cluster h node × (new ≡ h)
+  CommandLacksNumber (Scroll target keep opaque_id) h new = (can_page script target h ≡ true) × NodeLacksNumber cluster h (page_node target h) × (new ≡ h)
   CommandLacksNumber (Deliver nth) h new = DeliveryLacksNumber cluster h nth × (new ≡ h)
   CommandLacksNumber Settle h new = SettlingLacksNumber cluster corpus script h new
   CommandLacksNumber _ h new = ⊥

@@ -8,6 +8,7 @@ use Rattle.task_ids.specs.declared.task_id.TaskId.{TaskId}
 use Rattle.task_ids.specs.declared.cluster.Cluster.{Cluster}
 use Rattle.task_ids.specs.declared.corpus.Corpus.{Corpus}
 use Rattle.task_ids.specs.TaskIdOrder.{task_id_cmp}
+use Rattle.task_events.specs.declared.context.Context.{Context}
 use Rattle.task_events.specs.declared.event.Event.{Event}
 use Rattle.task_events.specs.declared.stop.Stop.{Stop}
 use Rattle.task_events.specs.Tasks.{is_live}
@@ -76,6 +77,9 @@ tables_from node nodes slots = map (λ place. new_table (place + 1) slots) (rang
 -- no ban stands on so many nodes, of which the first follows this one, and nothing is cancelled there
 abbrev pub cores_from : ℕ → ℕ → List Cancellations
 cores_from node nodes = map (λ place. no_cancellations (place + 1)) (range_with_len node nodes)
+
+abbrev pub no_contexts : ℕ → List (FinMap task_id_cmp Context)
+no_contexts nodes = map (λ place. empty) (range_with_len 0 nodes)
 
 abbrev pub no_bans : ℕ → List (FinMap task_id_cmp ℕ)
 no_bans nodes = map (λ place. empty) (range_with_len 0 nodes)

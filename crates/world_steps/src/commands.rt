@@ -1,10 +1,12 @@
 //! What commands do, and the closing drain.
 
-ghost use Rattle.std.specs.Prelude.{◌≡◌, ◌⊎◌, ◌∷◌, ◌+◌, ◌≤◌, length, true, false, Some, option_map, OnOk, OnErr, IfErr};
+ghost use Rattle.std.specs.Prelude.{◌≡◌, ◌⊎◌, ◌∷◌, ◌+◌, ◌*◌, ◌≤◌, length, true, false, is_some, Some, option_map, OnOk, OnErr, IfErr};
 ghost use Rattle.query_parse.specs.Bodies.{body_at};
 ghost use Rattle.task_events.specs.Cancels.{last_command, beginning};
+ghost use Rattle.task_events.specs.Clock.{clock};
+ghost use Rattle.script_lang.specs.KeepAlives.{day_ms};
 ghost use Rattle.task_events.specs.Laws.{IsDrained};
-ghost use Rattle.command_roots.specs.Roots.{body_or_none, command_at, root_request, whole_ask};
+ghost use Rattle.command_roots.specs.Roots.{body_or_none, command_at, least_size, root_request, search_ask};
 ghost use Rattle.task_ids.specs.Limits.{IsCancel};
 ghost use Rattle.world_moves.specs.Cancels.{after_cancel, AllAnswered};
 ghost use Rattle.world_moves.specs.Moves.{DeliveryLacksNumber, IsPartly, NodeLacksNumber, Stops, StopsMove};
@@ -18,13 +20,15 @@ use crate::cancel_commands::cancel;
 use crate::moving::{deliver_and_refresh, list_and_refresh, settle, step_and_refresh};
 use crate::ready::refresh;
 use crate::roots::{begin, start};
-use command_roots::{body_of, whole_ask};
+use crate::scrolls::scroll;
+use command_roots::{body_of, search_ask};
 use node_parts::listing::Listing;
 use script_lang::{CancelTarget, Command};
 use std::collections::BTreeSet;
 use task_events::{Event, Request, Stop};
 use task_ids::{DocSource, TaskId, Text};
 use task_laws::drained_bans;
+use world_moves::clock::tick;
 use world_moves::state::State;
 
 /// A search that has begun comes to its node, where its body has no fault and some document is of its index.
@@ -34,24 +38,25 @@ fn search(
     number: u32,
     index: &Text,
     node: u32,
+    scroll: Option<u64>,
     body: &DocSource,
 ) -> Result<(), Stop>
     requires tied { IsTied state.old }
     requires shards { HasShards state.old }
     requires known { HasReady state.old ready.old }
     requires begun { beginning state.old.history ≡ Some number }
-    requires asked { root_request state.old.script.now number ≡ option_map Request.Search (option_map (whole_ask index.now) (body_or_none (body_at false 0 body.now))) }
+    requires asked { root_request state.old.script.now number state.old.history ≡ option_map Request.Search (option_map (search_ask index.now scroll) (body_or_none (body_at (is_some scroll) (least_size scroll) body.now))) }
     requires low { 1 ≤ node }
     requires high { node ≤ state.old.cluster.nodes }
-    ensures done { OnOk result (StartsWhere state.old.cluster (can_start state.old.corpus.now index.now body.now) number node state.old.history state.new.history) }
+    ensures done { OnOk result (StartsWhere state.old.cluster (can_start state.old.corpus.now index.now scroll body.now) number node state.old.history state.new.history) }
     ensures tied { OnOk result (IsTied state.new) }
     ensures known { OnOk result (HasReady state.new ready.new) }
     ensures keeps { Keeps state.old state.new }
-    ensures part { OnErr result (IsPartly (StartsWhere state.old.cluster (can_start state.old.corpus.now index.now body.now) number node) state.old.history state.new.history) }
+    ensures part { OnErr result (IsPartly (StartsWhere state.old.cluster (can_start state.old.corpus.now index.now scroll body.now) number node) state.old.history state.new.history) }
     ensures laws { KeepsLaws state.new }
-    ensures stop { IfErr result (λ stop. Stops (IsPartly (StartsWhere state.old.cluster (can_start state.old.corpus.now index.now body.now) number node) state.old.history) ((can_start state.old.corpus.now index.now body.now ≡ true) × NodeLacksNumber state.old.cluster state.old.history node × (state.new.history ≡ state.old.history)) state.new.history stop) }
+    ensures stop { IfErr result (λ stop. Stops (IsPartly (StartsWhere state.old.cluster (can_start state.old.corpus.now index.now scroll body.now) number node) state.old.history) ((can_start state.old.corpus.now index.now scroll body.now ≡ true) × NodeLacksNumber state.old.cluster state.old.history node × (state.new.history ≡ state.old.history)) state.new.history stop) }
 {
-    let Ok(found) = body_of(state.alloc, body) else {
+    let Ok(found) = body_of(state.alloc, body, scroll.is_some()) else {
         return Err(Stop::Memory);
     };
     let Some(body) = found else {
@@ -61,7 +66,7 @@ fn search(
         drop(body);
         return Ok(());
     }
-    let Ok(ask) = whole_ask(state.alloc, index, body) else {
+    let Ok(ask) = search_ask(state.alloc, index, scroll, body) else {
         return Err(Stop::Memory);
     };
     let before = state.history.len();
@@ -161,6 +166,31 @@ fn step(state: &mut State<'_>, ready: &mut BTreeSet<TaskId>, task: TaskId) -> Re
     }
 }
 
+/// The clock moves on by so many milliseconds, and each context goes that was not used for its keep-alive.
+fn tick_and_refresh(
+    state: &mut State<'_>,
+    ready: &mut BTreeSet<TaskId>,
+    ms: u64,
+) -> Result<(), Stop>
+    requires tied { IsTied state.old }
+    requires known { HasReady state.old ready.old }
+    requires low { clock state.old.history + ms ≤ last_command state.old.history * day_ms }
+    ensures done { OnOk result (state.new.history ≡ Event.Tick ms ∷ state.old.history) }
+    ensures tied { OnOk result (IsTied state.new) }
+    ensures known { OnOk result (HasReady state.new ready.new) }
+    ensures keeps { Keeps state.old state.new }
+    ensures part { OnErr result (IsPartly (λ h new. new ≡ Event.Tick ms ∷ h) state.old.history state.new.history) }
+    ensures laws { KeepsLaws state.new }
+    ensures stop { IfErr result (λ stop. StopsMove (λ h new. new ≡ Event.Tick ms ∷ h) state.old.history state.new.history stop) }
+{
+    let before = state.history.len();
+    tick(state, ms)?;
+    match refresh(state, ready, before) {
+        Ok(()) => Ok(()),
+        Err(stop) => Err(stop),
+    }
+}
+
 /// Does what a command says that has begun.
 fn act_on(
     state: &mut State<'_>,
@@ -175,6 +205,8 @@ fn act_on(
     requires number { IsCancel number }
     requires there { command_at state.old.script.now number ≡ Some command.now }
     requires can { CanDo state.old.cluster.nodes command.now }
+    // The clock has room for a day more.
+    requires low { clock state.old.history + day_ms ≤ last_command state.old.history * day_ms }
     ensures done { OnOk result (Does state.old.cluster state.old.corpus.now state.old.script.now number command.now state.old.history state.new.history) }
     ensures tied { OnOk result (IsTied state.new) }
     ensures known { OnOk result (HasReady state.new ready.new) }
@@ -187,9 +219,12 @@ fn act_on(
         Command::Search {
             index,
             node,
+            scroll,
             body,
             ..
-        } => search(state, ready, number, index, *node, body),
+        } => search(state, ready, number, index, *node, *scroll, body),
+        Command::Scroll { context, keep, .. } => scroll(state, ready, number, context, *keep),
+        Command::Tick { ms } => tick_and_refresh(state, ready, *ms),
         Command::Deliver { nth } => deliver(state, ready, *nth),
         Command::Cancel { target, wait, .. } => cancel_and_refresh(
             state, ready, number, target, *wait,
@@ -200,7 +235,8 @@ fn act_on(
             list(state, ready, Listing { node, parent })
         }
         Command::Settle => settle(state, ready),
-        Command::ListTasks { .. } | Command::History => Ok(()),
+        // What a clear makes of the context stands with its beginning.
+        Command::ClearScroll { .. } | Command::ListTasks { .. } | Command::History => Ok(()),
     }
 }
 
@@ -213,6 +249,7 @@ fn begin_and_refresh(
     requires tied { IsTied state.old }
     requires known { HasReady state.old ready.old }
     requires next { last_command state.old.history + 1 ≡ number }
+    requires few { number ≤ 65536 }
     ensures happened { OnOk result (state.new.history ≡ Event.Begin number ∷ state.old.history) }
     ensures tied { OnOk result (IsTied state.new) }
     ensures known { OnOk result (HasReady state.new ready.new) }

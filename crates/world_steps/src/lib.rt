@@ -9,10 +9,11 @@ mod moving;
 mod naming;
 mod ready;
 mod roots;
+mod scrolls;
 mod world;
 
 pub use acting::Stepped;
-pub use laws::one_run;
+pub use laws::{empty_page_ends, one_run, pages_follow, whole_is_so_far};
 pub use node_parts::listing::Listing;
 pub use world::{Delivered, World};
 pub use world_moves::listings::ListStep;

@@ -8,10 +8,12 @@ ghost use Rattle.task_table.specs.Answer.{refused_token};
 ghost use Rattle.task_events.specs.declared.history.TheConstants.{MAX_EVENTS};
 ghost use Rattle.task_events.specs.Cancels.{beginning, last_command};
 ghost use Rattle.world_moves.specs.Moves.{Starts, NodeLacksNumber, IsPartly, IsCutShort};
-ghost use Rattle.command_roots.specs.Roots.{root_headers, root_request};
+ghost use Rattle.command_roots.specs.Roots.{root_request, root_headers};
 ghost use Rattle.node_parts.specs.Starting.{task_for};
+ghost use Rattle.world_moves.specs.Paging.{CanTake};
 ghost use Rattle.world_moves.specs.Ties.{IsTied, Keeps, task_at};
 
+use crate::scrolls::cleared;
 use command_roots::headers_of;
 use node_parts::running::Running;
 use node_parts::starting::{new_task, with_work};
@@ -19,17 +21,19 @@ use script_lang::Script;
 use shared_value::Shared;
 use std::alloc::Global;
 use std::collections::BTreeMap;
-use task_events::{Event, History, Request, SearchAsk, Stop};
+use task_events::{Event, History, Request, ScrollAsk, SearchAsk, Stop};
 use task_ids::{Headers, NewTask, TaskId};
 use task_table::PutError;
 use world_moves::append::append;
+use world_moves::pages::{clear, page_asked, take};
 use world_moves::starting::{keep_started, put_on, spend};
 use world_moves::state::State;
 
-/// A command begins, the next in order. Commands are numbered from 1.
+/// A command begins, the next in order, and the context goes that it clears. Commands are numbered from 1.
 pub(crate) fn begin(state: &mut State<'_>, command: u32) -> Result<(), Stop>
     requires tied { IsTied state.old }
     requires next { last_command state.old.history + 1 ≡ command }
+    requires few { command ≤ 65536 }
     ensures happened { OnOk result (state.new.history ≡ Event.Begin command ∷ state.old.history) }
     ensures tied { OnOk result (IsTied state.new) }
     ensures keeps { Keeps state.old state.new }
@@ -38,7 +42,9 @@ pub(crate) fn begin(state: &mut State<'_>, command: u32) -> Result<(), Stop>
     ensures numbers { result ≡ Err Stop.NumbersSpent → ⊥ }
     ensures room { OnOk result (length state.new.history ≤ MAX_EVENTS) }
 {
+    let goes = cleared(state, command);
     append(&mut state.history, Event::Begin { command })?;
+    clear(&mut state.contexts, goes);
     Ok(())
 }
 
@@ -140,7 +146,8 @@ fn start_with(
     requires begun { beginning state.old.history ≡ Some command }
     requires low { 1 ≤ node }
     requires high { node ≤ state.old.cluster.nodes }
-    requires asked { root_request state.old.script.now command ≡ Some request.now }
+    requires asked { root_request state.old.script.now command state.old.history ≡ Some request.now }
+    requires usable { CanTake state.old.clock state.old.contexts.items request.now }
     ensures started { IfOk result (λ started.
         Starts state.old.cluster state.old.history command node started state.new.history) }
     ensures tied { OnOk result (IsTied state.new) }
@@ -156,7 +163,17 @@ fn start_with(
     let root = root_task(state, request, &headers)?;
     match put_on(&mut state.tables, node, root, None) {
         Ok(ticket) => {
-            let running = with_work(state.alloc, ticket, request, &state.cluster, false, headers)?;
+            let task = ticket.id();
+            let page = page_asked(state.contexts.as_slice(), request);
+            let running = with_work(
+                state.alloc,
+                ticket,
+                request,
+                &state.cluster,
+                page,
+                false,
+                headers,
+            )?;
             keep_root(
                 &mut state.history,
                 &mut state.tasks,
@@ -164,6 +181,7 @@ fn start_with(
                 command,
                 running,
             )?;
+            take(&mut state.contexts, request, state.clock, task);
             Ok(true)
         }
         Err(refused) => {
@@ -204,7 +222,7 @@ pub(crate) fn start(
     requires begun { beginning state.old.history ≡ Some command }
     requires low { 1 ≤ node }
     requires high { node ≤ state.old.cluster.nodes }
-    requires asked { root_request state.old.script.now command ≡ Some (Request.Search ask) }
+    requires asked { root_request state.old.script.now command state.old.history ≡ Some (Request.Search ask) }
     ensures started { IfOk result (λ started.
         Starts state.old.cluster state.old.history command node started state.new.history) }
     ensures tied { OnOk result (IsTied state.new) }
@@ -220,4 +238,27 @@ pub(crate) fn start(
     let started = start_with(state, command, node, &request);
     drop(request);
     started
+}
+
+/// The page of a command that has begun comes to the node of its context. It starts where a slot is free there, and is rejected where
+/// none is, which leaves the last use of the context. The answer is whether it started.
+///
+/// Where a slot is free, the number of the task is looked for before there is room for the event.
+pub(crate) fn start_page(state: &mut State<'_>, command: u32, ask: ScrollAsk) -> Result<bool, Stop>
+    requires tied { IsTied state.old }
+    requires begun { beginning state.old.history ≡ Some command }
+    requires asked { root_request state.old.script.now command state.old.history ≡ Some (Request.Scroll ask) }
+    requires usable { CanTake state.old.clock state.old.contexts.items (Request.Scroll ask) }
+    ensures started { IfOk result (λ started.
+        Starts state.old.cluster state.old.history command ask.id.node started state.new.history) }
+    ensures tied { OnOk result (IsTied state.new) }
+    ensures keeps { Keeps state.old state.new }
+    ensures err { OnErr result (state.new.history ≡ state.old.history) }
+    ensures full { result ≡ Err Stop.HistoryFull
+        → IsCutShort (IsPartly (λ h new. (started : Bool) × Starts state.old.cluster h command ask.id.node started new) state.old.history) state.new.history }
+    ensures spent { result ≡ Err Stop.NumbersSpent
+        → NodeLacksNumber state.old.cluster state.old.history ask.id.node }
+    ensures room { OnOk result (length state.new.history ≤ MAX_EVENTS) }
+{
+    start_with(state, command, ask.id.node, &Request::Scroll(ask))
 }

@@ -1,29 +1,31 @@
-ghost use Rattle.std.specs.Prelude.{◌≡◌, ◌≤◌, ◌+◌, [], ◌∷◌, ◌++◌, length, Ok, Err, Some, None, OnOk, OnErr, IfOk, IfErr, IfSome, ℕ};
+ghost use Rattle.std.specs.Prelude.{◌≡◌, ◌≤◌, ◌<◌, ◌^◌, ◌+◌, option_and_then, [], ◌∷◌, ◌++◌, length, Ok, Err, Some, None, OnOk, OnErr, IfOk, IfErr, IfSome, ℕ};
 ghost use Rattle.task_events.specs.Lawful.{Lawful};
 ghost use Rattle.task_events.specs.Cancels.{last_command};
 ghost use Rattle.task_events.specs.Laws.{IsDrained};
 ghost use Rattle.task_events.specs.Messages.{in_flight};
-ghost use Rattle.task_events.specs.TaskRows.{clock};
+ghost use Rattle.task_events.specs.Clock.{clock};
 ghost use Rattle.task_events.specs.Tasks.{is_live};
 ghost use Rattle.tasks_api.specs.Lists.{list_text};
-ghost use Rattle.command_roots.specs.Roots.{rows_of};
+ghost use Rattle.task_events.specs.Contexts.{can_clear, context_at};
+ghost use Rattle.command_roots.specs.Roots.{context_named, page_answer, rows_of, scripted};
 ghost use Rattle.world_moves.specs.Cancels.{AllAnswered};
 ghost use Rattle.world_moves.specs.Listings.{ListSteps, AnswersListing};
 ghost use Rattle.world_moves.specs.Moves.{Delivers, IsPartly, StopsDelivery, StopsMove};
 ghost use Rattle.world_moves.specs.Plain.{AnswersPlainly};
 ghost use Rattle.world_steps.specs.Runs.{Steps, AnswersStep, Settles, PartlySettles, StopsSettling};
-ghost use Rattle.world_steps.specs.Scripts.{CanRun, Commands, PartlyCommands, Drains, PartlyDrains, IsTurn, closing, StopsCommand, StopsDrain};
+ghost use Rattle.world_steps.specs.Scripts.{CanRun, error_in, Commands, PartlyCommands, Drains, PartlyDrains, IsTurn, closing, StopsCommand, StopsDrain};
 ghost use Rattle.task_ids.specs.Limits.{IsNode, IsSlotCount};
 ghost use Rattle.task_table.specs.Table.{new_table};
-ghost use Rattle.world_steps.specs.World.{tables_from, cores_from, no_bans};
+ghost use Rattle.world_steps.specs.World.{tables_from, cores_from, no_bans, no_contexts};
 
 use crate::acting::Stepped;
-use crate::{commands, moving};
+use crate::{commands, moving, scrolls};
 use ban_table::BanTable;
 use cancel_core::CancelCore;
 use corpus_shards::Shards;
 use node_parts::listing::Listing;
-use script_lang::Script;
+use script_lang::{ContextTarget, Script};
+use scroll_table::{PageError, ScrollTable};
 use std::alloc::{AllocError, Global};
 use std::collections::{BTreeMap, BTreeSet};
 use std::marker::Model;
@@ -126,6 +128,17 @@ fn new_cores(alloc: Global, nodes: u32) -> Result<Vec<CancelCore>, AllocError>
     Ok(cores)
 }
 
+/// The table of contexts of each node, in which none stands yet.
+fn new_contexts(alloc: Global, nodes: u32) -> Result<Vec<ScrollTable>, AllocError>
+    ensures { IfOk result (λ contexts. contexts.items ≡ no_contexts nodes) }
+{
+    let mut contexts = Vec::with_capacity(alloc, nodes as usize)?;
+    for place in 0..nodes {
+        contexts.push(ScrollTable::new(alloc))?;
+    }
+    Ok(contexts)
+}
+
 /// The ban table of each node, in which no ban stands yet.
 fn new_bans(alloc: Global, nodes: u32) -> Result<Vec<BanTable>, AllocError>
     ensures { IfOk result (λ bans. bans.items ≡ no_bans nodes) }
@@ -160,10 +173,17 @@ impl<'a> World<'a> {
             drop(bans);
             return Err(AllocError);
         };
+        let Ok(contexts) = new_contexts(alloc, cluster.nodes) else {
+            drop(tables);
+            drop(bans);
+            drop(cores);
+            return Err(AllocError);
+        };
         let Ok(shards) = Shards::new(alloc, corpus, cluster.shards) else {
             drop(tables);
             drop(bans);
             drop(cores);
+            drop(contexts);
             return Err(AllocError);
         };
         let state = State {
@@ -178,6 +198,7 @@ impl<'a> World<'a> {
             tables,
             flight: Flight::new(alloc),
             roots: BTreeMap::new(alloc),
+            contexts,
             bans,
             cores,
             left: BTreeMap::new(alloc),
@@ -236,6 +257,40 @@ impl<'a> World<'a> {
             Ok(line) => Ok(line),
             Err(_) => Err(Stop::Memory),
         }
+    }
+
+    /// The moment, in milliseconds. The world has not come to an early end.
+    pub fn now(&self) -> u64
+        requires { self.now.stopped ≡ None }
+        ensures now { result ≡ clock self.now.past }
+        ensures low { result < 2 ^ 43 }
+    {
+        self.state.clock
+    }
+
+    /// The context that a command is about, by its id. The world has not come to an early end.
+    pub fn context(&self, target: &ContextTarget) -> Option<TaskId>
+        requires { self.now.stopped ≡ None }
+        ensures { result ≡ context_named target.now self.now.past }
+    {
+        scrolls::named(&self.state, target)
+    }
+
+    /// Why a command has no page of the context that it is about, if it has none: the context is missing or busy. The world has not
+    /// come to an early end.
+    pub fn no_page(&self, target: &ContextTarget) -> Option<PageError>
+        requires { self.now.stopped ≡ None }
+        ensures { result ≡ error_in (page_answer self.now.script target.now self.now.past) }
+    {
+        scrolls::no_page(&self.state, target)
+    }
+
+    /// Whether a command frees the context that it is about. The world has not come to an early end.
+    pub fn can_clear(&self, target: &ContextTarget) -> bool
+        requires { self.now.stopped ≡ None }
+        ensures { result ≡ can_clear None (option_and_then (λ id. context_at (scripted self.now.script) id self.now.past) (context_named target.now self.now.past)) }
+    {
+        scrolls::can_clear(&self.state, target)
     }
 
     /// Gives the history away. What is live or in flight is given up.

@@ -19,7 +19,7 @@ returns-in-Wait c =
     record {
       stepped = (c.requires.live, does s.cluster s.corpus.now s.script.now s.history _ _ _ c.requires.tied.ties c.args.task c.requires.live c.requires.passed c.requires.unmarked (Wait c.in-Wait.field-0) next, refl);
       tied = c.requires.tied;
-      keeps = record { cluster = refl; corpus = refl; shards = refl; script = refl; clock = refl };
+      keeps = record { cluster = refl; corpus = refl; shards = refl; script = refl };
       room = tt;
       err = tt;
       stop = tt;

@@ -11,6 +11,7 @@ use Rattle.corpus_shards.proofs.Cases.{on_err}
 use Rattle.world_steps.specs.Naming.{CanName}
 use Rattle.world_steps.proofs.NamesOne.{names_none, names_one, ties_after_missing}
 use Rattle.world_steps.proofs.NamingEnds.{nothing_named}
+use Rattle.world_moves.proofs.PagesAfter.{quiet_pages}
 use Rattle.world_steps.proofs.cancel_commands.cancel_one.Goals as goal
 
 pub cancel_tasks-requires-clause-can : goal.cancel_tasks-requires-clause-can
@@ -53,6 +54,7 @@ returns-clause-tied c =
       cancels = rw happened (noted s.cluster _ s.history _ _ s.bans.items s.cores.items s.listings c.requires.tied.cancels (NotFound c.args.number) refl refl);
       counts = rw happened (still_counts None (NotFound c.args.number) s.history _ refl c.requires.tied.counts);
       tells = rw happened (quiet s.script.now s.history s.tables.items s.flight s.clock (NotFound c.args.number) refl c.requires.tied.tells);
+      pages = rw happened (quiet_pages s.cluster s.script.now s.history s.contexts.items c.requires.tied.pages (NotFound c.args.number) refl);
       awaits = rw happened tt;
     }
 

@@ -1,6 +1,9 @@
-use Rattle.std.proofs.Common.{◌∙◌, ◌-◌, ap, sym, subst, inr, arith, ◌≡◌, ◌∷◌}
+use Rattle.std.proofs.Common.{◌∙◌, ◌-◌, ◌*◌, ◌≤◌, ap, sym, subst, inr, arith, ◌≡◌, ◌∷◌}
+use Rattle.task_events.specs.Cancels.{last_command}
+use Rattle.task_events.specs.Clock.{clock}
+use Rattle.script_lang.specs.KeepAlives.{day_ms}
 use Rattle.world_steps.specs.Scripts.{Does, PartlyDoes, PartlyCommands, CanDo, StopsDoing}
-use Rattle.world_steps.proofs.Commanded.{part_of_begin, partly_begun, at_number, can_do, carried, from_get_or, keeps_on}
+use Rattle.world_steps.proofs.Commanded.{part_of_begin, partly_begun, at_number, can_do, carried, day_more, from_get_or, keeps_on}
 use Rattle.task_events.specs.declared.event.Event.TheVariants.{Begin}
 use Rattle.world_moves.specs.Moves.{IsPartly}
 use Rattle.world_moves.proofs.Outcomes.{stops_as}
@@ -80,3 +83,10 @@ returns-in-Err-act_on c =
           (carried (λ cluster corpus script h. StopsDoing cluster corpus script c.args.k c.in-Some.command.now h c.act_on.new.state.history c.in-Err-act_on.stop) _ _ _ _ _ _ _ _
           c.in-Ok.ensures.keeps.cluster c.in-Ok.ensures.keeps.corpus c.in-Ok.ensures.keeps.script c.in-Ok.ensures.happened c.in-Err-act_on.ensures.stop);
     }
+
+pub act_on-requires-clause-low : goal.act_on-requires-clause-low
+act_on-requires-clause-low c =
+    let s = c.args.state.now in
+    let tells = c.requires.tied.tells in
+    let low : clock s.history ≤ last_command s.history * day_ms = omega (arith, tells.clock_is, tells.clock_low) in
+    rw c.in-Ok.ensures.happened (day_more (last_command s.history) c.args.k (clock s.history) c.requires.next low)

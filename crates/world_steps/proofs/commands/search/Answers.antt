@@ -1,4 +1,7 @@
 use Rattle.std.proofs.Common.{◌∙◌, ap, sym, rules, ◌≡◌, Bool, true, Err}
+use Rattle.std.specs.Prelude.{if◌then◌else◌}
+use Rattle.query_parse.specs.Bodies.{body_at}
+use Rattle.command_roots.specs.Roots.{body_or_none}
 use Rattle.corpus_shards.specs.Stored.{has_index}
 use Rattle.world_steps.specs.Scripts.{can_start, StartsWhere}
 use Rattle.world_steps.proofs.Commanded.{unknown_index, comes, partly_comes, can_come}
@@ -14,7 +17,7 @@ pub returns-then-not-has-clause-done : goal.returns-then-not-has-clause-done
 returns-then-not-has-clause-done c =
     let s = c.args.state.now in
     let same = ap (λ x. has_index x.corpus.lines c.args.index.now) c.requires.shards.shards_are in
-    unknown_index s.cluster s.corpus.now c.args.index.now c.args.body.now c.args.number c.args.node s.history (sym same ∙ sym (ap (has_index s.shards.corpus.lines) c.as_str.ensures) ∙ sym c.if-not-has.ensures)
+    unknown_index s.cluster s.corpus.now c.args.index.now c.args.scroll c.args.body.now c.args.number c.args.node s.history (sym same ∙ sym (ap (has_index s.shards.corpus.lines) c.as_str.ensures) ∙ sym c.if-not-has.ensures)
 
 pub refresh-requires-clause-before : goal.refresh-requires-clause-before
 refresh-requires-clause-before c =
@@ -30,28 +33,28 @@ pub returns-in-Ok-refresh-clause-done : goal.returns-in-Ok-refresh-clause-done
 returns-in-Ok-refresh-clause-done c =
     let s = c.args.state.now in
     let same = ap (λ x. has_index x.corpus.lines c.args.index.now) c.requires.shards.shards_are in
-    comes s.cluster s.corpus.now c.args.index.now c.args.body.now c.args.number c.args.node c.in-Some.body s.history c.start.new.state.history
-    (sym c.in-Ok.ensures ∙ c.in-Some.is) (sym same ∙ sym (ap (has_index s.shards.corpus.lines) c.as_str.ensures) ∙ sym c.if-not-has.ensures) c.in_ok-start.field-0 c.in_ok-start.ensures.started
+    comes s.cluster s.corpus.now c.args.index.now c.args.scroll c.args.body.now c.args.number c.args.node c.in-Some.body s.history c.start.new.state.history
+    (ap (λ b. body_or_none (body_at b (if b then 1 else 0) c.args.body.now)) (sym c.is_some.ensures) ∙ sym c.in-Ok.ensures ∙ c.in-Some.is) (sym same ∙ sym (ap (has_index s.shards.corpus.lines) c.as_str.ensures) ∙ sym c.if-not-has.ensures) c.in_ok-start.field-0 c.in_ok-start.ensures.started
 
 pub returns-in-Err-clause-part : goal.returns-in-Err-clause-part
 returns-in-Err-clause-part c =
     let s = c.args.state.now in
     let same = ap (λ x. has_index x.corpus.lines c.args.index.now) c.requires.shards.shards_are in
-    wholly (StartsWhere s.cluster (can_start s.corpus.now c.args.index.now c.args.body.now) c.args.number c.args.node) s.history c.start.new.state.history
-    (comes s.cluster s.corpus.now c.args.index.now c.args.body.now c.args.number c.args.node c.in-Some.body s.history c.start.new.state.history
-    (sym c.in-Ok.ensures ∙ c.in-Some.is) (sym same ∙ sym (ap (has_index s.shards.corpus.lines) c.as_str.ensures) ∙ sym c.if-not-has.ensures) c.in_ok-start.field-0 c.in_ok-start.ensures.started)
+    wholly (StartsWhere s.cluster (can_start s.corpus.now c.args.index.now c.args.scroll c.args.body.now) c.args.number c.args.node) s.history c.start.new.state.history
+    (comes s.cluster s.corpus.now c.args.index.now c.args.scroll c.args.body.now c.args.number c.args.node c.in-Some.body s.history c.start.new.state.history
+    (ap (λ b. body_or_none (body_at b (if b then 1 else 0) c.args.body.now)) (sym c.is_some.ensures) ∙ sym c.in-Ok.ensures ∙ c.in-Some.is) (sym same ∙ sym (ap (has_index s.shards.corpus.lines) c.as_str.ensures) ∙ sym c.if-not-has.ensures) c.in_ok-start.field-0 c.in_ok-start.ensures.started)
     (started_there s.cluster s.history c.args.number c.args.node c.in_ok-start.field-0 c.start.new.state.history c.in_ok-start.ensures.started)
 
 pub returns-in_err-start-clause-stop : goal.returns-in_err-start-clause-stop
 returns-in_err-start-clause-stop c =
     let s = c.args.state.now in
     let same = ap (λ x. has_index x.corpus.lines c.args.index.now) c.requires.shards.shards_are in
-    let good = sym c.in-Ok.ensures ∙ c.in-Some.is in
+    let good = ap (λ b. body_or_none (body_at b (if b then 1 else 0) c.args.body.now)) (sym c.is_some.ensures) ∙ sym c.in-Ok.ensures ∙ c.in-Some.is in
     let known = sym same ∙ sym (ap (has_index s.shards.corpus.lines) c.as_str.ensures) ∙ sym c.if-not-has.ensures in
-    stops c.from_residual.result (IsPartly (StartsWhere s.cluster (can_start s.corpus.now c.args.index.now c.args.body.now) c.args.number c.args.node) s.history)
-    ((can_start s.corpus.now c.args.index.now c.args.body.now ≡ true) × NodeLacksNumber s.cluster s.history c.args.node × (c.start.new.state.history ≡ s.history)) c.start.new.state.history
+    stops c.from_residual.result (IsPartly (StartsWhere s.cluster (can_start s.corpus.now c.args.index.now c.args.scroll c.args.body.now) c.args.number c.args.node) s.history)
+    ((can_start s.corpus.now c.args.index.now c.args.scroll c.args.body.now ≡ true) × NodeLacksNumber s.cluster s.history c.args.node × (c.start.new.state.history ≡ s.history)) c.start.new.state.history
     (λ failed. (let is_err : c.start.result ≡ Err HistoryFull = search rules in
-    cut_as (IsPartly (λ h new. (started : Bool) × Starts s.cluster h c.args.number c.args.node started new) s.history) (IsPartly (StartsWhere s.cluster (can_start s.corpus.now c.args.index.now c.args.body.now) c.args.number c.args.node) s.history) c.start.new.state.history
-    (λ past. partly_comes s.cluster s.corpus.now c.args.index.now c.args.body.now c.args.number c.args.node c.in-Some.body s.history past good known) (c.start.ensures.full is_err)))
+    cut_as (IsPartly (λ h new. (started : Bool) × Starts s.cluster h c.args.number c.args.node started new) s.history) (IsPartly (StartsWhere s.cluster (can_start s.corpus.now c.args.index.now c.args.scroll c.args.body.now) c.args.number c.args.node) s.history) c.start.new.state.history
+    (λ past. partly_comes s.cluster s.corpus.now c.args.index.now c.args.scroll c.args.body.now c.args.number c.args.node c.in-Some.body s.history past good known) (c.start.ensures.full is_err)))
     (λ failed. (let is_err : c.start.result ≡ Err NumbersSpent = search rules in
-    (can_come s.cluster s.corpus.now c.args.index.now c.args.body.now c.args.number c.args.node c.in-Some.body good known, c.start.ensures.spent is_err, c.in_err-start.ensures.err)))
+    (can_come s.cluster s.corpus.now c.args.index.now c.args.scroll c.args.body.now c.args.number c.args.node c.in-Some.body good known, c.start.ensures.spent is_err, c.in_err-start.ensures.err)))

@@ -16,6 +16,7 @@ use Rattle.world_moves.proofs.TasksNamed.{left_few}
 use Rattle.corpus_shards.proofs.Cases.{on_err}
 use Rattle.world_steps.proofs.NamedAfter.{cancel_lawful, ties_after_cancel, counts_after_cancel}
 use Rattle.world_steps.proofs.JoinsAfter.{waiter, join_counts, through_at_once, join_high, join_core, join_entry, join_open, join_noted, join_awaits}
+use Rattle.world_moves.proofs.PagesAfter.{quiet_pages}
 use Rattle.world_steps.proofs.naming.join.Goals as goal
 
 pub index_mut-requires : goal.index_mut-requires
@@ -93,5 +94,6 @@ returns-clause-tied c =
       cancels = rw (happened, core) (join_noted s.cluster s.history c.args.number c.args.task c.args.wait c.requires.naming c.requires.tied.ties.lawful c.requires.tied.awaits c.requires.live c.requires.fresh c.requires.marked e.0 e.2 _ _ _ s.cores.items _ c.requires.tied.cancels c.index_mut.result.now here);
       counts = rw happened (counts_after_cancel s.cluster s.history c.args.number c.args.task c.args.wait c.requires.naming c.requires.tied.ties.lawful c.requires.tied.awaits c.requires.live c.requires.fresh left _ c.requires.tied.counts (λ k. counted k ∙ ap (λ b. cond (c.args.number == k) (cond b (left k) (left k + 1)) (left k)) through));
       tells = rw happened (quiet s.script.now s.history s.tables.items s.flight s.clock (Cancel c.args.number c.args.task c.args.wait) refl c.requires.tied.tells);
+      pages = rw happened (quiet_pages s.cluster s.script.now s.history s.contexts.items c.requires.tied.pages (Cancel c.args.number c.args.task c.args.wait) refl);
       awaits = rw happened (join_awaits s.cluster s.history c.args.number c.args.task c.args.wait c.requires.naming c.requires.tied.ties.lawful c.requires.tied.awaits c.requires.live c.requires.fresh c.requires.marked);
     }

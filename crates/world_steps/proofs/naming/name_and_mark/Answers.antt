@@ -17,6 +17,7 @@ use Rattle.world_moves.proofs.Parts.{later_part}
 use Rattle.world_moves.proofs.TasksNamed.{left_few}
 use Rattle.corpus_shards.proofs.Cases.{on_err}
 use Rattle.world_steps.proofs.NamedAfter.{cancel_lawful, ties_after_cancel, cancels_after_cancel, counts_after_cancel, holds, mark_lawful, waits_alone, waits_as_told}
+use Rattle.world_moves.proofs.PagesAfter.{quiet_pages}
 use Rattle.world_steps.proofs.naming.name_and_mark.Goals as goal
 
 -- nothing is there
@@ -84,6 +85,11 @@ pub mark-requires-clause-tells : goal.mark-requires-clause-tells
 mark-requires-clause-tells c =
     let s = c.args.state.now in
     rw c.in_ok-append.ensures.ok (quiet s.script.now s.history s.tables.items s.flight s.clock (Cancel c.args.number c.args.task c.args.wait) refl c.requires.tied.tells)
+
+pub mark-requires-clause-pages : goal.mark-requires-clause-pages
+mark-requires-clause-pages c =
+    let s = c.args.state.now in
+    rw c.in_ok-append.ensures.ok (quiet_pages s.cluster s.script.now s.history s.contexts.items c.requires.tied.pages (Cancel c.args.number c.args.task c.args.wait) refl)
 
 pub mark-requires-clause-lawful : goal.mark-requires-clause-lawful
 mark-requires-clause-lawful c =

@@ -1,7 +1,7 @@
 use Rattle.std.proofs.Common.{◌≡◌, ◌∙◌, ℕ, Bool, true, false, List, [], ◌∷◌, cond, refl, ap, subst}
 use Rattle.serde_json.specs.Written.{compact_text}
 use Rattle.task_ids.specs.declared.task_info.TaskInfo.{TaskInfo}
-use Rattle.task_events.specs.TaskRows.{clock}
+use Rattle.task_events.specs.Clock.{clock}
 use Rattle.tasks_api.specs.declared.filter.Filter.{Filter}
 use Rattle.tasks_api.specs.declared.list.GroupBy.{GroupBy}
 use Rattle.tasks_api.specs.Filters.{filter_matches}

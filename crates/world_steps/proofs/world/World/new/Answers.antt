@@ -8,7 +8,7 @@ use Rattle.std.specs.Prelude.{unwrap_or}
 use Rattle.world_moves.specs.Left.{left_in}
 use Rattle.world_moves.specs.Listings.{listing_cmp}
 use Rattle.world_moves.specs.Ties.{task_at}
-use Rattle.world_steps.proofs.Empty.{nothing_yet, nothing_cancelled, nothing_counted, nothing_told}
+use Rattle.world_steps.proofs.Empty.{nothing_yet, nothing_cancelled, nothing_counted, nothing_opened, nothing_told}
 use Rattle.world_steps.proofs.world.World.new.Goals as goal
 
 pub invariant_of-result : goal.invariant_of-result
@@ -19,6 +19,7 @@ invariant_of-result c = record {
         (λ k. ap (lookup (is_at (nat_cmp k))) c.new-5.ensures.empty) c.in-Ok.ensures c.in-Ok-new_cores.ensures (λ l. ap (list_any (is_at (listing_cmp l))) c.new-7.ensures.empty));
     counts = rw c.new-2.ensures (nothing_counted (left_in c.new-6.result) (λ k. ap (λ m. unwrap_or (lookup (is_at (nat_cmp k)) m) 0) c.new-6.ensures.empty));
     tells = rw (c.new-2.ensures, c.new-4.ensures) (nothing_told c.args.cluster c.args.script.now c.in_ok-tables.tables.items c.in_ok-tables.ensures);
+    pages = rw c.new-2.ensures (nothing_opened c.args.cluster c.args.script.now c.in-Ok-new_contexts.contexts.items c.in-Ok-new_contexts.ensures);
     awaits = rw c.new-2.ensures tt;
   };
   shards = record { shards_are = c.in-Ok-new.ensures.ok; few = c.in-Ok-new.ensures.few };

@@ -1,0 +1,204 @@
+-- The search that opens a context passes over no rows and shows some: with a keep-alive `from` is 0, and `size` is not.
+use Rattle.std.proofs.Common.{cond, ◌≡◌, ℕ, Bool, true, false, List, [], ◌∷◌, Option, Some, None, refl, sym, ap, subst, ◌∙◌}
+use Rattle.std.specs.Prelude.{◌||◌, ◌+◌, ◌==◌, nat_le, not, is_some, option_map, option_and_then, Result, Ok, Err, codes}
+use Rattle.std.specs.Option.{option_or}
+use Rattle.std.proofs.lemmas.Bool.{eqb-true}
+use Rattle.serde_json.specs.Data.{Data, null, boolean, number, string, array, object, Members}
+use Rattle.serde_json.specs.Find.{get_member}
+use Rattle.query_match.specs.declared.body.SearchBody.{SearchBody}
+use Rattle.query_match.specs.declared.sort.SortBy.{SortBy}
+use Rattle.query_parse.specs.declared.fault.BodyError.{BodyError}
+use Rattle.query_parse.specs.declared.fault.BodyError.TheVariants.{WindowTooLarge}
+use Rattle.query_parse.specs.Answers.{◌>>=◌}
+use Rattle.query_parse.specs.Bodies.{size_passing, count_or, from_of, size_of, sort_of, query_of, window_at, hits_at, body_of, known_body_at, body_unless, unknown_field, body_at}
+use Rattle.task_ids.specs.declared.task_id.TaskId.{TaskId}
+use Rattle.task_events.specs.declared.context.Context.{Context}
+use Rattle.task_events.specs.declared.event.Event.{Event}
+use Rattle.task_events.specs.declared.event.Event.TheVariants.{Root, Ask, Put, End}
+use Rattle.task_events.specs.declared.reply.Reply.{Reply}
+use Rattle.task_events.specs.declared.reply.Reply.TheVariants.{Search as Found, Top, Hits, AllFailed, Cancelled, Rejected}
+use Rattle.task_events.specs.declared.request.Request.{Request}
+use Rattle.task_events.specs.declared.request.Request.TheVariants as asks
+use Rattle.task_events.specs.declared.request.SearchAsk.{SearchAsk}
+use Rattle.task_events.specs.Clock.{clock}
+use Rattle.task_events.specs.Contexts.{opens_context, opened, after_end}
+use Rattle.task_events.specs.Requests.{Scripted, request_of}
+use Rattle.task_events.specs.Same.{same_task}
+use Rattle.script_lang.specs.declared.command.Command.{Command}
+use Rattle.script_lang.specs.declared.command.Command.TheVariants.{Search, Scroll, ClearScroll, Cancel, ListTasks, Tick, Deliver, Step, ListStep, Settle, History}
+use Rattle.script_lang.specs.declared.command.Script.{Script}
+use Rattle.command_roots.specs.Roots.{scripted, command_at, root_request, request_in, context_named, search_ask, body_or_none, least_size}
+use Rattle.search_phase.proofs.Sorting.{by_test}
+use Rattle.world_steps.specs.PagesFollow.{first_context}
+use Rattle.world_steps.proofs.UsedAlone.{OneAtATime, asked_part}
+
+-- ---- a body
+
+bound : {A B E : Type 0} (r : Result A E) (f : A → Result B E) (b : B) → (r >>= f) ≡ Ok b → (a : A) × (r ≡ Ok a) × (f a ≡ Ok b)
+bound (Ok a) f b e = (a, refl, e)
+bound (Err x) f b e = absurd (cc)
+
+passes : (name : List ℕ) (o : Option ℕ) (n : ℕ) → size_passing name (λ n. not true || n == 0) o ≡ Ok n → n ≡ 0
+passes name None n e = absurd (cc)
+passes name (Some m) n e =
+    by_test (m == 0)
+    (λ yes. let f : Ok m ≡ Ok n = rw yes at e in let same : m ≡ n = cc in sym same ∙ eqb-true m 0 yes)
+    (λ no. absurd (let f : Err _ ≡ Ok n = rw no at e in cc))
+
+from_none : (d : Option Data) (n : ℕ) → from_of true d ≡ Ok n → n ≡ 0
+unfolding from_of
+from_none d n e = passes (codes "from") (count_or 0 d) n e
+
+at_least : (least : ℕ) (name : List ℕ) (o : Option ℕ) (n : ℕ) → size_passing name (λ n. nat_le least n) o ≡ Ok n → nat_le least n ≡ true
+at_least least name None n e = absurd (cc)
+at_least least name (Some m) n e =
+    by_test (nat_le least m)
+    (λ yes. let f : Ok m ≡ Ok n = rw yes at e in let same : m ≡ n = cc in ap (nat_le least) (sym same) ∙ yes)
+    (λ no. absurd (let f : Err _ ≡ Ok n = rw no at e in cc))
+
+size_low : (least : ℕ) (d : Option Data) (n : ℕ) → size_of least d ≡ Ok n → nat_le least n ≡ true
+unfolding size_of
+size_low least d n e = at_least least (codes "size") (count_or 10 d) n e
+
+-- from the first row on, and so many at least
+abbrev AtLeast : ℕ → ℕ × ℕ → Type 0
+AtLeast least w = (w.0 ≡ 0) × (nat_le least w.1 ≡ true)
+
+window_shown : (least : ℕ) (ms : Members) (w : ℕ × ℕ) → window_at true least ms ≡ Ok w → AtLeast least w
+unfolding window_at
+window_shown least ms w e =
+    let first = bound (from_of true (get_member (codes "from") ms)) _ w e in
+    let second = bound (size_of least (get_member (codes "size") ms)) _ w first.2 in
+    of_test (nat_le (first.0 + second.0) 10000) first.0 second.0 (from_none (get_member (codes "from") ms) first.0 first.1) (size_low least (get_member (codes "size") ms) second.0 second.1) second.2
+  where
+    of_test : (b : Bool) (from size : ℕ) → from ≡ 0 → nat_le least size ≡ true → cond b (Ok (from, size)) (Err (WindowTooLarge (from + size))) ≡ Ok w → AtLeast least w
+    of_test true from size none low f = let same : (from, size) ≡ w = cc in subst (AtLeast least) same (none, low)
+    of_test false from size none low f = absurd (cc)
+
+hits_shown : (least : ℕ) (ms : Members) (hits : List SortBy × (ℕ × ℕ)) → hits_at true least ms ≡ Ok hits → AtLeast least hits.1
+unfolding hits_at
+hits_shown least ms hits e =
+    let first = bound (sort_of (get_member (codes "sort") ms)) _ hits e in
+    let second = bound (window_at true least ms) _ hits first.2 in
+    let same : (first.0, second.0) ≡ hits = cc in
+    subst (λ (x : List SortBy × (ℕ × ℕ)). AtLeast least x.1) same (window_shown least ms second.0 second.1)
+
+known_shown : (least : ℕ) (ms : Members) (body : SearchBody) → known_body_at true least ms ≡ Ok body → AtLeast least (body.from, body.size)
+unfolding known_body_at
+known_shown least ms body e =
+    let first = bound (query_of (get_member (codes "query") ms)) _ body e in
+    let second = bound (hits_at true least ms) _ body first.2 in
+    let same : body_of first.0 second.0 ≡ body = cc in
+    subst (λ (b : SearchBody). AtLeast least (b.from, b.size)) same (hits_shown least ms second.0 second.1)
+
+body_shown : (least : ℕ) (d : Data) (body : SearchBody) → body_at true least d ≡ Ok body → AtLeast least (body.from, body.size)
+body_shown least (object ms) body e = of_field (unknown_field ms) e
+  where
+    of_field : (o : Option (List ℕ)) → body_unless o (known_body_at true least ms) ≡ Ok body → AtLeast least (body.from, body.size)
+    of_field None f = known_shown least ms body f
+    of_field (Some field) f = absurd (cc)
+body_shown least null body e = absurd (cc)
+body_shown least (boolean b) body e = absurd (cc)
+body_shown least (number n) body e = absurd (cc)
+body_shown least (string s) body e = absurd (cc)
+body_shown least (array ds) body e = absurd (cc)
+
+-- ---- a command
+
+-- it passes over no rows and shows one at least
+pub record ShowsFromFirst (ask : SearchAsk) : Type 0 where
+  pub from : ask.body.from ≡ 0
+  pub size : nat_le 1 ask.body.size ≡ true
+
+search_shown : (index : List ℕ) (scroll : Option ℕ) (r : Result SearchBody BodyError) (ask : SearchAsk) → ((body : SearchBody) → r ≡ Ok body → is_some scroll ≡ true → AtLeast 1 (body.from, body.size))
+    → option_map asks.Search (option_map (search_ask index scroll) (body_or_none r)) ≡ Some (asks.Search ask) → opens_context ask ≡ true → ShowsFromFirst ask
+search_shown index scroll (Err fault) ask shown e opens = absurd (cc)
+search_shown index scroll (Ok body) ask shown e opens =
+    let same : search_ask index scroll body ≡ ask = cc in
+    let kept : is_some scroll || false ≡ true = ap opens_context same ∙ opens in
+    let so = shown body refl (or_none (is_some scroll) kept) in
+    subst ShowsFromFirst same (record { from = so.0; size = so.1 })
+  where
+    or_none : (b : Bool) → (b || false) ≡ true → b ≡ true
+    or_none true e = refl
+    or_none false e = e
+
+scroll_asks_none : (o : Option TaskId) (keep : Option ℕ) (ask : SearchAsk) → option_map (λ id. asks.Scroll (record { id = id; keep = keep; owner = None })) o ≡ Some (asks.Search ask) → ⊥
+scroll_asks_none None keep ask e = cc
+scroll_asks_none (Some id) keep ask e = cc
+
+command_shown : (command : Command) (h : List Event) (ask : SearchAsk) → request_in command h ≡ Some (asks.Search ask) → opens_context ask ≡ true → ShowsFromFirst ask
+command_shown (Search index node scroll body opaque_id) h ask e opens = search_shown index scroll (body_at (is_some scroll) (least_size scroll) body) ask of_body e opens
+  where
+    of_body : (b : SearchBody) → body_at (is_some scroll) (least_size scroll) body ≡ Ok b → is_some scroll ≡ true → AtLeast 1 (b.from, b.size)
+    of_body b read kept =
+        body_shown 1 body b (ap (λ k. body_at k (cond k 1 0) body) (sym kept) ∙ read)
+command_shown (Scroll context keep opaque_id) h ask e opens = absurd (scroll_asks_none (context_named context h) keep ask e)
+command_shown (ClearScroll context) h ask e opens = absurd (cc)
+command_shown (Cancel target reason wait) h ask e opens = absurd (cc)
+command_shown (ListTasks wanted group detailed) h ask e opens = absurd (cc)
+command_shown (Tick ms) h ask e opens = absurd (cc)
+command_shown (Deliver nth) h ask e opens = absurd (cc)
+command_shown (Step task) h ask e opens = absurd (cc)
+command_shown (ListStep node parent) h ask e opens = absurd (cc)
+command_shown Settle h ask e opens = absurd (cc)
+command_shown History h ask e opens = absurd (cc)
+
+root_shown : (script : Script) (k : ℕ) (h : List Event) (ask : SearchAsk) → root_request script k h ≡ Some (asks.Search ask) → opens_context ask ≡ true → ShowsFromFirst ask
+root_shown script k h ask e opens = of_command (command_at script k) e
+  where
+    of_command : (o : Option Command) → option_and_then (λ command. request_in command h) o ≡ Some (asks.Search ask) → ShowsFromFirst ask
+    of_command None f = absurd (cc)
+    of_command (Some command) f = command_shown command h ask f opens
+
+-- ---- every past
+
+module _ (script : Script) where
+  abbrev said : Scripted
+  said = scripted script
+
+  task_shown : (t : TaskId) (h : List Event) → OneAtATime said h → (ask : SearchAsk) → request_of said t h ≡ Some (asks.Search ask) → opens_context ask ≡ true → ShowsFromFirst ask
+  task_shown t [] alone ask e opens = absurd (cc)
+  task_shown t (Root k u ∷ h) alone ask e opens =
+      by_test (same_task t u)
+      (λ own. root_shown script k h ask (rw own at e) opens)
+      (λ other. task_shown t h alone.1 ask (rw other at e) opens)
+  task_shown t (Put u p k ∷ h) alone ask e opens =
+      by_test (same_task t u)
+      (λ own. absurd (let f : false ≡ true = asked_part said p k h alone (asks.Search ask) (rw own at e) in cc))
+      (λ other. task_shown t h alone ask (rw other at e) opens)
+  task_shown t (Ask p k n r ∷ h) alone ask e opens = task_shown t h alone.1 ask e opens
+  task_shown t (_ ∷ h) alone ask e opens = task_shown t h alone ask e opens
+
+  -- the end that opens a context is that of a search which opens one
+  opened_by : (now : ℕ) (t : TaskId) (q : Option Request) (reply : Reply) (id : TaskId) (c : Context) → after_end now t q reply id None ≡ Some c → (q ≡ Some (asks.Search c.ask)) × (opens_context c.ask ≡ true)
+  opened_by now t None reply id c e = absurd (cc)
+  opened_by now t (Some (asks.Query ask)) reply id c e = absurd (cc)
+  opened_by now t (Some (asks.Fetch ask)) reply id c e = absurd (cc)
+  opened_by now t (Some (asks.Scroll ask)) reply id c e = by_test (same_task ask.id id) (λ own. absurd (let f : None ≡ Some c = rw own at e in cc)) (λ other. absurd (let f : None ≡ Some c = rw other at e in cc))
+  opened_by now t (Some (asks.Search ask)) (Top top) id c e = absurd (cc)
+  opened_by now t (Some (asks.Search ask)) (Hits hits) id c e = absurd (cc)
+  opened_by now t (Some (asks.Search ask)) (AllFailed failed) id c e = absurd (cc)
+  opened_by now t (Some (asks.Search ask)) (Cancelled task cancel counts) id c e = absurd (cc)
+  opened_by now t (Some (asks.Search ask)) (Rejected node) id c e = absurd (cc)
+  opened_by now t (Some (asks.Search ask)) (Found found) id c e =
+      by_test (same_task t id)
+      (λ own. by_test (opens_context ask)
+      (λ opens.
+      let f : Some (opened id ask found now) ≡ Some c = rw (own, opens) at e in
+      let same : opened id ask found now ≡ c = cc in
+      let asked : ask ≡ c.ask = ap (λ (x : Context). x.ask) same in
+      (ap (λ a. Some (asks.Search a)) asked, ap opens_context (sym asked) ∙ opens))
+      (λ none. absurd (let f : None ≡ Some c = rw (own, none) at e in cc)))
+      (λ other. absurd (let f : None ≡ Some c = rw other at e in cc))
+
+  pub context_shown : (id : TaskId) (h : List Event) → OneAtATime said h → (c : Context) → first_context said id h ≡ Some c → ShowsFromFirst c.ask
+  context_shown id [] alone c e = absurd (cc)
+  context_shown id (Root k u ∷ h) alone c e = context_shown id h alone.1 c e
+  context_shown id (Ask p k n r ∷ h) alone c e = context_shown id h alone.1 c e
+  context_shown id (End t reply ∷ h) alone c e = of_end (after_end (clock h) t (request_of said t h) reply id None) refl e (context_shown id h alone c)
+    where
+      of_end : (o : Option Context) → after_end (clock h) t (request_of said t h) reply id None ≡ o → option_or o (first_context said id h) ≡ Some c → (first_context said id h ≡ Some c → ShowsFromFirst c.ask) → ShowsFromFirst c.ask
+      of_end None is f earlier = earlier f
+      of_end (Some d) is f earlier = let o = opened_by (clock h) t (request_of said t h) reply id c (is ∙ f) in task_shown t h alone c.ask o.0 o.1
+  context_shown id (_ ∷ h) alone c e = context_shown id h alone c e

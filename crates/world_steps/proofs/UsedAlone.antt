@@ -1,0 +1,217 @@
+-- A task that shows a page uses its context from its start to its end, and the context stays as it was at the start.
+use Rattle.std.proofs.Common.{◌≡◌, ◌≢◌, ◌⊎◌, ℕ, ◌+◌, Bool, true, false, cond, List, [], ◌∷◌, Option, Some, None, refl, sym, ap, subst, ◌∙◌, inl, inr}
+use Rattle.std.specs.Prelude.{IsSomeAnd, ⊤, ◌&&◌, is_some}
+use Rattle.task_ids.specs.declared.cluster.Cluster.{Cluster}
+use Rattle.task_ids.specs.declared.task_id.TaskId.{TaskId}
+use Rattle.task_events.specs.declared.context.Context.{Context}
+use Rattle.task_events.specs.declared.event.Event.{Event}
+use Rattle.task_events.specs.declared.event.Event.TheVariants.{Begin, Root, Ask, Put, Refuse, End, Tick}
+use Rattle.task_events.specs.declared.reply.Reply.{Reply}
+use Rattle.task_events.specs.declared.reply.Reply.TheVariants.{Search, Top, Hits, AllFailed, Cancelled, Rejected}
+use Rattle.task_events.specs.declared.request.Request.{Request}
+use Rattle.task_events.specs.declared.request.Request.TheVariants as asks
+use Rattle.task_events.specs.declared.request.ScrollAsk.{ScrollAsk}
+use Rattle.task_events.specs.Asks.{request_of_ask}
+use Rattle.task_events.specs.Clock.{clock}
+use Rattle.task_events.specs.Contexts.{is_busy, is_owned_by, with_use, after_begin, after_root, after_end, unexpired, context_at, page_of}
+use Rattle.task_events.specs.Lawful.{Lawful}
+use Rattle.task_events.specs.Requests.{Scripted, request_of}
+use Rattle.task_events.specs.Same.{same_task, same_pair}
+use Rattle.task_events.specs.Tasks.{is_live, has_ended}
+use Rattle.task_laws.proofs.Asks.{ask_facts}
+use Rattle.task_laws.proofs.Same.{same_task_tells}
+use Rattle.search_phase.proofs.Sorting.{by_test}
+use Rattle.world_moves.proofs.ContextsPast.{stands_ended}
+
+-- ---- one page at a time
+
+-- where a page is asked for, its context stands and no task uses it
+abbrev pub FindsFree : (TaskId → Option Context) → Option Request → Type 0
+FindsFree look (Some (asks.Scroll ask)) = IsSomeAnd (look ask.id) (λ c. is_busy c ≡ false)
+FindsFree look _ = ⊤
+
+-- it asks for work on one shard
+abbrev pub is_part : Request → Bool
+is_part (asks.Query ask) = true
+is_part (asks.Fetch ask) = true
+is_part _ = false
+
+-- Searches and pages are asked for by commands only, and a page only where no task uses its context.
+abbrev pub OneAtATime : Scripted → List Event → Type 0
+OneAtATime script [] = ⊤
+OneAtATime script (Root k t ∷ h) = FindsFree (λ id. context_at script id h) (script.root k h) × OneAtATime script h
+OneAtATime script (Ask p k n r ∷ h) = (is_part r ≡ true) × OneAtATime script h
+OneAtATime script (_ ∷ h) = OneAtATime script h
+
+-- ---- ids
+
+pub is_one : (t u : TaskId) → same_task t u ≡ true → t ≡ u
+is_one t u e = of_case (same_task_tells t u)
+  where
+    of_case : ((same_task t u ≡ true) × (t ≡ u)) ⊎ ((same_task t u ≡ false) × (t ≢ u)) → t ≡ u
+    of_case (inl (one, same)) = same
+    of_case (inr (other, apart)) = absurd (let f : false ≡ true = sym other ∙ e in cc)
+
+pub same_itself : (t : TaskId) → same_task t t ≡ true
+same_itself t = of_case (same_task_tells t t)
+  where
+    of_case : ((same_task t t ≡ true) × (t ≡ t)) ⊎ ((same_task t t ≡ false) × (t ≢ t)) → same_task t t ≡ true
+    of_case (inl (one, same)) = one
+    of_case (inr (other, apart)) = absurd (apart refl)
+
+-- ---- a context that is in use
+
+busy_by : (c : Context) (t : TaskId) → c.busy ≡ Some t → is_busy c ≡ true
+busy_by c t e = ap is_some e
+
+begun_stays : (cleared : Option TaskId) (id t : TaskId) (c : Context) → c.busy ≡ Some t → after_begin cleared id (Some c) ≡ Some c
+begun_stays None id t c e = refl
+begun_stays (Some other) id t c e = let busy : is_busy c ≡ true = busy_by c t e in rw busy (of_tests (same_task other id) (is_owned_by None c))
+  where
+    of_tests : (a b : Bool) → cond (a && (b && false)) None (Some c) ≡ Some c
+    of_tests true true = refl
+    of_tests true false = refl
+    of_tests false b = refl
+
+ticked_stays : (now : ℕ) (t : TaskId) (c : Context) → c.busy ≡ Some t → unexpired now (Some c) ≡ Some c
+ticked_stays now t c e = let busy : is_busy c ≡ true = busy_by c t e in rw busy refl
+
+-- the same is looked through, after the same cursor
+pub record IsAsBefore (before after : Context) : Type 0 where
+  pub ask : after.ask ≡ before.ask
+  pub shards : after.shards ≡ before.shards
+  pub cursor : after.after ≡ before.after
+
+-- the context of a live page
+pub record IsInUse (said : Scripted) (t : TaskId) (ask : ScrollAsk) (h : List Event) : Type 0 where
+  pub start : Context
+  pub context : Context
+  pub page : page_of said t h ≡ Some start
+  pub stands : context_at said ask.id h ≡ Some context
+  pub busy : context.busy ≡ Some t
+  pub same : IsAsBefore start context
+
+-- what a task asks another for is work on one shard
+pub asked_part : (said : Scripted) (p : TaskId) (k : ℕ) (h : List Event) → OneAtATime said h → (r : Request) → request_of_ask p k h ≡ Some r → is_part r ≡ true
+asked_part said p k [] alone r e = absurd (cc)
+asked_part said p k (Root j t ∷ h) alone r e = asked_part said p k h alone.1 r e
+asked_part said p k (Ask q j n made ∷ h) alone r e =
+    by_test (same_pair p k q j)
+    (λ one. let is : Some made ≡ Some r = rw one at e in let same : made ≡ r = cc in ap is_part (sym same) ∙ alone.0)
+    (λ other. asked_part said p k h alone.1 r (rw other at e))
+asked_part said p k (_ ∷ h) alone r e = asked_part said p k h alone r e
+
+module _ (said : Scripted) (t : TaskId) (ask : ScrollAsk) where
+  -- it is used by another
+  abbrev Other : TaskId → Type 0
+  Other u = same_task t u ≡ false
+
+  -- a root that starts elsewhere takes another context
+  root_stays : (now : ℕ) (u : TaskId) (look : TaskId → Option Context) (c : Context) → look ask.id ≡ Some c → c.busy ≡ Some t → (q : Option Request) → FindsFree look q → after_root now u q ask.id (Some c) ≡ Some c
+  root_stays now u look c at busy None free = refl
+  root_stays now u look c at busy (Some (asks.Search other)) free = refl
+  root_stays now u look c at busy (Some (asks.Query other)) free = refl
+  root_stays now u look c at busy (Some (asks.Fetch other)) free = refl
+  root_stays now u look c at busy (Some (asks.Scroll other)) free =
+      by_test (same_task other.id ask.id)
+      (λ yes.
+      let found : look other.id ≡ Some c = ap look (is_one other.id ask.id yes) ∙ at in
+      let f : is_busy c ≡ false = rw found at free in
+      absurd (let g : true ≡ false = sym (busy_by c t busy) ∙ f in cc))
+      (λ no. rw no refl)
+
+  end_stays : (now : ℕ) (u : TaskId) (c : Context) (q : Option Request) (reply : Reply) → (same_task u ask.id ≡ true → ⊥) → ((other : ScrollAsk) → q ≡ Some (asks.Scroll other) → same_task other.id ask.id ≡ true → ⊥)
+      → after_end now u q reply ask.id (Some c) ≡ Some c
+  end_stays now u c None reply no_search no_page = refl
+  end_stays now u c (Some (asks.Query other)) reply no_search no_page = refl
+  end_stays now u c (Some (asks.Fetch other)) reply no_search no_page = refl
+  end_stays now u c (Some (asks.Scroll other)) reply no_search no_page = by_test (same_task other.id ask.id) (λ yes. absurd (no_page other refl yes)) (λ no. rw no refl)
+  end_stays now u c (Some (asks.Search other)) (Search found) no_search no_page = by_test (same_task u ask.id) (λ yes. absurd (no_search yes)) (λ no. rw no refl)
+  end_stays now u c (Some (asks.Search other)) (Top top) no_search no_page = refl
+  end_stays now u c (Some (asks.Search other)) (Hits hits) no_search no_page = refl
+  end_stays now u c (Some (asks.Search other)) (AllFailed failed) no_search no_page = refl
+  end_stays now u c (Some (asks.Search other)) (Cancelled task cancel counts) no_search no_page = refl
+  end_stays now u c (Some (asks.Search other)) (Rejected node) no_search no_page = refl
+
+  -- the root of a page takes its context
+  root_takes : (k : ℕ) (u : TaskId) (h : List Event) → same_task t u ≡ true → FindsFree (λ id. context_at said id h) (said.root k h) → said.root k h ≡ Some (asks.Scroll ask) → IsInUse said t ask (Root k u ∷ h)
+  root_takes k u h own free e = of_context (context_at said ask.id h) refl (subst (FindsFree (λ id. context_at said id h)) e free)
+    where
+      of_context : (o : Option Context) → context_at said ask.id h ≡ o → FindsFree (λ id. context_at said id h) (Some (asks.Scroll ask)) → IsInUse said t ask (Root k u ∷ h)
+      of_context None stands is = absurd (rw stands at is)
+      of_context (Some d) there is = record {
+        start = d;
+        context = with_use (clock h) ask.keep u d;
+        page = rw (own, e) there;
+        stands = rw e (rw (same_itself ask.id, there) refl);
+        busy = ap Some (sym (is_one t u own));
+        same = record { ask = refl; shards = refl; cursor = refl };
+      }
+
+  -- what stays as it was stays in use
+  goes_on : (e : Event) (h : List Event) → (b : IsInUse said t ask h) → page_of said t (e ∷ h) ≡ page_of said t h → context_at said ask.id (e ∷ h) ≡ Some b.context → IsInUse said t ask (e ∷ h)
+  goes_on e h b page stands = record { start = b.start; context = b.context; page = page ∙ b.page; stands = stands; busy = b.busy; same = b.same }
+
+  -- so it does where a command begins, where another root starts, and where time goes by
+  begun_goes_on : (k : ℕ) (h : List Event) → IsInUse said t ask h → IsInUse said t ask (Begin k ∷ h)
+  begun_goes_on k h b = goes_on (Begin k) h b refl (ap (after_begin (said.clears k h) ask.id) b.stands ∙ begun_stays (said.clears k h) ask.id t b.context b.busy)
+
+  rooted_goes_on : (k : ℕ) (u : TaskId) (h : List Event) → same_task t u ≡ false → FindsFree (λ id. context_at said id h) (said.root k h) → IsInUse said t ask h → IsInUse said t ask (Root k u ∷ h)
+  rooted_goes_on k u h other free b =
+      goes_on (Root k u) h b (rw other refl)
+      (ap (after_root (clock h) u (said.root k h) ask.id) b.stands ∙ root_stays (clock h) u (λ id. context_at said id h) b.context b.stands b.busy (said.root k h) free)
+
+  ticked_goes_on : (ms : ℕ) (h : List Event) → IsInUse said t ask h → IsInUse said t ask (Tick ms ∷ h)
+  ticked_goes_on ms h b = goes_on (Tick ms) h b refl (ap (unexpired (clock h + ms)) b.stands ∙ ticked_stays (clock h + ms) t b.context b.busy)
+
+-- ---- every past
+
+-- every live task that shows a page has its context
+abbrev pub AllInUse : Scripted → List Event → Type 0
+AllInUse said h = (t : TaskId) (ask : ScrollAsk) → is_live t h ≡ true → request_of said t h ≡ Some (asks.Scroll ask) → IsInUse said t ask h
+
+module _ (cluster : Cluster) (said : Scripted) where
+  still_live : (b : Bool) (o : Bool) → cond b false o ≡ true → (b ≡ false) × (o ≡ true)
+  still_live true o e = absurd (cc)
+  still_live false o e = (refl, e)
+
+  -- and where another task ends
+  ended_goes_on : (h : List Event) (u : TaskId) (reply : Reply) → is_live u h ≡ true → has_ended u h ≡ false → AllInUse said h → (t : TaskId) (ask : ScrollAsk) → same_task t u ≡ false → IsInUse said t ask h → IsInUse said t ask (End u reply ∷ h)
+  ended_goes_on h u reply live not_ended all t ask other b =
+      goes_on said t ask (End u reply) h b refl
+      (ap (after_end (clock h) u (request_of said u h) reply ask.id) b.stands
+      ∙ end_stays said t ask (clock h) u b.context (request_of said u h) reply
+      (λ search. let ended : has_ended u h ≡ true = ap (λ x. has_ended x h) (is_one u ask.id search) ∙ stands_ended said ask.id h b.context b.stands in absurd (let f : false ≡ true = sym not_ended ∙ ended in cc))
+      (λ page asked same. apart page same (all u page live asked)))
+    where
+      apart : (page : ScrollAsk) → same_task page.id ask.id ≡ true → IsInUse said u page h → ⊥
+      apart page same used =
+          let one : Some used.context ≡ Some b.context = sym used.stands ∙ ap (λ id. context_at said id h) (is_one page.id ask.id same) ∙ b.stands in
+          let context : used.context ≡ b.context = cc in
+          let user : Some u ≡ Some t = sym used.busy ∙ ap (λ (c : Context). c.busy) context ∙ b.busy in
+          let task : u ≡ t = cc in
+          let f : false ≡ true = sym other ∙ ap (same_task t) task ∙ same_itself t in
+          absurd (cc)
+
+  pub all_in_use : (h : List Event) → Lawful cluster h → OneAtATime said h → AllInUse said h
+  all_in_use [] lawful alone t ask live request = absurd (cc)
+  all_in_use (Begin k ∷ h) lawful alone t ask live request = begun_goes_on said t ask k h (all_in_use h lawful.1 alone t ask live request)
+  all_in_use (Root k u ∷ h) lawful alone t ask live request =
+      by_test (same_task t u)
+      (λ own. root_takes said t ask k u h own alone.0 (rw own at request))
+      (λ other. rooted_goes_on said t ask k u h other alone.0 (all_in_use h lawful.1 alone.1 t ask (rw other at live) (rw other at request)))
+  all_in_use (Put u p k ∷ h) lawful alone t ask live request =
+      by_test (same_task t u)
+      (λ own. absurd (let f : false ≡ true = asked_part said p k h alone (asks.Scroll ask) (rw own at request) in cc))
+      (λ other. let b = all_in_use h lawful.1 alone t ask (rw other at live) (rw other at request) in goes_on said t ask (Put u p k) h b refl b.stands)
+  all_in_use (Refuse u c ∷ h) lawful alone t ask live request =
+      let b = all_in_use h lawful.1 alone t ask (still_live (same_task t u) (is_live t h) live).1 request in
+      goes_on said t ask (Refuse u c) h b refl b.stands
+  all_in_use (End u reply ∷ h) lawful alone t ask live request =
+      let lives = still_live (same_task t u) (is_live t h) live in
+      let all = all_in_use h lawful.1 alone in
+      let ends : is_live u h ≡ true = lawful.0.goes_on.live in
+      ended_goes_on h u reply ends ((ask_facts cluster h lawful.1).live_or_ended u ends) all t ask lives.0 (all t ask lives.1 request)
+  all_in_use (Tick ms ∷ h) lawful alone t ask live request = ticked_goes_on said t ask ms h (all_in_use h lawful.1 alone t ask live request)
+  all_in_use (Ask p k n r ∷ h) lawful alone t ask live request = let b = all_in_use h lawful.1 alone.1 t ask live request in goes_on said t ask (Ask p k n r) h b refl b.stands
+  all_in_use (e ∷ h) lawful alone t ask live request = let b = all_in_use h lawful.1 alone t ask live request in goes_on said t ask e h b refl b.stands
