@@ -21,7 +21,8 @@ use Rattle.script_lang.specs.declared.command.CancelTarget.{CancelTarget}
 use Rattle.script_lang.specs.declared.command.CancelTarget.TheVariants.{Task, Matching, Command as Of}
 use Rattle.script_lang.specs.declared.command.Command.TheVariants as commands
 use Rattle.script_lang.specs.declared.command.Script.{Script}
-use Rattle.world_moves.specs.Cancels.{AllAnswered, after_cancel_of, after_naming, answer_by, is_answered, is_due, is_through, root_of, target_of, targets, tasks_named, with_answer, with_cancel, with_cancels}
+use Rattle.command_roots.specs.Roots.{root_of}
+use Rattle.world_moves.specs.Cancels.{AllAnswered, after_cancel_of, after_naming, answer_by, is_answered, is_due, is_through, target_of, targets, tasks_named, with_answer, with_cancel, with_cancels}
 use Rattle.line_print.specs.Lines.{named_in, finds_none}
 use Rattle.task_top.specs.EachLine.{TellsCancel, HasNamed, HasNamedOne}
 use Rattle.task_top.proofs.TurnEvents.{HasDone, told_as}

@@ -3,6 +3,7 @@ pub mod LinesOfCommands
 pub mod NumberLemmas
 pub mod OneLine
 pub mod OptionLemmas
+pub mod PagesBegun
 pub mod PrintedLines
 pub mod ProgressLemmas
 pub mod ReadingLaws

@@ -1,6 +1,6 @@
 -- What stands in a whole run for the line of each kind of command.
 use Rattle.std.proofs.Common.{◌≡◌, ◌⊎◌, ◌<◌, ◌≤◌, ℕ, zero, suc, Bool, true, false, ◌&&◌, List, [], ◌∷◌, ◌++◌, map, reverse, length, Option, Some, None, Result, Ok, Err, inl, inr, refl, sym, ap, subst, ◌∙◌, arith}
-use Rattle.std.specs.Prelude.{is_some}
+use Rattle.std.specs.Prelude.{is_ok, is_some}
 use Rattle.std.proofs.lemmas.List.{length-append}
 use Rattle.std.proofs.lemmas.Option.{slice_get_within}
 use Rattle.serde_json.specs.Data.{Data}
@@ -12,13 +12,17 @@ use Rattle.task_ids.specs.declared.corpus.Corpus.{Corpus}
 use Rattle.task_ids.specs.declared.task_id.TaskId.{TaskId}
 use Rattle.task_ids.specs.declared.text.Text.{Text}
 use Rattle.task_events.specs.declared.event.Event.{Event}
-use Rattle.task_events.specs.declared.event.Event.TheVariants.{Begin, Root, RootRejected, Refuse, Acked, End}
+use Rattle.task_events.specs.declared.event.Event.TheVariants.{Begin, Root, RootRejected, Refuse, Acked, End, Tick}
 use Rattle.task_events.specs.declared.reply.Reply.{Reply}
+use Rattle.task_events.specs.declared.request.Request.{Request}
 use Rattle.task_events.specs.declared.request.Request.TheVariants as asks
 use Rattle.task_events.specs.Lawful.{Lawful}
 use Rattle.task_events.specs.Laws.{IsDrained}
 use Rattle.task_events.specs.Messages.{in_flight}
 use Rattle.task_events.specs.Tasks.{is_live, reply_of}
+use Rattle.task_events.specs.Turns.{events_of, history_before}
+use Rattle.world_steps.proofs.Commanded.{asks_page}
+use Rattle.script_lang.specs.declared.command.ContextTarget.{ContextTarget}
 use Rattle.script_lang.specs.declared.command.Command.{Command}
 use Rattle.script_lang.specs.declared.command.Command.TheVariants as commands
 use Rattle.script_lang.specs.declared.command.Script.{Script}
@@ -27,16 +31,17 @@ use Rattle.node_parts.specs.declared.listing.Listing.{Listing}
 use Rattle.world_moves.specs.Listings.{is_open}
 use Rattle.world_moves.specs.Moves.{IsStart}
 use Rattle.world_moves.specs.Plain.{AnswersPlainly}
-use Rattle.command_roots.specs.Roots.{command_at, root_request, whole_ask}
+use Rattle.command_roots.specs.Roots.{command_at, context_named, least_size, page_at, root_request, search_ask}
 use Rattle.world_steps.specs.declared.acting.Stepped.{Stepped}
 use Rattle.world_steps.specs.declared.acting.Stepped.TheVariants.{Done, Waiting, NotRunning}
 use Rattle.world_steps.specs.Runs.{AnswersStep}
-use Rattle.world_steps.specs.Scripts.{StartsWhere, DeliversWhere, ListsWhere, IsRun, can_start}
+use Rattle.world_steps.specs.Scripts.{StartsWhere, DeliversWhere, ListsWhere, IsRun, can_page, can_start, page_node}
 use Rattle.line_print.specs.Lines.{is_known}
-use Rattle.task_top.specs.EachLine.{as_began, TellsSearch, HasEnded, Moved, Waits, HasItsLine, EachHasItsLine}
+use Rattle.task_top.specs.EachLine.{as_began, TellsPage, TellsSearch, HasEnded, Moved, Waits, HasItsLine, EachHasItsLine}
 use Rattle.query_parse.proofs.FaultsTold.{fault_told}
 use Rattle.task_top.proofs.CancelLines.{cancel_told}
-use Rattle.task_top.proofs.RootEnds.{has_replied, replies_so}
+use Rattle.task_top.proofs.PagesBegun.{node_before, page_before}
+use Rattle.task_top.proofs.RootEnds.{asks_for_hits, has_replied, replies_so}
 use Rattle.task_top.proofs.TurnEvents.{HasDone, told_as, some_told, done_in_whole}
 
 -- ---- one event more, with the answers that come due with it
@@ -50,56 +55,94 @@ due_longer (End t reply) h = omega (arith, answers_longer t (End t reply ∷ h))
 due_longer (Acked p n) h = omega (arith, answers_longer p (Acked p n ∷ h))
 due_longer e h = omega arith
 
--- ---- a search
-
-both_parts : (o : Option SearchBody) (found : SearchBody) (b : Bool) → o ≡ Some found → b ≡ true → (is_some o && b) ≡ true
-both_parts o found b e k = rw (e, k) refl
+-- ---- roots
 
 module _ (cluster : Cluster) (corpus : Corpus) (script : Script) (h : List Event) (k : ℕ) where
-  module _ (index : Text) (node : ℕ) (body : Data) (opaque_id : Option Text) (lawful : Lawful cluster h) (drained : IsDrained h) (plain : AnswersPlainly cluster corpus script h)
-      (at : command_at script k ≡ Some (commands.Search index node body opaque_id)) (done : HasDone cluster corpus script k (commands.Search index node body opaque_id) h) where
-    started : (found : SearchBody) (t : TaskId) → root_request script k ≡ Some (asks.Search (whole_ask index found)) → done.after ≡ Root k t ∷ Begin k ∷ done.before → HasEnded k h
-    started found t asked same = record {
-      task = t;
-      reply = reply.0;
-      started = told_as cluster corpus script k _ h done (Root k t ∷ []) same;
-      replied = ap (reply_of t) whole ∙ reply.1;
-      told = replies_so cluster corpus script k t (Begin k ∷ done.before) (whole_ask index found) asked done.later reply.0 (subst (Lawful cluster) whole lawful) (subst (AnswersPlainly cluster corpus script) whole plain) reply.1;
-    }
-      where
-        whole : h ≡ done.later ++ Root k t ∷ Begin k ∷ done.before
-        whole = done.stands ∙ ap (λ l. done.later ++ l) same
+  -- ---- the root of a command that could start
 
-        given : (o : Option Reply) → is_some o ≡ true → (reply : Reply) × (o ≡ Some reply)
-        given None e = absurd (cc)
-        given (Some reply) e = (reply, refl)
+  module _ (lawful : Lawful cluster h) (drained : IsDrained h) (plain : AnswersPlainly cluster corpus script h) (command : Command) (done : HasDone cluster corpus script k command h) where
+    abbrev began : List Event
+    began = Begin k ∷ done.before
 
-        reply : (reply : Reply) × (reply_of t (done.later ++ Root k t ∷ Begin k ∷ done.before) ≡ Some reply)
-        reply = given _ (has_replied k t (Begin k ∷ done.before) done.later (ap (is_live t) (sym whole) ∙ drained.nothing_live t))
+    module _ (request : Request) (hits : asks_for_hits request ≡ true) (asked : root_request script k began ≡ Some request) where
+      started : (t : TaskId) → done.after ≡ Root k t ∷ began → HasEnded k h
+      started t same = record {
+        task = t;
+        reply = reply.0;
+        started = told_as cluster corpus script k _ h done (Root k t ∷ []) same;
+        replied = ap (reply_of t) whole ∙ reply.1;
+        told = replies_so cluster corpus script k t began request hits asked done.later reply.0 (subst (Lawful cluster) whole lawful) (subst (AnswersPlainly cluster corpus script) whole plain) reply.1;
+      }
+        where
+          whole : h ≡ done.later ++ Root k t ∷ began
+          whole = done.stands ∙ ap (λ l. done.later ++ l) same
 
-    by_start : (found : SearchBody) → root_request script k ≡ Some (asks.Search (whole_ask index found)) → (begins : Bool) (e : Event) → IsStart cluster (Begin k ∷ done.before) k node begins e → done.after ≡ e ∷ Begin k ∷ done.before → TellsSearch corpus index node body k h
-    by_start found asked true (Root c t) (takes, there, command) same = inr (inr (inr (started found t asked (same ∙ ap (λ n. Root n t ∷ Begin k ∷ done.before) command))))
-    by_start found asked false (RootRejected c n) (full, there, command) same =
-        inr (inr (inl (told_as cluster corpus script k _ h done (RootRejected k node ∷ []) (same ∙ (λ i. RootRejected (command i) (there i) ∷ Begin k ∷ done.before)))))
-    by_start found asked true _ s same = absurd s
-    by_start found asked false _ s same = absurd s
+          given : (o : Option Reply) → is_some o ≡ true → (reply : Reply) × (o ≡ Some reply)
+          given None e = absurd (cc)
+          given (Some reply) e = (reply, refl)
 
-    asked_for : (found : SearchBody) → body_at false 0 body ≡ Ok found → root_request script k ≡ Some (asks.Search (whole_ask index found))
+          reply : (reply : Reply) × (reply_of t (done.later ++ Root k t ∷ began) ≡ Some reply)
+          reply = given _ (has_replied k t began done.later (ap (is_live t) (sym whole) ∙ drained.nothing_live t))
+
+      -- its node had no slot, or its task ended
+      pub root_told : (node : ℕ) (begins : Bool) (e : Event) → IsStart cluster began k node begins e → done.after ≡ e ∷ began → (events_of k h ≡ RootRejected k node ∷ []) ⊎ HasEnded k h
+      root_told node true (Root c t) (takes, there, number) same = inr (started t (same ∙ ap (λ n. Root n t ∷ began) number))
+      root_told node false (RootRejected c n) (full, there, number) same = inl (told_as cluster corpus script k _ h done (RootRejected k node ∷ []) (same ∙ (λ i. RootRejected (number i) (there i) ∷ began)))
+      root_told node true _ s same = absurd s
+      root_told node false _ s same = absurd s
+
+  -- ---- a search
+
+  module _ (index : Text) (node : ℕ) (scroll : Option ℕ) (body : Data) (opaque_id : Option Text) (lawful : Lawful cluster h) (drained : IsDrained h) (plain : AnswersPlainly cluster corpus script h)
+      (at : command_at script k ≡ Some (commands.Search index node scroll body opaque_id)) (done : HasDone cluster corpus script k (commands.Search index node scroll body opaque_id) h) where
+    abbrev read : Result SearchBody BodyError
+    read = body_at (is_some scroll) (least_size scroll) body
+
+    asked_for : (found : SearchBody) → read ≡ Ok found → root_request script k (Begin k ∷ done.before) ≡ Some (asks.Search (search_ask index scroll found))
     asked_for found good = rw (at, good) refl
 
-    where_known : (found : SearchBody) → body_at false 0 body ≡ Ok found → is_known corpus index ≡ true → TellsSearch corpus index node body k h
+    where_known : (found : SearchBody) → read ≡ Ok found → is_known corpus index ≡ true → TellsSearch corpus index node scroll body k h
     where_known found good known =
-        let can : can_start corpus index body ≡ true = rw (good, known) refl in
+        let can : can_start corpus index scroll body ≡ true = rw (good, known) refl in
         let starts : StartsWhere cluster true k node (Begin k ∷ done.before) done.after = subst (λ b. StartsWhere cluster b k node (Begin k ∷ done.before) done.after) can done.does in
-        by_start found (asked_for found good) starts.0 starts.1.0 starts.1.1 starts.1.2
+        inr (inr (root_told lawful drained plain _ done (asks.Search (search_ask index scroll found)) refl (asked_for found good) node starts.0 starts.1.0 starts.1.1 starts.1.2))
 
-    pub search_told : TellsSearch corpus index node body k h
-    search_told = by_body (body_at false 0 body) refl (is_known corpus index) refl
+    pub search_told : TellsSearch corpus index node scroll body k h
+    search_told = by_body read refl (is_known corpus index) refl
       where
-        by_body : (r : Result SearchBody BodyError) → body_at false 0 body ≡ r → (b : Bool) → is_known corpus index ≡ b → TellsSearch corpus index node body k h
-        by_body (Err fault) is b known = inl (fault, is, fault_told false 0 body fault is)
+        by_body : (r : Result SearchBody BodyError) → read ≡ r → (b : Bool) → is_known corpus index ≡ b → TellsSearch corpus index node scroll body k h
+        by_body (Err fault) is b known = inl (fault, is, fault_told (is_some scroll) (least_size scroll) body fault is)
         by_body (Ok found) is false known = inr (inl known)
         by_body (Ok found) is true known = where_known found is known
+
+  -- ---- a scroll
+
+  module _ (target : ContextTarget) (keep : Option ℕ) (opaque_id : Option Text) (lawful : Lawful cluster h) (drained : IsDrained h) (plain : AnswersPlainly cluster corpus script h)
+      (at : command_at script k ≡ Some (commands.Scroll target keep opaque_id)) (done : HasDone cluster corpus script k (commands.Scroll target keep opaque_id) h) where
+    as_before : can_page script target (Begin k ∷ done.before) ≡ can_page script target (history_before k h)
+    as_before = page_before k done.before script target keep opaque_id at ∙ ap (can_page script target) (sym done.past)
+
+    -- a context that gives a page is named
+    named_there : (o : Option TaskId) → is_ok (page_at script o (Begin k ∷ done.before)) ≡ true → (id : TaskId) × (o ≡ Some id)
+    named_there None can = absurd (cc)
+    named_there (Some id) can = (id, refl)
+
+    where_it_can : can_page script target (Begin k ∷ done.before) ≡ true → TellsPage script target k h
+    where_it_can can =
+        let starts : StartsWhere cluster true k (page_node target (Begin k ∷ done.before)) (Begin k ∷ done.before) done.after =
+        subst (λ b. StartsWhere cluster b k (page_node target (Begin k ∷ done.before)) (Begin k ∷ done.before) done.after) can done.does in
+        let there = named_there (context_named target (Begin k ∷ done.before)) can in
+        let asked = asks_page script k (Begin k ∷ done.before) target keep opaque_id at there.0 there.1 in
+        let node : page_node target (Begin k ∷ done.before) ≡ page_node target (history_before k h) = node_before k done.before target ∙ ap (page_node target) (sym done.past) in
+        inr (subst (λ n. (events_of k h ≡ RootRejected k n ∷ []) ⊎ HasEnded k h) node
+        (root_told lawful drained plain _ done (asks.Scroll (record { id = there.0; keep = keep; owner = None })) refl asked (page_node target (Begin k ∷ done.before)) starts.0 starts.1.0 starts.1.1 starts.1.2))
+
+    pub page_told : TellsPage script target k h
+    page_told = by_page (can_page script target (Begin k ∷ done.before)) refl
+      where
+        by_page : (b : Bool) → can_page script target (Begin k ∷ done.before) ≡ b → TellsPage script target k h
+        by_page false is = inl (sym as_before ∙ is)
+        by_page true is = where_it_can is
 
   -- ---- lines of a schedule
 
@@ -127,7 +170,10 @@ module _ (cluster : Cluster) (corpus : Corpus) (script : Script) (h : List Event
 
 module _ (cluster : Cluster) (corpus : Corpus) (script : Script) (h : List Event) (lawful : Lawful cluster h) (drained : IsDrained h) (answered : AllAnswered h) (plain : AnswersPlainly cluster corpus script h) where
   by_command : (k : ℕ) (command : Command) → command_at script k ≡ Some command → HasDone cluster corpus script k command h → HasItsLine cluster corpus script h k command
-  by_command k (commands.Search index node body opaque_id) at done = search_told cluster corpus script h k index node body opaque_id lawful drained plain at done
+  by_command k (commands.Search index node scroll body opaque_id) at done = search_told cluster corpus script h k index node scroll body opaque_id lawful drained plain at done
+  by_command k (commands.Scroll target keep opaque_id) at done = page_told cluster corpus script h k target keep opaque_id lawful drained plain at done
+  by_command k (commands.ClearScroll target) at done = tt
+  by_command k (commands.Tick ms) at done = told_as cluster corpus script k _ h done (Tick ms ∷ []) done.does
   by_command k (commands.Cancel target reason wait) at done = cancel_told cluster corpus script h answered k reason wait target done
   by_command k (commands.ListTasks wanted group detailed) at done = tt
   by_command k (commands.Deliver nth) at done = deliver_told cluster corpus script h k _ done nth done.does

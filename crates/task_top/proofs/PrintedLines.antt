@@ -1,6 +1,6 @@
 -- What is printed for each command of a whole run is one line.
 use Rattle.std.proofs.Common.{◌≡◌, ℕ, suc, ◌+◌, Bool, true, false, cond, List, [], ◌∷◌, length, slice_get, codes, Option, Some, None, Result, Ok, Err, inl, inr, refl, sym, ap, subst, ◌∙◌, arith}
-use Rattle.std.specs.Prelude.{count_by, filter_map, option_and_then, if◌then◌else◌}
+use Rattle.std.specs.Prelude.{count_by, filter_map, is_ok, is_some, option_and_then, if◌then◌else◌}
 use Rattle.std.specs.List.{list_any}
 use Rattle.std.proofs.lemmas.List.Sums.{sum_by-append, sum_by-cons}
 use Rattle.serde_json.specs.Data.{Data}
@@ -14,23 +14,28 @@ use Rattle.task_events.specs.declared.event.Event.{Event}
 use Rattle.task_events.specs.declared.reply.Reply.{Reply}
 use Rattle.task_events.specs.declared.reply.Reply.TheVariants as replies
 use Rattle.task_events.specs.Messages.{in_flight}
-use Rattle.task_events.specs.Printed.{count, object_of, reply_line, search_json}
-use Rattle.task_events.specs.TaskRows.{clock}
+use Rattle.task_events.specs.Printed.{count, object_of, reply_line, search_json, shards_read}
+use Rattle.task_events.specs.Clock.{clock}
 use Rattle.task_events.specs.Tasks.{is_live, reply_of}
 use Rattle.task_events.specs.Turns.{events_before, events_of, history_before}
 use Rattle.script_lang.specs.declared.command.Command.{Command}
-use Rattle.script_lang.specs.declared.command.Command.TheVariants.{Search, Cancel, ListTasks, Deliver, Step, ListStep, Settle, History}
+use Rattle.script_lang.specs.declared.command.Command.TheVariants.{Search, Scroll, ClearScroll, Tick, Cancel, ListTasks, Deliver, Step, ListStep, Settle, History}
 use Rattle.script_lang.specs.declared.command.Script.{Script}
 use Rattle.tasks_api.specs.declared.filter.Filter.{Filter}
 use Rattle.tasks_api.specs.declared.list.GroupBy.{GroupBy}
 use Rattle.tasks_api.specs.Lists.{list_json, shown, task_json}
-use Rattle.command_roots.specs.Roots.{rows_of}
+use Rattle.command_roots.specs.Roots.{context_named, least_size, page_answer, rows_of}
+use Rattle.world_steps.specs.Scripts.{page_node}
+use Rattle.scroll_table.specs.declared.context.PageError.{PageError}
+use Rattle.task_events.specs.declared.context.Context.{Context}
+use Rattle.task_events.specs.declared.reply.SearchReply.{SearchReply}
+use Rattle.script_lang.specs.declared.command.ContextTarget.{ContextTarget}
 use Rattle.line_print.specs.declared.note.Note.{Note}
 use Rattle.line_print.specs.declared.note.Note.TheVariants.{NoSuchMessage, NotRunning, Waiting, NoListing}
-use Rattle.line_print.specs.Errors.{all_shards_failed, body_error, index_not_found, not_found, rejected, task_cancelled}
-use Rattle.line_print.specs.Lines.{cancel_line, cancelled, ended_line, error_line, finds_none, first_in, full_node_in, idle_error, idle_line, is_known, line_of, lines_from, moved_line, named_in, note_of, printed, reason_of, refusal, search_line, settled, started, target_in, told_all}
+use Rattle.line_print.specs.Errors.{all_shards_failed, body_error, context_error, index_not_found, not_found, rejected, task_cancelled}
+use Rattle.line_print.specs.Lines.{cancel_line, cancelled, cleared, frees, moment_json, page_note, page_refusal, ended_line, error_line, finds_none, first_in, full_node_in, idle_error, idle_line, is_known, line_of, lines_from, moved_line, named_in, note_of, printed, reason_of, refusal, search_line, settled, started, target_in, told_all}
 use Rattle.line_print.proofs.PrintLemmas.{text_is_reply}
-use Rattle.task_top.specs.EachLine.{is_newline, EachHasItsLine, EachPrintsALine, HasItsLine, IsLine, IsSearchReply, TellsSearch}
+use Rattle.task_top.specs.EachLine.{is_newline, EachHasItsLine, EachPrintsALine, HasItsLine, IsLine, IsSearchReply, TellsPage, TellsSearch}
 use Rattle.task_top.proofs.OneLine.{value_line}
 use Rattle.task_top.proofs.ProgressLemmas.{both_false}
 
@@ -43,37 +48,61 @@ reply_prints k reply = value_line (object_of ((codes "command", count k) ∷ (co
 module _ (cluster : Cluster) (corpus : Corpus) (commands : List Command) (h : List Event) (k : ℕ) where
   -- ---- a search
 
-  ended : (t : TaskId) (reply : Reply) → IsSearchReply t reply → IsLine (ended_line cluster.shards commands k (Some reply))
-  ended t (replies.Search reply) told = reply_prints k (search_json cluster.shards reply)
-  ended t (replies.AllFailed failed) told = error_prints k (all_shards_failed failed)
-  ended t (replies.Cancelled u c counts) told = error_prints k (task_cancelled (reason_of commands c) u)
-  ended t (replies.Top top) told = absurd told
-  ended t (replies.Hits hits) told = absurd told
-  ended t (replies.Rejected n) told = absurd told
+  module _ (shards : SearchReply → ℕ) where
+    ended : (t : TaskId) (reply : Reply) → IsSearchReply t reply → IsLine (ended_line shards commands k (Some reply))
+    ended t (replies.Search reply) told = reply_prints k (search_json (shards reply) reply)
+    ended t (replies.AllFailed failed) told = error_prints k (all_shards_failed failed)
+    ended t (replies.Cancelled u c counts) told = error_prints k (task_cancelled (reason_of commands c) u)
+    ended t (replies.Top top) told = absurd told
+    ended t (replies.Hits hits) told = absurd told
+    ended t (replies.Rejected n) told = absurd told
 
-  -- where there is a reply, what refuses the search does not matter
-  either_line : (o : Option Data) (reply : Option Reply) → IsLine (ended_line cluster.shards commands k reply) → IsLine (search_line cluster.shards commands k o reply)
-  either_line None reply line = line
-  either_line (Some error) reply line = error_prints k error
+    -- where there is a reply, what refuses the task does not matter
+    either_line : (o : Option Data) (reply : Option Reply) → IsLine (ended_line shards commands k reply) → IsLine (search_line shards commands k o reply)
+    either_line None reply line = line
+    either_line (Some error) reply line = error_prints k error
 
   module _ (index : List ℕ) (node : ℕ) where
-    unknown_refused : (body : Result SearchBody BodyError) (full : Option ℕ) (reply : Option Reply) → IsLine (search_line cluster.shards commands k (refusal index body false full) reply)
+    abbrev in_all : SearchReply → ℕ
+    in_all reply = cluster.shards
+
+    unknown_refused : (body : Result SearchBody BodyError) (full : Option ℕ) (reply : Option Reply) → IsLine (search_line in_all commands k (refusal index body false full) reply)
     unknown_refused (Err fault) full reply = error_prints k (body_error fault)
     unknown_refused (Ok found) full reply = error_prints k (index_not_found index)
 
-    full_refused : (body : Result SearchBody BodyError) (known : Bool) (reply : Option Reply) → IsLine (search_line cluster.shards commands k (refusal index body known (Some node)) reply)
+    full_refused : (body : Result SearchBody BodyError) (known : Bool) (reply : Option Reply) → IsLine (search_line in_all commands k (refusal index body known (Some node)) reply)
     full_refused (Err fault) known reply = error_prints k (body_error fault)
     full_refused (Ok found) true reply = error_prints k (rejected node)
     full_refused (Ok found) false reply = error_prints k (index_not_found index)
 
-    search_prints : (body : Data) (opaque_id : Option (List ℕ)) → TellsSearch corpus index node body k h → (noted : Option Note) → IsLine (line_of cluster corpus commands h k (Search index node body opaque_id) noted)
-    search_prints body opaque_id (inl (fault, is, told)) noted = rw is (error_prints k (body_error fault))
-    search_prints body opaque_id (inr (inl unknown)) noted = rw unknown (unknown_refused (body_at false 0 body) (first_in full_node_in (events_of k h)) (option_and_then (λ t. reply_of t h) (started k h)))
-    search_prints body opaque_id (inr (inr (inl full))) noted = rw full (full_refused (body_at false 0 body) (is_known corpus index) None)
-    search_prints body opaque_id (inr (inr (inr told))) noted =
+    search_prints : (scroll : Option ℕ) (body : Data) (opaque_id : Option (List ℕ)) → TellsSearch corpus index node scroll body k h → (noted : Option Note) → IsLine (line_of cluster corpus commands h k (Search index node scroll body opaque_id) noted)
+    search_prints scroll body opaque_id (inl (fault, is, told)) noted = rw is (error_prints k (body_error fault))
+    search_prints scroll body opaque_id (inr (inl unknown)) noted = rw unknown (unknown_refused (body_at (is_some scroll) (least_size scroll) body) (first_in full_node_in (events_of k h)) (option_and_then (λ t. reply_of t h) (started k h)))
+    search_prints scroll body opaque_id (inr (inr (inl full))) noted = rw full (full_refused (body_at (is_some scroll) (least_size scroll) body) (is_known corpus index) None)
+    search_prints scroll body opaque_id (inr (inr (inr told))) noted =
         let begun = told.started in
         let replied = told.replied in
-        rw begun (either_line (refusal index (body_at false 0 body) (is_known corpus index) None) (reply_of told.task h) (rw replied (ended told.task told.reply told.told)))
+        rw begun (either_line in_all (refusal index (body_at (is_some scroll) (least_size scroll) body) (is_known corpus index) None) (reply_of told.task h) (rw replied (ended in_all told.task told.reply told.told)))
+
+  -- ---- a scroll
+
+  no_page : (id : Option TaskId) (answer : Result Context PageError) (full : Option ℕ) (reply : Option Reply) → is_ok answer ≡ false → IsLine (search_line shards_read commands k (page_refusal (page_note id answer) full) reply)
+  no_page id (Ok c) full reply none = absurd (cc)
+  no_page id (Err error) full reply none = error_prints k (context_error id error)
+
+  no_slot : (id : Option TaskId) (answer : Result Context PageError) (node : ℕ) (reply : Option Reply) → IsLine (search_line shards_read commands k (page_refusal (page_note id answer) (Some node)) reply)
+  no_slot id (Ok c) node reply = error_prints k (rejected node)
+  no_slot id (Err error) node reply = error_prints k (context_error id error)
+
+  page_prints : (script : Script) (target : ContextTarget) (keep : Option ℕ) (opaque_id : Option (List ℕ)) → TellsPage script target k h
+      → IsLine (line_of cluster corpus commands h k (Scroll target keep opaque_id) (page_note (context_named target (history_before k h)) (page_answer script target (history_before k h))))
+  page_prints script target keep opaque_id (inl none) = no_page _ _ (first_in full_node_in (events_of k h)) (option_and_then (λ t. reply_of t h) (started k h)) none
+  page_prints script target keep opaque_id (inr (inl full)) = rw full (no_slot _ _ (page_node target (history_before k h)) None)
+  page_prints script target keep opaque_id (inr (inr told)) =
+      let begun = told.started in
+      let replied = told.replied in
+      let noted = page_note (context_named target (history_before k h)) (page_answer script target (history_before k h)) in
+      rw begun (either_line shards_read (page_refusal noted None) (reply_of told.task h) (rw replied (ended shards_read told.task told.reply told.told)))
 
   -- ---- the others
 
@@ -101,7 +130,10 @@ module _ (cluster : Cluster) (corpus : Corpus) (script : Script) (h : List Event
       subst IsLine (sym (text_is_reply k listed)) (reply_prints k listed)
 
   by_command : (k : ℕ) (command : Command) → HasItsLine cluster corpus script h k command → IsLine (line_of cluster corpus script.commands h k command (note_of cluster script command (history_before k h)))
-  by_command k (Search index node body opaque_id) told = search_prints cluster corpus script.commands h k index node body opaque_id told None
+  by_command k (Search index node scroll body opaque_id) told = search_prints cluster corpus script.commands h k index node scroll body opaque_id told None
+  by_command k (Scroll target keep opaque_id) told = page_prints cluster corpus script.commands h k script target keep opaque_id told
+  by_command k (ClearScroll target) told = reply_prints k (cleared (frees script (context_named target (history_before k h)) (history_before k h)))
+  by_command k (Tick ms) told = reply_prints k (moment_json (clock (history_before k h) + ms))
   by_command k (Cancel target reason wait) told = cancel_prints cluster corpus script.commands h k (target_in script.commands h target) wait (events_of k h)
   by_command k (ListTasks wanted group detailed) told = list_prints k wanted group detailed
   by_command k (Deliver nth) told = move_prints cluster corpus script.commands h k (events_of k h) (NoSuchMessage (length (in_flight (history_before k h)))) _ refl

@@ -17,7 +17,8 @@ use Rattle.task_events.specs.Cancels.{is_named, names_one_of}
 use Rattle.task_events.specs.Laws.{CancelsWithCause}
 use Rattle.task_events.specs.Messages.{Message}
 use Rattle.task_events.specs.Messages.Message.{Request, Answer, Ban, Ack, Unban}
-use Rattle.task_events.specs.Steps.{event_of, first_step, cancelled_step, step_of_passed, planned_step, request_of}
+use Rattle.task_events.specs.Requests.{request_of}
+use Rattle.task_events.specs.Steps.{event_of, first_step, cancelled_step, step_of_passed, planned_step}
 use Rattle.task_events.specs.Tasks.{is_live, is_new, ancestors}
 use Rattle.task_laws.proofs.Same.{same_tests}
 use Rattle.script_lang.specs.declared.command.CancelTarget.{CancelTarget}
@@ -25,15 +26,15 @@ use Rattle.script_lang.specs.declared.command.CancelTarget.TheVariants.{Task, Ma
 use Rattle.script_lang.specs.declared.command.Command.{Command}
 use Rattle.script_lang.specs.declared.command.Command.TheVariants as commands
 use Rattle.script_lang.specs.declared.command.Script.{Script}
-use Rattle.world_moves.specs.Cancels.{after_cancel, after_cancel_of, after_naming, answer_by, answer_to, due_for, is_due, root_of, targets, waits_for_end, with_answers, with_cancel, with_cancels, with_due}
+use Rattle.world_moves.specs.Cancels.{after_cancel, after_cancel_of, after_naming, answer_by, answer_to, due_for, is_due, targets, waits_for_end, with_answers, with_cancel, with_cancels, with_due}
 use Rattle.node_parts.specs.declared.listing.Listing.{Listing}
 use Rattle.world_moves.specs.Listings.{IsListStep, ListSteps}
 use Rattle.world_moves.specs.Moves.{IsDelivery, Delivers, IsStart, Starts}
-use Rattle.command_roots.specs.Roots.{command_at, root_request}
+use Rattle.command_roots.specs.Roots.{command_at, root_of, scripted}
 use Rattle.world_steps.specs.declared.acting.Stepped.{Stepped}
 use Rattle.world_steps.specs.declared.acting.Stepped.TheVariants.{Done, Waiting, NotRunning}
 use Rattle.world_steps.specs.Runs.{AnswersStep, FirstMoves, Passes, Settles, Steps}
-use Rattle.world_steps.specs.Scripts.{StartsWhere, DeliversWhere, ListsWhere, Does, HasRun, IsRun, can_start, closing}
+use Rattle.world_steps.specs.Scripts.{StartsWhere, DeliversWhere, ListsWhere, Does, HasRun, IsRun, can_page, can_start, closing, page_node}
 use Rattle.task_top.specs.EachLine.{IsCancelAt, TellsReasons}
 
 -- ---- events that name no task
@@ -133,7 +134,7 @@ module _ (c : ℕ) (t : TaskId) where
     steps_more : (u : TaskId) (h new : List Event) → Steps cluster corpus script u h new → NamesNoMore h new
     steps_more u h new (e, live, next, same) =
         ap (is_named c t) same
-        ∙ due_more e h (by_step cluster u h (is_new u h) (mark_of u h) (option_map (λ request. planned_step cluster corpus u request h) (request_of (root_request script) u h)) e next)
+        ∙ due_more e h (by_step cluster u h (is_new u h) (mark_of u h) (option_map (λ request. planned_step cluster corpus (scripted script) u request h) (request_of (scripted script) u h)) e next)
 
     answers_step_more : (u : TaskId) (h new : List Event) (stepped : Stepped) → AnswersStep cluster corpus script u h stepped new → NamesNoMore h new
     answers_step_more u h new Done steps = steps_more u h new steps
@@ -201,7 +202,10 @@ module _ (c : ℕ) (t : TaskId) where
 
     -- what a command names is its own, and it is a cancel
     by_command : (k : ℕ) (command : Command) → command_at script k ≡ Some command → (h new : List Event) → Does cluster corpus script k command h new → is_named c t new ≡ true → (is_named c t h ≡ true) ⊎ IsCancelAt script c
-    by_command k (commands.Search index node body opaque_id) at h new does named = inl (sym (starts_where (can_start corpus index body) k node h new does) ∙ named)
+    by_command k (commands.Search index node scroll body opaque_id) at h new does named = inl (sym (starts_where (can_start corpus index scroll body) k node h new does) ∙ named)
+    by_command k (commands.Scroll target keep opaque_id) at h new does named = inl (sym (starts_where (can_page script target h) k (page_node target h) h new does) ∙ named)
+    by_command k (commands.ClearScroll target) at h new does named = inl (sym (ap (is_named c t) does) ∙ named)
+    by_command k (commands.Tick ms) at h new does named = inl (sym (ap (is_named c t) does) ∙ named)
     by_command k (commands.Cancel target reason wait) at h new does named =
         by_test (c == k)
         (λ yes. let same : c ≡ k = grind (arith, same_tests) in inr (target, reason, wait, ap (command_at script) same ∙ at))

@@ -1,4 +1,4 @@
--- The task that a search has started ends, with a reply of a search.
+-- The task that a search or a scroll has started ends, with a reply of a search.
 use Rattle.std.proofs.Common.{◌≡◌, ◌≢◌, ◌⊎◌, ◌≤◌, ℕ, Bool, true, false, cond, List, [], ◌∷◌, ◌++◌, Option, Some, None, inl, inr, refl, sym, subst, ◌∙◌, arith}
 use Rattle.std.specs.Prelude.{◌==◌, is_some, length}
 use Rattle.task_ids.specs.declared.cluster.Cluster.{Cluster}
@@ -14,18 +14,22 @@ use Rattle.task_events.specs.declared.reply.Reply.TheVariants.{Search, AllFailed
 use Rattle.task_events.specs.declared.request.Request.{Request}
 use Rattle.task_events.specs.declared.request.Request.TheVariants as asks
 use Rattle.task_events.specs.declared.request.SearchAsk.{SearchAsk}
-use Rattle.task_events.specs.Answers.{ShardVersion, plain_answer}
+use Rattle.task_events.specs.Answers.{plain_answer}
+use Rattle.task_events.specs.Contexts.{page_of}
+use Rattle.task_events.specs.Readings.{Reading, search_reading, page_reading}
+use Rattle.task_events.specs.declared.context.Context.{Context}
+use Rattle.task_events.specs.declared.reply.ShardCount.{ShardCount}
 use Rattle.task_events.specs.Bans.{mark_of}
 use Rattle.task_events.specs.Lawful.{Lawful}
 use Rattle.task_events.specs.Same.{same_task}
-use Rattle.task_events.specs.Steps.{request_of}
+use Rattle.task_events.specs.Requests.{Scripted, request_of}
 use Rattle.task_events.specs.Tasks.{no_counts, is_live, last_number, reply_of}
 use Rattle.task_laws.proofs.Asks.{ask_facts}
 use Rattle.task_laws.proofs.Content.{answer_facts}
 use Rattle.task_laws.proofs.Same.{same_task_tells, same_tests}
 use Rattle.script_lang.specs.declared.command.Script.{Script}
 use Rattle.world_moves.specs.Plain.{AnswersPlainly, EndsPlainly}
-use Rattle.command_roots.specs.Roots.{root_request}
+use Rattle.command_roots.specs.Roots.{root_request, scripted}
 use Rattle.task_top.specs.EachLine.{IsSearchReply}
 
 module _ (k : ℕ) (t : TaskId) (base : List Event) where
@@ -47,11 +51,11 @@ module _ (k : ℕ) (t : TaskId) (base : List Event) where
     born (_ ∷ later) l = born later l.1
 
     -- it was asked what its command asks
-    pub asked_to : (roots : ℕ → Option Request) (later : List Event) → Lawful cluster (later ++ Root k t ∷ base) → request_of roots t (later ++ Root k t ∷ base) ≡ roots k
-    asked_to roots [] l = grind (arith, same_tests)
-    asked_to roots (Root c u ∷ later) l = let next = l.0.takes.next in grind (arith, same_tests, asked_to roots later l.1, born later l.1)
-    asked_to roots (Put u p j ∷ later) l = let next = l.0.takes.next in grind (arith, same_tests, asked_to roots later l.1, born later l.1)
-    asked_to roots (_ ∷ later) l = asked_to roots later l.1
+    pub asked_to : (said : Scripted) (later : List Event) → Lawful cluster (later ++ Root k t ∷ base) → request_of said t (later ++ Root k t ∷ base) ≡ said.root k base
+    asked_to said [] l = grind (arith, same_tests)
+    asked_to said (Root c u ∷ later) l = let next = l.0.takes.next in grind (arith, same_tests, asked_to said later l.1, born later l.1)
+    asked_to said (Put u p j ∷ later) l = let next = l.0.takes.next in grind (arith, same_tests, asked_to said later l.1, born later l.1)
+    asked_to said (_ ∷ later) l = asked_to said later l.1
 
     -- it had not ended before it was started
     new_then : (reply : Reply) → Lawful cluster (Root k t ∷ base) → reply_of t base ≡ Some reply → ⊥
@@ -63,20 +67,30 @@ module _ (k : ℕ) (t : TaskId) (base : List Event) where
 
 -- ---- the reply
 
-plain_reply : (t : TaskId) (ask : SearchAsk) (shards : ℕ) (writes : ℕ → List Doc) (answered : List ShardVersion) (failed : List FailedShard) → IsSearchReply t (plain_answer t ask shards writes answered failed)
-plain_reply t ask shards writes answered failed = by_count (length failed == shards) _
+plain_reply : (t : TaskId) (r : Reading) (writes : ℕ → List Doc) (answered : List ShardCount) (failed : List FailedShard) → IsSearchReply t (plain_answer r writes answered failed)
+plain_reply t r writes answered failed = by_count (length failed == length r.shards) _
   where
     by_count : (b : Bool) (reply : SearchReply) → IsSearchReply t (cond b (AllFailed failed) (Search reply))
     by_count true reply = tt
     by_count false reply = tt
 
-module _ (cluster : Cluster) (corpus : Corpus) (t : TaskId) (h : List Event) where
-  ends_so : (mark : Option ℕ) (ask : SearchAsk) (reply : Reply) → EndsPlainly cluster corpus t mark (Some (asks.Search ask)) h reply → IsSearchReply t reply
-  ends_so None ask reply e = subst (IsSearchReply t) (sym e.answer) (plain_reply t ask cluster.shards _ _ _)
-  ends_so (Some c) ask reply e = subst (IsSearchReply t) (sym e) refl
+-- a search, or a page of one
+abbrev pub asks_for_hits : Request → Bool
+asks_for_hits (asks.Search ask) = true
+asks_for_hits (asks.Scroll ask) = true
+asks_for_hits _ = false
 
-module _ (cluster : Cluster) (corpus : Corpus) (script : Script) (k : ℕ) (t : TaskId) (base : List Event) (ask : SearchAsk) (asked : root_request script k ≡ Some (asks.Search ask)) where
-  -- A task that a search has started replies as a search does.
+module _ (cluster : Cluster) (corpus : Corpus) (t : TaskId) (h : List Event) where
+  ends_so : (page : Option Context) (mark : Option ℕ) (request : Request) (reply : Reply) → asks_for_hits request ≡ true → EndsPlainly cluster corpus t page mark (Some request) h reply → IsSearchReply t reply
+  ends_so page (Some c) request reply hits e = subst (IsSearchReply t) (sym e) refl
+  ends_so page None (asks.Search ask) reply hits e = subst (IsSearchReply t) (sym e.answer) (plain_reply t (search_reading t ask cluster.shards) _ _ _)
+  ends_so (Some c) None (asks.Scroll ask) reply hits e = subst (IsSearchReply t) (sym e.answer) (plain_reply t (page_reading c) _ _ _)
+  ends_so None None (asks.Scroll ask) reply hits e = absurd e
+  ends_so page None (asks.Query ask) reply hits e = absurd (cc)
+  ends_so page None (asks.Fetch ask) reply hits e = absurd (cc)
+
+module _ (cluster : Cluster) (corpus : Corpus) (script : Script) (k : ℕ) (t : TaskId) (base : List Event) (request : Request) (hits : asks_for_hits request ≡ true) (asked : root_request script k base ≡ Some request) where
+  -- A task that a search or a scroll has started replies as a search does.
   pub replies_so : (later : List Event) (reply : Reply) → Lawful cluster (later ++ Root k t ∷ base) → AnswersPlainly cluster corpus script (later ++ Root k t ∷ base) → reply_of t (later ++ Root k t ∷ base) ≡ Some reply → IsSearchReply t reply
   replies_so [] reply l p e = absurd (new_then k t base cluster reply l e)
   replies_so (End u r ∷ later) reply l p e = by_task (replies_so later reply l.1 p.1) (same_task_tells t u)
@@ -85,11 +99,13 @@ module _ (cluster : Cluster) (corpus : Corpus) (script : Script) (k : ℕ) (t : 
       by_task earlier (inl (is_one, same)) =
           let given : Some r ≡ Some reply = rw is_one at e in
           let it : r ≡ reply = cc in
-          let mine : EndsPlainly cluster corpus t (mark_of t (later ++ Root k t ∷ base)) (request_of (root_request script) t (later ++ Root k t ∷ base)) (later ++ Root k t ∷ base) r =
-          subst (λ v. EndsPlainly cluster corpus v (mark_of v (later ++ Root k t ∷ base)) (request_of (root_request script) v (later ++ Root k t ∷ base)) (later ++ Root k t ∷ base) r) (sym same) p.0 in
-          let so : EndsPlainly cluster corpus t (mark_of t (later ++ Root k t ∷ base)) (Some (asks.Search ask)) (later ++ Root k t ∷ base) r =
-          subst (λ o. EndsPlainly cluster corpus t (mark_of t (later ++ Root k t ∷ base)) o (later ++ Root k t ∷ base) r) (asked_to k t base cluster (root_request script) later l.1 ∙ asked) mine in
-          subst (IsSearchReply t) it (ends_so cluster corpus t (later ++ Root k t ∷ base) _ ask r so)
+          let past = later ++ Root k t ∷ base in
+          let page = page_of (scripted script) t past in
+          let mine : EndsPlainly cluster corpus t page (mark_of t past) (request_of (scripted script) t past) past r =
+          subst (λ v. EndsPlainly cluster corpus v (page_of (scripted script) v past) (mark_of v past) (request_of (scripted script) v past) past r) (sym same) p.0 in
+          let so : EndsPlainly cluster corpus t page (mark_of t past) (Some request) past r =
+          subst (λ o. EndsPlainly cluster corpus t page (mark_of t past) o past r) (asked_to k t base cluster (scripted script) later l.1 ∙ asked) mine in
+          subst (IsSearchReply t) it (ends_so cluster corpus t past page (mark_of t past) request r hits so)
       by_task earlier (inr (differs, apart)) = earlier (rw differs at e)
   replies_so (Refuse u c ∷ later) reply l p e = by_task (replies_so later reply l.1 p) (same_task_tells t u)
     where

@@ -1,5 +1,5 @@
 -- No shard of a search failed to which nothing happened.
-use Rattle.std.proofs.Common.{◌≡◌, ◌≢◌, ◌⊎◌, ◌<◌, ◌≤◌, ℕ, Bool, true, false, cond, List, [], ◌∷◌, Option, Some, None, option_map, inl, inr, refl, sym, ap, subst, ◌∙◌, arith}
+use Rattle.std.proofs.Common.{◌≡◌, ◌≢◌, ◌⊎◌, ◌<◌, ◌≤◌, ℕ, Bool, true, false, cond, List, [], ◌∷◌, length, Option, Some, None, option_map, inl, inr, refl, sym, ap, subst, ◌∙◌, arith}
 use Rattle.std.specs.Prelude.{◌==◌, option_and_then, filter_map}
 use Rattle.std.specs.List.{range_with_len}
 use Rattle.std.specs.Option.{option_or}
@@ -17,7 +17,14 @@ use Rattle.task_events.specs.declared.request.Request.{Request}
 use Rattle.task_events.specs.declared.request.Request.TheVariants as asks
 use Rattle.task_events.specs.declared.request.SearchAsk.{SearchAsk}
 use Rattle.task_events.specs.Allowed.{cancellation_in}
-use Rattle.task_events.specs.Answers.{ShardVersion, plain_answer}
+use Rattle.std.proofs.lemmas.List.FromFn.{length-map-range_with_len}
+use Rattle.task_events.specs.declared.context.Context.{Context}
+use Rattle.task_events.specs.declared.reading.ShardRead.{ShardRead}
+use Rattle.task_events.specs.declared.reading.ShardRead.TheVariants.{Newest}
+use Rattle.task_events.specs.declared.reply.ShardCount.{ShardCount}
+use Rattle.task_events.specs.Answers.{plain_answer}
+use Rattle.task_events.specs.Contexts.{page_of}
+use Rattle.task_events.specs.Readings.{Reading, search_reading, shard_read}
 use Rattle.task_events.specs.Asks.{answer_of, rejection_of}
 use Rattle.task_events.specs.Bans.{mark_of}
 use Rattle.task_events.specs.Documents.{writes_of}
@@ -25,7 +32,7 @@ use Rattle.task_events.specs.Lawful.{Lawful}
 use Rattle.task_events.specs.Laws.{CancelsWithCause}
 use Rattle.task_events.specs.Same.{same_task}
 use Rattle.task_events.specs.Searches.{failure_in}
-use Rattle.task_events.specs.Steps.{request_of}
+use Rattle.task_events.specs.Requests.{request_of}
 use Rattle.task_events.specs.Tasks.{child_of, last_number, parent_of, refusal_of, reply_of}
 use Rattle.task_laws.proofs.Asks.{ask_facts}
 use Rattle.task_laws.proofs.Content.{answer_facts}
@@ -33,7 +40,7 @@ use Rattle.task_laws.proofs.Counts.{is_for}
 use Rattle.task_laws.proofs.Same.{same_task_tells, same_tests}
 use Rattle.script_lang.specs.declared.command.Script.{Script}
 use Rattle.world_moves.specs.Plain.{AnswersPlainly, EndsPlainly, IsPlainReply}
-use Rattle.command_roots.specs.Roots.{root_request}
+use Rattle.command_roots.specs.Roots.{scripted}
 use Rattle.task_events.specs.ShardOutcomes.{ask_for, answered_shards, failed_shards, failure_told, why_failed, is_query_of, is_fetch_of}
 use Rattle.task_top.specs.Unharmed.{IsUnharmed, IsWholeAnswer}
 
@@ -104,25 +111,24 @@ module _ (cluster : Cluster) (t : TaskId) (h : List Event) (lawful : Lawful clus
   no_cause : (shard : ℕ) → why_failed t h shard ≡ None
   no_cause shard = λ i. option_or (none_for (ask_for (is_query_of shard) t h) i) (none_for (ask_for (is_fetch_of shard) t h) i)
 
-  none_among : (shards : List ℕ) → filter_map (failure_told t h) shards ≡ []
+  none_among : (shards : List ShardRead) → filter_map (λ at. failure_told t h (shard_read at)) shards ≡ []
   none_among [] = refl
-  none_among (shard ∷ shards) = rw (no_cause shard) (none_among shards)
+  none_among (at ∷ shards) = rw (no_cause (shard_read at)) (none_among shards)
 
-  no_shard_failed : (shards : ℕ) → failed_shards shards t h ≡ []
-  no_shard_failed shards = none_among (range_with_len 0 shards)
-
-  whole : (task : TaskId) (ask : SearchAsk) (shards : ℕ) (writes : ℕ → List Doc) (answered : List ShardVersion) → 1 ≤ shards → IsWholeAnswer (plain_answer task ask shards writes answered [])
-  whole task ask shards writes answered low = by_count (0 == shards) (ne_eqb 0 shards (λ e. omega arith)) _ refl
+  whole : (r : Reading) (writes : ℕ → List Doc) (answered : List ShardCount) → 1 ≤ length r.shards → IsWholeAnswer (plain_answer r writes answered [])
+  whole r writes answered low = by_count (0 == length r.shards) (ne_eqb 0 (length r.shards) (λ e. omega arith)) _ refl
     where
       by_count : (b : Bool) → b ≡ false → (reply : SearchReply) → reply.failed ≡ [] → IsWholeAnswer (cond b (AllFailed []) (Search reply))
       by_count true is reply none = absurd (cc)
       by_count false is reply none = none
 
-  pub whole_answer : (corpus : Corpus) (ask : SearchAsk) (reply : Reply) → IsPlainReply cluster corpus t ask h reply → IsWholeAnswer reply
+  pub whole_answer : (corpus : Corpus) (ask : SearchAsk) (reply : Reply) → IsPlainReply cluster corpus t (search_reading t ask cluster.shards) h reply → IsWholeAnswer reply
   whole_answer corpus ask reply plain =
-      let answer : reply ≡ plain_answer t ask cluster.shards (writes_of corpus cluster.shards ask.index) (answered_shards cluster.shards t h) [] =
-      plain.answer ∙ ap (plain_answer t ask cluster.shards (writes_of corpus cluster.shards ask.index) (answered_shards cluster.shards t h)) (no_shard_failed cluster.shards) in
-      subst IsWholeAnswer (sym answer) (whole t ask cluster.shards (writes_of corpus cluster.shards ask.index) (answered_shards cluster.shards t h) cluster.shards_in_range.0)
+      let r = search_reading t ask cluster.shards in
+      let writes = writes_of corpus cluster.shards ask.index in
+      let answer : reply ≡ plain_answer r writes (answered_shards r writes t h) [] = plain.answer ∙ ap (plain_answer r writes (answered_shards r writes t h)) (none_among r.shards) in
+      let many : length r.shards ≡ cluster.shards = length-map-range_with_len Newest 0 cluster.shards in
+      subst IsWholeAnswer (sym answer) (whole r writes (answered_shards r writes t h) (omega (arith, many, cluster.shards_in_range.0)))
 
 -- ---- each search
 
@@ -139,30 +145,31 @@ module _ (cluster : Cluster) (corpus : Corpus) (script : Script) (causes : (h : 
           absurd (cc)
 
   -- what it was asked to do was known when it ended
-  asked_then : (e : Event) (h : List Event) → Lawful cluster (e ∷ h) → (reply : Reply) → reply_of t h ≡ Some reply → request_of (root_request script) t (e ∷ h) ≡ request_of (root_request script) t h
+  asked_then : (e : Event) (h : List Event) → Lawful cluster (e ∷ h) → (reply : Reply) → reply_of t h ≡ Some reply → request_of (scripted script) t (e ∷ h) ≡ request_of (scripted script) t h
   asked_then (Root c u) h l reply e = let next = l.0.takes.next in grind (arith, same_tests, replied_born h l.1 reply e)
   asked_then (Put u p k) h l reply e = let next = l.0.takes.next in grind (arith, same_tests, replied_born h l.1 reply e)
   asked_then _ h l reply e = refl
 
   at_its_end : (h : List Event) → Lawful cluster h → IsUnharmed t h → (mark : Option ℕ) → mark_of t h ≡ mark → (request : Option Request) (ask : SearchAsk) → request ≡ Some (asks.Search ask)
-      → (reply : Reply) → EndsPlainly cluster corpus t mark request h reply → IsWholeAnswer reply
-  at_its_end h l unharmed (Some c) e request ask asked reply plain = absurd (let none = unharmed.unmarked in cc)
-  at_its_end h l unharmed None e None ask asked reply plain = absurd (cc)
-  at_its_end h l unharmed None e (Some (asks.Search other)) ask asked reply plain = whole_answer cluster t h l (causes h l) unharmed corpus other reply plain
-  at_its_end h l unharmed None e (Some (asks.Query other)) ask asked reply plain = absurd (cc)
-  at_its_end h l unharmed None e (Some (asks.Fetch other)) ask asked reply plain = absurd (cc)
+      → (page : Option Context) (reply : Reply) → EndsPlainly cluster corpus t page mark request h reply → IsWholeAnswer reply
+  at_its_end h l unharmed (Some c) e request ask asked page reply plain = absurd (let none = unharmed.unmarked in cc)
+  at_its_end h l unharmed None e None ask asked page reply plain = absurd (cc)
+  at_its_end h l unharmed None e (Some (asks.Search other)) ask asked page reply plain = whole_answer cluster t h l (causes h l) unharmed corpus other reply plain
+  at_its_end h l unharmed None e (Some (asks.Query other)) ask asked page reply plain = absurd (cc)
+  at_its_end h l unharmed None e (Some (asks.Fetch other)) ask asked page reply plain = absurd (cc)
+  at_its_end h l unharmed None e (Some (asks.Scroll other)) ask asked page reply plain = absurd (cc)
 
   -- one event more
-  step : (e : Event) (h : List Event) → Lawful cluster (e ∷ h) → AnswersPlainly cluster corpus script (e ∷ h) → (ask : SearchAsk) (reply : Reply) → request_of (root_request script) t (e ∷ h) ≡ Some (asks.Search ask) → reply_of t (e ∷ h) ≡ Some reply
-      → IsUnharmed t (e ∷ h) → IsUnharmed t h → (AnswersPlainly cluster corpus script h → request_of (root_request script) t h ≡ Some (asks.Search ask) → reply_of t h ≡ Some reply → IsWholeAnswer reply) → IsWholeAnswer reply
+  step : (e : Event) (h : List Event) → Lawful cluster (e ∷ h) → AnswersPlainly cluster corpus script (e ∷ h) → (ask : SearchAsk) (reply : Reply) → request_of (scripted script) t (e ∷ h) ≡ Some (asks.Search ask) → reply_of t (e ∷ h) ≡ Some reply
+      → IsUnharmed t (e ∷ h) → IsUnharmed t h → (AnswersPlainly cluster corpus script h → request_of (scripted script) t h ≡ Some (asks.Search ask) → reply_of t h ≡ Some reply → IsWholeAnswer reply) → IsWholeAnswer reply
   step (End u r) h l plain ask reply asked replied now before earlier = by_task (same_task_tells t u)
     where
       by_task : ((same_task t u ≡ true) × (t ≡ u)) ⊎ ((same_task t u ≡ false) × (t ≢ u)) → IsWholeAnswer reply
       by_task (inl (is_one, same)) =
           let given : Some r ≡ Some reply = rw is_one at replied in
           let it : r ≡ reply = cc in
-          let mine : EndsPlainly cluster corpus t (mark_of t h) (request_of (root_request script) t h) h r = subst (λ v. EndsPlainly cluster corpus v (mark_of v h) (request_of (root_request script) v h) h r) (sym same) plain.0 in
-          subst IsWholeAnswer it (at_its_end h l.1 before (mark_of t h) refl (request_of (root_request script) t h) ask asked r mine)
+          let mine : EndsPlainly cluster corpus t (page_of (scripted script) t h) (mark_of t h) (request_of (scripted script) t h) h r = subst (λ v. EndsPlainly cluster corpus v (page_of (scripted script) v h) (mark_of v h) (request_of (scripted script) v h) h r) (sym same) plain.0 in
+          subst IsWholeAnswer it (at_its_end h l.1 before (mark_of t h) refl (request_of (scripted script) t h) ask asked (page_of (scripted script) t h) r mine)
       by_task (inr (differs, apart)) = earlier plain.1 asked (rw differs at replied)
   step (Refuse u c) h l plain ask reply asked replied now before earlier = by_task (same_task_tells t u)
     where
@@ -173,7 +180,7 @@ module _ (cluster : Cluster) (corpus : Corpus) (script : Script) (causes : (h : 
   step (Put u p k) h l plain ask reply asked replied now before earlier = earlier plain (sym (asked_then (Put u p k) h l reply replied) ∙ asked) replied
   step _ h l plain ask reply asked replied now before earlier = earlier plain asked replied
 
-  pub answers_wholly : (h : List Event) → Lawful cluster h → AnswersPlainly cluster corpus script h → (ask : SearchAsk) (reply : Reply) → request_of (root_request script) t h ≡ Some (asks.Search ask) → reply_of t h ≡ Some reply → IsUnharmed t h → IsWholeAnswer reply
+  pub answers_wholly : (h : List Event) → Lawful cluster h → AnswersPlainly cluster corpus script h → (ask : SearchAsk) (reply : Reply) → request_of (scripted script) t h ≡ Some (asks.Search ask) → reply_of t h ≡ Some reply → IsUnharmed t h → IsWholeAnswer reply
   answers_wholly [] l plain ask reply asked replied unharmed = absurd (cc)
   answers_wholly (e ∷ h) l plain ask reply asked replied unharmed =
       let before = unharmed_before cluster t e h l unharmed in

@@ -1,5 +1,5 @@
 -- Each command of a whole run has its line: what there is to tell of it stands in what happened.
-use Rattle.std.specs.Prelude.{◌≡◌, ◌≢◌, ◌≤◌, ◌⊎◌, ℕ, Bool, true, false, ◌==◌, List, [], ◌∷◌, ◌++◌, count_by, filter_map, length, Some, None, Err, ⊤}
+use Rattle.std.specs.Prelude.{◌≡◌, ◌≢◌, ◌≤◌, ◌⊎◌, ℕ, Bool, true, false, ◌==◌, List, [], ◌∷◌, ◌++◌, count_by, filter_map, length, is_some, Option, Some, None, Err, ⊤}
 use Rattle.std.specs.List.{list_any}
 use Rattle.serde_json.specs.Data.{Data}
 use Rattle.query_parse.specs.Bodies.{body_at}
@@ -11,8 +11,9 @@ use Rattle.task_ids.specs.declared.task_id.TaskId.{TaskId}
 use Rattle.task_ids.specs.declared.text.Text.{Text}
 use Rattle.script_lang.specs.declared.command.CancelTarget.{CancelTarget}
 use Rattle.script_lang.specs.declared.command.CancelTarget.TheVariants.{Matching}
+use Rattle.script_lang.specs.declared.command.ContextTarget.{ContextTarget}
 use Rattle.script_lang.specs.declared.command.Command.{Command}
-use Rattle.script_lang.specs.declared.command.Command.TheVariants.{Search, Cancel, ListTasks, Deliver, Step, ListStep, Settle, History}
+use Rattle.script_lang.specs.declared.command.Command.TheVariants.{Search, Scroll, ClearScroll, Tick, Cancel, ListTasks, Deliver, Step, ListStep, Settle, History}
 use Rattle.script_lang.specs.declared.command.Script.{Script}
 use Rattle.task_events.specs.declared.event.Event.{Event}
 use Rattle.task_events.specs.declared.event.Event.TheVariants as events
@@ -24,8 +25,9 @@ use Rattle.task_events.specs.Tasks.{is_live, refusal_of, reply_of}
 use Rattle.task_events.specs.Turns.{events_of, history_before}
 use Rattle.world_moves.specs.Cancels.{is_answered, target_of, targets}
 use Rattle.world_moves.specs.Listings.{is_open}
-use Rattle.command_roots.specs.Roots.{command_at}
+use Rattle.command_roots.specs.Roots.{command_at, least_size}
 use Rattle.world_steps.specs.Runs.{next_of}
+use Rattle.world_steps.specs.Scripts.{can_page, page_node}
 use Rattle.line_print.specs.Lines.{is_known, named_in, finds_none, note_of, line_of, printed}
 
 -- ---- a search
@@ -38,10 +40,10 @@ IsSearchReply t (replies.Cancelled u c counts) = u ≡ t
 IsSearchReply t _ = ⊥
 
 -- the body has a fault; want of memory is none
-abbrev pub HasFault : Data → Type 0
-HasFault body = (fault : BodyError) × (body_at false 0 body ≡ Err fault) × (fault ≢ Memory)
+abbrev pub HasFault : Option ℕ → Data → Type 0
+HasFault scroll body = (fault : BodyError) × (body_at (is_some scroll) (least_size scroll) body ≡ Err fault) × (fault ≢ Memory)
 
--- the task of a command started and ended with a reply of a search
+-- the task of a command started and ended with a reply of a search or of a page of one
 pub record HasEnded (k : ℕ) (h : List Event) : Type 0 where
   pub task : TaskId
   pub reply : Reply
@@ -50,11 +52,20 @@ pub record HasEnded (k : ℕ) (h : List Event) : Type 0 where
   pub told : IsSearchReply task reply
 
 -- Its body has a fault, or no document is of its index, or its node had no slot, or its task ended.
-abbrev pub TellsSearch : Corpus → List ℕ → ℕ → Data → ℕ → List Event → Type 0
-TellsSearch corpus index node body k h =
-    HasFault body
+abbrev pub TellsSearch : Corpus → List ℕ → ℕ → Option ℕ → Data → ℕ → List Event → Type 0
+TellsSearch corpus index node scroll body k h =
+    HasFault scroll body
     ⊎ (is_known corpus index ≡ false)
     ⊎ (events_of k h ≡ events.RootRejected k node ∷ [])
+    ⊎ HasEnded k h
+
+-- ---- a scroll
+
+-- Its context was missing or busy as it came, or the node of that had no slot, or its task ended.
+abbrev pub TellsPage : Script → ContextTarget → ℕ → List Event → Type 0
+TellsPage script target k h =
+    (can_page script target (history_before k h) ≡ false)
+    ⊎ (events_of k h ≡ events.RootRejected k (page_node target (history_before k h)) ∷ [])
     ⊎ HasEnded k h
 
 -- ---- a cancel
@@ -91,9 +102,12 @@ module _ (cluster : Cluster) (corpus : Corpus) (script : Script) where
   abbrev pub Waits : TaskId → List Event → Type 0
   Waits t past = (is_live t past ≡ true) × (next_of cluster corpus script t past ≡ None)
 
-  -- What the line of a command tells: a `deliver`, a `step` or a `list_step` of its events, or else of why nothing happened. A list tells what was noted of it; a `settle` and a `history` tell of any number of events.
+  -- What the line of a command tells: a `deliver`, a `step` or a `list_step` of its events, or else of why nothing happened. A list and a clear tell what was noted of them; a `settle` and a `history` tell of any number of events.
   abbrev pub HasItsLine : List Event → ℕ → Command → Type 0
-  HasItsLine h k (Search index node body opaque_id) = TellsSearch corpus index node body k h
+  HasItsLine h k (Search index node scroll body opaque_id) = TellsSearch corpus index node scroll body k h
+  HasItsLine h k (Scroll target keep opaque_id) = TellsPage script target k h
+  HasItsLine h k (ClearScroll target) = ⊤
+  HasItsLine h k (Tick ms) = events_of k h ≡ events.Tick ms ∷ []
   HasItsLine h k (Cancel target reason wait) = TellsCancel cluster script target k h
   HasItsLine h k (ListTasks wanted group detailed) = ⊤
   HasItsLine h k (Deliver nth) = Moved k h ⊎ (length (in_flight (as_began k h)) ≤ nth)

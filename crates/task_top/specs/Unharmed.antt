@@ -9,9 +9,9 @@ use Rattle.task_events.specs.declared.request.Request.TheVariants as asks
 use Rattle.task_events.specs.declared.request.SearchAsk.{SearchAsk}
 use Rattle.task_events.specs.Asks.{rejection_of}
 use Rattle.task_events.specs.Bans.{mark_of}
-use Rattle.task_events.specs.Steps.{request_of}
+use Rattle.task_events.specs.Requests.{request_of}
 use Rattle.task_events.specs.Tasks.{parent_of, refusal_of, reply_of}
-use Rattle.command_roots.specs.Roots.{root_request}
+use Rattle.command_roots.specs.Roots.{scripted}
 
 -- Neither the task nor a child of it is marked or refused, and none of its requests was rejected.
 pub record IsUnharmed (t : TaskId) (h : List Event) : Type 0 where
@@ -28,4 +28,4 @@ IsWholeAnswer _ = ⊥
 
 -- Each search that has ended unharmed replied with an answer in which no shard failed.
 abbrev pub AnswersWholly : Script → List Event → Type 0
-AnswersWholly script h = (t : TaskId) (ask : SearchAsk) (reply : Reply) → request_of (root_request script) t h ≡ Some (asks.Search ask) → reply_of t h ≡ Some reply → IsUnharmed t h → IsWholeAnswer reply
+AnswersWholly script h = (t : TaskId) (ask : SearchAsk) (reply : Reply) → request_of (scripted script) t h ≡ Some (asks.Search ask) → reply_of t h ≡ Some reply → IsUnharmed t h → IsWholeAnswer reply

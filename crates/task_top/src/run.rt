@@ -3,7 +3,7 @@
 ghost use Rattle.std.specs.Prelude.{◌≡◌, ◌+◌, ◌≤◌, [], None, Some, length, slice_get, OnOk, IfOk, IfErr};
 ghost use Rattle.task_events.specs.Lawful.{Lawful};
 ghost use Rattle.world_moves.specs.Plain.{AnswersPlainly};
-ghost use Rattle.world_steps.specs.Scripts.{CanRun};
+ghost use Rattle.world_steps.specs.Scripts.{CanDo, CanRun};
 ghost use Rattle.line_print.specs.Lines.{note_of};
 ghost use Rattle.task_top.specs.Progress.{HasCome, EndsEarly, EndsWhole};
 
@@ -14,10 +14,11 @@ use task_events::{History, Stop};
 use task_ids::{Cluster, Corpus, Items};
 use world_steps::World;
 
-/// What is noted of a command before it runs: what it lists, or why it makes nothing happen if it does not. It fails only for
-/// want of memory.
+/// What is noted of a command before it runs: what it lists, why it has no page, whether it frees a context, the moment that it makes,
+/// or why it makes nothing happen if it does not. It fails only for want of memory.
 fn note_of(world: &World<'_>, command: &Command) -> Result<Option<Note>, Stop>
-    requires { world.now.stopped ≡ None }
+    requires goes_on { world.now.stopped ≡ None }
+    requires can { CanDo world.now.cluster.nodes command.now }
     ensures ok { IfOk result (λ note. note ≡ note_of world.now.cluster world.now.script command.now world.now.past) }
     ensures early { IfErr result (λ stop. stop ≡ Stop.Memory) }
 {
@@ -30,6 +31,16 @@ fn note_of(world: &World<'_>, command: &Command) -> Result<Option<Note>, Stop>
             let text = world.list(filter, *group, *detailed)?;
             Ok(Some(Note::Listed(Items::from_vec(text))))
         }
+        Command::Scroll { context, .. } => {
+            let id = world.context(context);
+            Ok(
+                world
+                    .no_page(context)
+                    .map(|error| Note::NoPage { id, error }),
+            )
+        }
+        Command::ClearScroll { context } => Ok(Some(Note::Freed(world.can_clear(context)))),
+        Command::Tick { ms } => Ok(Some(Note::Moment(world.now() + *ms))),
         Command::Deliver { .. } => {
             let in_flight = world.in_flight();
             Ok(Some(Note::NoSuchMessage { in_flight }))
@@ -51,6 +62,7 @@ fn run_command(
 ) -> Result<(), Stop>
     requires come { HasCome script.now place found.old.items world.old }
     requires next { slice_get script.now.commands place ≡ Some command.now }
+    requires can { CanDo world.old.cluster.nodes command.now }
     requires few { length script.now.commands ≤ 65535 }
     ensures ok { OnOk result (HasCome script.now (place + 1) found.new.items world.new) }
     ensures early { IfErr result (λ stop. EndsEarly world.old.cluster world.old.corpus script.now world.new.past stop) }
@@ -70,6 +82,7 @@ fn run_commands(
     found: &mut Vec<Option<Note>>,
 ) -> Result<(), Stop>
     requires come { HasCome script.now 0 found.old.items world.old }
+    requires can { CanRun world.old.cluster.nodes script.now.commands }
     requires few { length script.now.commands ≤ 65535 }
     ensures ok { OnOk result (HasCome script.now (length script.now.commands) found.new.items world.new) }
     ensures early { IfErr result (λ stop. EndsEarly world.old.cluster world.old.corpus script.now world.new.past stop) }
@@ -84,6 +97,7 @@ fn run_commands(
 /// Runs all commands and drains the world.
 fn run_all(alloc: Global, world: &mut World<'_>, script: &Script) -> Result<Vec<Option<Note>>, Stop>
     requires come { HasCome script.now 0 [] world.old }
+    requires can { CanRun world.old.cluster.nodes script.now.commands }
     requires few { length script.now.commands ≤ 65535 }
     ensures whole { IfOk result (λ found. EndsWhole world.old.cluster world.old.corpus script.now world.new.past found.items) }
     ensures early { IfErr result (λ stop. EndsEarly world.old.cluster world.old.corpus script.now world.new.past stop) }

@@ -28,8 +28,9 @@ const MAX_INPUT: usize = 67_108_864;
 /// Reads an input to its end, runs its script step by step on a cluster, and writes the line of each command.
 ///
 /// The input is documents as Elasticsearch's bulk API takes them, a line `--`, and the lines of a script. The script runs in
-/// a serial world: its nodes are simulated, and one thing happens after another. It starts searches, lists and cancels them, and
-/// may say itself which message comes next, and which task or listing makes a step. After the last command the world is
+/// a serial world: its nodes are simulated, and one thing happens after another. It starts searches, pages
+/// through them, lists and cancels them, moves the clock, and may say itself which message comes next, and which task or listing makes
+/// a step. After the last command the world is
 /// drained, so that nothing goes on when the call ends, and every cancel has its answer.
 ///
 /// The lines are written once all has run. Where the run comes to an early end nothing is written.
@@ -52,16 +53,17 @@ pub fn sim_top<S: Source, K: Sink>(
     // there ends. A waiting cancel is answered only when no task that it named and no descendant is live. Once its messages
     // are handled, an ended task has no ban. A task is cancelled only by a cancel that named it or an ancestor.
     ensures laws { (later h : List Event) → later ++ h ≡ result.1.history → KeepsAllLaws h }
-    // The reply of a search is cancelled exactly where its task was marked, with the number of the mark.
+    // The reply of a search or of a page is cancelled exactly where its task was marked, with the number of the mark.
     ensures cancelled { CancelsExactly result.1.history }
-    // Each search that ended in it without being cancelled replied with the plain answer.
+    // Each search that ended in it without being cancelled replied with the plain answer, and each page of one with that over its context:
+    // of the shards that this keeps, each as it was read, the rows after its cursor.
     ensures plain { AnswersPlainly cluster.now result.1.corpus result.1.script result.1.history }
     // No shard of it failed where nothing happened to it: neither it nor a child of it was marked or refused, and none of its requests was rejected.
     ensures unharmed { AnswersWholly result.1.script result.1.history }
     // After a whole run nothing is live, in flight or listed, no ban stands, and every cancel that named a task is answered.
     ensures rests { Rests result.0 result.1 }
-    // So each command has its line: a search the end of its task or what refused it, a cancel its answer or that it found no task, a list what
-    // it lists, a line of a schedule its events or why nothing happened; and what is printed for it is one line.
+    // So each command has its line: a search or a scroll the end of its task or what refused it, a tick its event, a cancel its answer or that it
+    // found no task, a list what it lists, a line of a schedule its events or why nothing happened; and what is printed for it is one line.
     ensures each_has_its_line { TellsEach cluster.now result.0 result.1 }
     // Where the sink tells its bytes: they grew by the printed lines of the run.
     ensures output { WritesLines cluster.now (K.written out.old) (K.written out.new) result.0 result.1 }
