@@ -28,10 +28,9 @@ const MAX_INPUT: usize = 67_108_864;
 /// Reads an input to its end, runs its script step by step on a cluster, and writes the line of each command.
 ///
 /// The input is documents as Elasticsearch's bulk API takes them, a line `--`, and the lines of a script. The script runs in
-/// a serial world: its nodes are simulated, and one thing happens after another. It starts searches, pages
-/// through them, lists and cancels them, moves the clock, and may say itself which message comes next, and which task or listing makes
-/// a step. After the last command the world is
-/// drained, so that nothing goes on when the call ends, and every cancel has its answer.
+/// a serial world: its nodes are simulated, and one thing happens after another. It starts searches, pages through them, lists
+/// and cancels them, moves the clock, and may say itself which message comes next, and which task or listing makes a step. After
+/// the last command the world is drained, so that nothing goes on when the call ends, and every cancel has its answer.
 ///
 /// The lines are written once all has run. Where the run comes to an early end nothing is written.
 pub fn sim_top<S: Source, K: Sink>(

@@ -8,7 +8,7 @@ ghost use Rattle.task_table.specs.Answer.{refused_token};
 ghost use Rattle.task_events.specs.declared.history.TheConstants.{MAX_EVENTS};
 ghost use Rattle.task_events.specs.Cancels.{beginning, last_command};
 ghost use Rattle.world_moves.specs.Moves.{Starts, NodeLacksNumber, IsPartly, IsCutShort};
-ghost use Rattle.command_roots.specs.Roots.{root_request, root_headers};
+ghost use Rattle.command_roots.specs.Roots.{root_headers, root_request};
 ghost use Rattle.node_parts.specs.Starting.{task_for};
 ghost use Rattle.world_moves.specs.Paging.{CanTake};
 ghost use Rattle.world_moves.specs.Ties.{IsTied, Keeps, task_at};

@@ -1,6 +1,6 @@
 //! Pages of searches, and the contexts that commands are about.
 
-ghost use Rattle.std.specs.Prelude.{◌≡◌, ◌≤◌, true, is_ok, Some, None, option_and_then, IfErr, OnOk, OnErr, ℕ};
+ghost use Rattle.std.specs.Prelude.{◌≡◌, ◌≤◌, true, Some, None, option_and_then, IfErr, OnOk, OnErr, ℕ};
 ghost use Rattle.task_events.specs.declared.request.Request.TheVariants as asks;
 ghost use Rattle.task_events.specs.Cancels.{beginning};
 ghost use Rattle.task_events.specs.Contexts.{can_clear, context_at};

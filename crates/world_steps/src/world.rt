@@ -304,9 +304,11 @@ impl<'a> World<'a> {
 
     /// Begins a command of the script, the next in order, and does what it says. Commands are numbered from 1.
     ///
-    /// A search starts at its node, or is rejected there, where its body has no fault and some document is of its index;
-    /// a cancel names and marks its task where it is live, or the live tasks that its filter lets through; a `deliver`, a `step`,
-    /// a `list_step` and a `settle` make their moves where there are such; `list` and `history` make none.
+    /// A search starts at its node, or is rejected there, where its body has no fault and some document is of its index; a scroll
+    /// so at the node of its context, where that stands and no task uses it; a clear takes its context away as it begins; a tick
+    /// moves the clock, by a day at most, and takes away each context that was not used for its keep-alive; a cancel names and
+    /// marks its task where it is live, or the live tasks that its filter lets through; a `deliver`, a `step`, a `list_step` and a
+    /// `settle` make their moves where there are such; `list` and `history` make none.
     ///
     /// Once it has come to an early end, the world answers that for ever and keeps its past, which is that of a first part
     /// of the command.
