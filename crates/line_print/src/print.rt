@@ -66,7 +66,7 @@ fn push_hit(alloc: Global, out: &mut Vec<u8>, hit: &Hit) -> Result<(), AllocErro
     ensures { OnOk result (out.new.items ≡ out.old.items ++ compact_text (hit_json hit.now)) }
 {
     push(out, "{\"_id\":")?;
-    push_quoted(alloc, out, hit.doc.id.as_str())?;
+    push_quoted(alloc, out, hit.doc.id.get().as_str())?;
     push(out, ",\"_index\":")?;
     push_quoted(alloc, out, hit.index.get().as_str())?;
     push(out, ",\"_source\":")?;

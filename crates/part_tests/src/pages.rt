@@ -159,7 +159,7 @@ fn a_page_shows_the_rows_after_the_cursor(rt: HostRuntime) {
     };
     let hits = page.hits.as_slice();
     assert!(rt; hits.len() == 2);
-    assert!(rt; hits[0].doc.id.as_str() == "a" && hits[1].doc.id.as_str() == "f");
+    assert!(rt; hits[0].doc.id.get().as_str() == "a" && hits[1].doc.id.get().as_str() == "f");
     assert!(rt; page.total == 5 && page.failed.as_slice().is_empty());
     assert!(rt;
         page.last

@@ -26,7 +26,7 @@ pub(crate) fn text(alloc: Global, text: &str) -> Result<Text, AllocError> {
 
 pub(crate) fn write(alloc: Global, shard: &mut Shard, line: &str) -> Option<()> {
     let (id, source) = line.split_once(" ")?;
-    let id = text(alloc, id).ok()?;
+    let id = Shared::new(alloc, text(alloc, id).ok()?).ok()?;
     let source = DocSource::new(alloc, Value::from_str(alloc, source).ok()?).ok()?;
     shard.write(Doc { id, source }).ok()?;
     Some(())

@@ -2,6 +2,7 @@
 
 use serde_json::Value;
 use shard_docs::{Shard, Written, hash_id, node_of, shard_of, slice_of};
+use shared_value::Shared;
 use std::alloc::Global;
 use task_ids::{Doc, DocSource, Text};
 
@@ -15,7 +16,7 @@ fn hashes_place_documents(rt: HostRuntime) {
 
 /// Writes a document of the id `x` with this source.
 fn write(alloc: Global, shard: &mut Shard, source: &str) -> Option<Written> {
-    let id = Text::new(String::from_str(alloc, "x").ok()?);
+    let id = Shared::new(alloc, Text::new(String::from_str(alloc, "x").ok()?)).ok()?;
     let value = Value::from_str(alloc, source).ok()?;
     let source = DocSource::new(alloc, value).ok()?;
     shard.write(Doc { id, source }).ok()

@@ -3,13 +3,14 @@
 use reindex::BulkShardWork;
 use serde_json::Value;
 use shard_docs::Shard;
+use shared_value::Shared;
 use std::alloc::Global;
 use task_events::{BulkShardAsk, WriteNote};
 use task_ids::{Doc, DocSource, Items, Text};
 
 /// A document of this id, with the number in its source.
 fn doc(alloc: Global, id: &str, number: u32) -> Option<Doc> {
-    let id = Text::new(String::from_str(alloc, id).ok()?);
+    let id = Shared::new(alloc, Text::new(String::from_str(alloc, id).ok()?)).ok()?;
     let source = format!(in alloc; "{{\"n\":{number}}}").ok()?;
     let value = Value::from_str(alloc, source.as_str()).ok()?;
     let source = DocSource::new(alloc, value).ok()?;
@@ -17,7 +18,7 @@ fn doc(alloc: Global, id: &str, number: u32) -> Option<Doc> {
 }
 
 fn ask_for(alloc: Global, docs: Vec<Doc>) -> Option<BulkShardAsk> {
-    let dest = Text::new(String::from_str(alloc, "b").ok()?);
+    let dest = Shared::new(alloc, Text::new(String::from_str(alloc, "b").ok()?)).ok()?;
     let docs = Items::from_vec(docs);
     Some(BulkShardAsk {
         dest,
@@ -36,10 +37,10 @@ fn three_docs(alloc: Global) -> Option<Vec<Doc>> {
 }
 
 fn is_note(note: &WriteNote, created: bool, id: &str) -> bool {
-    note.index.as_str() == "b"
+    note.index.get().as_str() == "b"
         && note.shard == 1
         && note.created == created
-        && note.id.as_str() == id
+        && note.id.get().as_str() == id
 }
 
 fn are_noted(notes: &[WriteNote]) -> bool {

@@ -11,8 +11,9 @@ use crate::fault::CorpusError;
 use crate::json_line::source_of_line;
 use crate::lines::split_line;
 use crate::seen::Seen;
-use std::alloc::Global;
-use task_ids::{Cause, Corpus, CorpusLine, Doc, Items};
+use shared_value::Shared;
+use std::alloc::{AllocError, Global};
+use task_ids::{Cause, Corpus, CorpusLine, Doc, Items, Text};
 
 /// The line between the documents and the script.
 const DASHES: &str = "--";
@@ -42,6 +43,13 @@ fn source_after(number: u32, bytes: &[u8]) -> Result<(&[u8], &[u8]), CorpusError
     }
 }
 
+/// The id of a document, which its copies share.
+fn shared_id(alloc: Global, id: Text) -> Result<Shared<Text>, AllocError>
+    ensures { IfOk result (λ shared. shared ≡ id) }
+{
+    Ok(Shared::new(alloc, id)?)
+}
+
 /// The document of an action at a line and of its source on the next line. It is noted.
 #[tactic(auto, unfolding(crate::specs::Corpus::document))]
 fn document_of(
@@ -61,6 +69,7 @@ fn document_of(
     }
     let source = source_of_line(alloc, number + 1, source)?;
     let BulkAction { index, id, .. } = action;
+    let id = shared_id(alloc, id)?;
     let doc = Doc { id, source };
     Ok(CorpusLine { index, doc })
 }

@@ -87,7 +87,7 @@ impl Shard {
         if place == MAX_ROWS {
             return Err(AllocError);
         }
-        let id = String::from_str(*self.rows.allocator(), doc.id.as_str())?;
+        let id = String::from_str(*self.rows.allocator(), doc.id.get().as_str())?;
         self.rows.push(StoredRow { doc, died: None })?;
         let Ok(replaced) = self.living.insert(id, place as u32) else {
             self.rows.truncate(place);

@@ -11,15 +11,15 @@ use shared_value::Shared;
 use std::alloc::{AllocError, Global};
 use std::marker::Model;
 
-/// A document: its id in its index, and its source.
+/// A document: its id in its index, and its source. Both are shared, so a copy costs two counts.
 #[derive(Drop)]
 pub struct Doc {
-    pub id: Text,
+    pub id: Shared<Text>,
     pub source: DocSource,
 }
 
 impl Doc {
-    /// An equal document. It fails only for want of memory.
+    /// An equal document. It takes no memory, and fails only where one of them has too many owners.
     pub fn copy(&self) -> Result<Doc, AllocError>
         ensures { IfOk result (λ doc. doc ≡ self.now) }
     {

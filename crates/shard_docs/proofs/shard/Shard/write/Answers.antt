@@ -10,14 +10,14 @@ use Rattle.shard_docs.proofs.shard.Shard.write.Goals as goal
 pub index_mut-requires : goal.index_mut-requires
 index_mut-requires c =
     let rows = c.self.inside.rows.items in
-    let named : string_bytes c.in_ok-id.id ≡ c.args.doc.id = c.in_ok-id.ensures.ok ∙ c.as_str.ensures in
+    let named : string_bytes c.in_ok-id.id ≡ c.args.doc.id = c.in_ok-id.ensures.ok ∙ c.as_str.ensures ∙ c.get.ensures in
     let found = found_place rows c.self.inside.living c.args.doc c.in_ok-id.id c.in-Ok.replaced (Some c.in-Some.replaced) c.self.invariant named c.in-Ok.ensures.old c.in-Some.is in
     omega (arith, place_within c.args.doc.id (docs_of rows) c.in-Some.replaced found, length-map rows (λ (row : StoredRow). row.doc), ap length c.in_ok-push.ensures.items, length-append rows (record { doc = c.args.doc; died = None } ∷ []))
 
 pub invariant_of-self-in_default-replaced : goal.invariant_of-self-in_default-replaced
 invariant_of-self-in_default-replaced c =
     let rows = c.self.inside.rows.items in
-    let named : string_bytes c.in_ok-id.id ≡ c.args.doc.id = c.in_ok-id.ensures.ok ∙ c.as_str.ensures in
+    let named : string_bytes c.in_ok-id.id ≡ c.args.doc.id = c.in_ok-id.ensures.ok ∙ c.as_str.ensures ∙ c.get.ensures in
     let none = found_place rows c.self.inside.living c.args.doc c.in_ok-id.id c.in-Ok.replaced None c.self.invariant named c.in-Ok.ensures.old c.in_default-replaced.is in
     let counted : c.len-place.result ≡ length rows = omega arith in
     let writes : Updates string_eq c.self.inside.living c.insert.new.self c.in_ok-id.id (Some (length rows)) =
@@ -28,14 +28,14 @@ invariant_of-self-in_default-replaced c =
 pub returns-in_default-replaced-clause-outcome : goal.returns-in_default-replaced-clause-outcome
 returns-in_default-replaced-clause-outcome c =
     let rows = c.self.inside.rows.items in
-    let named : string_bytes c.in_ok-id.id ≡ c.args.doc.id = c.in_ok-id.ensures.ok ∙ c.as_str.ensures in
+    let named : string_bytes c.in_ok-id.id ≡ c.args.doc.id = c.in_ok-id.ensures.ok ∙ c.as_str.ensures ∙ c.get.ensures in
     let none = found_place rows c.self.inside.living c.args.doc c.in_ok-id.id c.in-Ok.replaced None c.self.invariant named c.in-Ok.ensures.old c.in_default-replaced.is in
     rw (← c.self.view_is) (sym (ap (λ b. cond b Updated Created) (alive_is_written c.args.doc.id (docs_of rows) ∙ ap is_some none)))
 
 pub invariant_of-self-2 : goal.invariant_of-self-2
 invariant_of-self-2 c =
     let rows = c.self.inside.rows.items in
-    let named : string_bytes c.in_ok-id.id ≡ c.args.doc.id = c.in_ok-id.ensures.ok ∙ c.as_str.ensures in
+    let named : string_bytes c.in_ok-id.id ≡ c.args.doc.id = c.in_ok-id.ensures.ok ∙ c.as_str.ensures ∙ c.get.ensures in
     let found = found_place rows c.self.inside.living c.args.doc c.in_ok-id.id c.in-Ok.replaced (Some c.in-Some.replaced) c.self.invariant named c.in-Ok.ensures.old c.in-Some.is in
     let counted : c.len-place.result ≡ length rows = omega arith in
     let writes : Updates string_eq c.self.inside.living c.insert.new.self c.in_ok-id.id (Some (length rows)) =
@@ -47,7 +47,7 @@ invariant_of-self-2 c =
 pub returns-clause-outcome : goal.returns-clause-outcome
 returns-clause-outcome c =
     let rows = c.self.inside.rows.items in
-    let named : string_bytes c.in_ok-id.id ≡ c.args.doc.id = c.in_ok-id.ensures.ok ∙ c.as_str.ensures in
+    let named : string_bytes c.in_ok-id.id ≡ c.args.doc.id = c.in_ok-id.ensures.ok ∙ c.as_str.ensures ∙ c.get.ensures in
     let found = found_place rows c.self.inside.living c.args.doc c.in_ok-id.id c.in-Ok.replaced (Some c.in-Some.replaced) c.self.invariant named c.in-Ok.ensures.old c.in-Some.is in
     rw (← c.self.view_is) (sym (ap (λ b. cond b Updated Created) (alive_is_written c.args.doc.id (docs_of rows) ∙ ap is_some found)))
 
