@@ -1,12 +1,12 @@
 -- The contexts of scrolls: a search opens one, its pages use it one after the other, and it is gone once it was not used for its keep-alive,
 -- or is cleared.
-use Rattle.std.specs.Prelude.{ℕ, ◌+◌, List, [], ◌∷◌, Bool, true, false, not, ◌&&◌, ◌||◌, ◌==◌, nat_le, Option, Some, None, is_some, option_map, if◌then◌else◌}
+use Rattle.std.specs.Prelude.{ℕ, ◌+◌, List, [], ◌∷◌, Bool, false, not, ◌&&◌, ◌||◌, ◌==◌, nat_le, Option, Some, None, is_some, option_map, if◌then◌else◌}
 use Rattle.std.specs.Option.{option_eq, option_or}
 use Rattle.std.specs.Str.{bytes_eq}
 use Rattle.task_ids.specs.declared.task_id.TaskId.{TaskId}
 use Rattle.task_events.specs.declared.context.Context.{Context}
 use Rattle.task_events.specs.declared.event.Event.{Event}
-use Rattle.task_events.specs.declared.event.Event.TheVariants.{Begin, Root, End, Tick}
+use Rattle.task_events.specs.declared.event.Event.TheVariants.{Begin, Root, Pass, End, Tick}
 use Rattle.task_events.specs.declared.reply.Reply.{Reply}
 use Rattle.task_events.specs.declared.reply.Reply.TheVariants.{Search}
 use Rattle.task_events.specs.declared.reply.SearchReply.{SearchReply}
@@ -81,9 +81,9 @@ after_begin None id c = c
 after_begin (Some cleared) id c = if same_task cleared id && can_clear None c then None else c
 
 -- a task that asks for a page takes it at this moment
-abbrev pub after_root : ℕ → TaskId → Option Request → TaskId → Option Context → Option Context
-after_root now t (Some (asks.Scroll ask)) id c = if same_task ask.id id then option_map (with_use now ask.keep t) c else c
-after_root now t _ id c = c
+abbrev pub after_taking : ℕ → TaskId → Option Request → TaskId → Option Context → Option Context
+after_taking now t (Some (asks.Scroll ask)) id c = if same_task ask.id id then option_map (with_use now ask.keep t) c else c
+after_taking now t _ id c = c
 
 -- the last row that a page showed, where it is a good one
 abbrev pub cursor_in : Reply → Option HitKey
@@ -96,14 +96,19 @@ after_end now t (Some (asks.Search ask)) (Search reply) id c = if same_task t id
 after_end now t (Some (asks.Scroll ask)) reply id c = if same_task ask.id id then option_map (given_back (cursor_in reply) now) c else c
 after_end now t _ reply id c = c
 
+-- a task that has ended leaves no context behind that belongs to it, unless a task uses it
+abbrev pub without_owned : TaskId → Option Context → Option Context
+without_owned t c = if can_clear (Some t) c then None else c
+
 -- ---- the past
 
 -- The context of an id, where it stands.
 abbrev pub context_at : Scripted → TaskId → List Event → Option Context
 context_at script id [] = None
 context_at script id (Begin k ∷ h) = after_begin (script.clears k h) id (context_at script id h)
-context_at script id (Root k t ∷ h) = after_root (clock h) t (script.root k h) id (context_at script id h)
-context_at script id (End t reply ∷ h) = after_end (clock h) t (request_of script t h) reply id (context_at script id h)
+context_at script id (Root k t ∷ h) = after_taking (clock h) t (script.root k h) id (context_at script id h)
+context_at script id (Pass t ∷ h) = after_taking (clock h) t (request_of script t h) id (context_at script id h)
+context_at script id (End t reply ∷ h) = without_owned t (after_end (clock h) t (request_of script t h) reply id (context_at script id h))
 context_at script id (Tick ms ∷ h) = unexpired (clock h + ms) (context_at script id h)
 context_at script id (_ ∷ h) = context_at script id h
 
@@ -112,8 +117,9 @@ abbrev pub asked_page : (TaskId → Option Context) → Option Request → Optio
 asked_page look (Some (asks.Scroll ask)) = look ask.id
 asked_page look _ = None
 
--- The context of which a task shows a page, as it stood when the task started.
+-- The context of which a task shows a page, as it stood when the task took it: a root when it started, a child when it passed.
 abbrev pub page_of : Scripted → TaskId → List Event → Option Context
 page_of script t [] = None
 page_of script t (Root k u ∷ h) = if same_task t u then asked_page (λ id. context_at script id h) (script.root k h) else page_of script t h
+page_of script t (Pass u ∷ h) = if same_task t u then asked_page (λ id. context_at script id h) (request_of script t h) else page_of script t h
 page_of script t (_ ∷ h) = page_of script t h

@@ -13,6 +13,7 @@ use Rattle.task_events.specs.Answers.{fetched}
 use Rattle.task_events.specs.Documents.{writes_of}
 use Rattle.task_events.specs.Kind.{Kind}
 use Rattle.task_events.specs.Looking.{is_done, shard_description, work_or_end}
+use Rattle.task_events.specs.Tasks.{no_counts}
 
 -- a fetch looks up its places, and ends with their documents
 abbrev pub fetch_step : FetchAsk → ℕ → List Doc → Do
@@ -37,6 +38,9 @@ fetch_task ask = record {
   action = actions.Fetch;
   description = shard_description ask.index ask.shard;
   place = Some (ask.index, ask.shard);
-  step = λ cluster corpus t page asked turns. fetch_step ask turns (writes_of corpus cluster.shards ask.index ask.shard);
+  docs = [];
+  step = λ cluster corpus t p now. fetch_step ask p.turns (writes_of corpus cluster.shards ask.index ask.shard);
+  counts = λ p. no_counts;
+  limit = 1;
   replies = λ shards reply. fetch_can_have ask reply;
 }

@@ -1,5 +1,5 @@
 -- The kinds of tasks, and what is so of each request by its kind.
-use Rattle.std.specs.Prelude.{ℕ, List, Bool, true}
+use Rattle.std.specs.Prelude.{ℕ, List, Bool, true, ◌&&◌, nat_lt}
 use Rattle.std.specs.Option.{option_map_or}
 use Rattle.task_ids.specs.declared.action.Action.{Action}
 use Rattle.task_ids.specs.declared.cluster.Cluster.{Cluster}
@@ -7,6 +7,7 @@ use Rattle.task_ids.specs.declared.task_id.TaskId.{TaskId}
 use Rattle.task_ids.specs.Placing.{node_of}
 use Rattle.task_events.specs.declared.request.Request.{Request}
 use Rattle.task_events.specs.declared.request.Request.TheVariants.{Search, Query, Fetch, Scroll}
+use Rattle.task_events.specs.declared.reply.Counts.{Counts}
 use Rattle.task_events.specs.declared.reply.Reply.{Reply}
 use Rattle.task_events.specs.declared.reply.Reply.TheVariants.{Cancelled, Rejected}
 use Rattle.task_events.specs.FetchTask.{fetch_task}
@@ -33,8 +34,12 @@ description_of request = (kind_of request).description
 abbrev pub node_for : Cluster → TaskId → Request → ℕ
 node_for cluster t request = option_map_or (λ place. node_of place.1 cluster.nodes) (kind_of request).place t.node
 
--- Each request can be cancelled or rejected. Otherwise its reply is of its own kind.
+-- each number is below a limit
+abbrev pub are_below : ℕ → Counts → Bool
+are_below limit counts = nat_lt counts.total limit && nat_lt counts.created limit && nat_lt counts.updated limit && nat_lt counts.batches limit && nat_lt counts.failures limit
+
+-- Each request can be rejected, or cancelled with what was counted. Otherwise its reply is of its own kind.
 abbrev pub can_have : ℕ → Request → Reply → Bool
-can_have shards request (Cancelled task cancel counts) = true
+can_have shards request (Cancelled task cancel counts) = are_below (kind_of request).limit counts
 can_have shards request (Rejected node) = true
 can_have shards request reply = (kind_of request).replies shards reply

@@ -1,5 +1,5 @@
 -- The query of a shard: it looks at the rows of a version, and replies with the first of those that match.
-use Rattle.std.specs.Prelude.{ℕ, ◌^◌, List, [], ◌∷◌, length, Bool, true, false, ◌&&◌, ◌==◌, nat_lt, nat_le, Some, unwrap_or}
+use Rattle.std.specs.Prelude.{ℕ, ◌^◌, List, [], ◌∷◌, length, Bool, true, false, ◌&&◌, ◌==◌, nat_lt, nat_le, Option, Some, unwrap_or}
 use Rattle.std.specs.List.{list_all}
 use Rattle.std.specs.Option.{option_map_or}
 use Rattle.std.specs.Ordering.{is_lt}
@@ -16,18 +16,22 @@ use Rattle.task_events.specs.declared.step.Do.{Do}
 use Rattle.task_events.specs.Answers.{window, shard_top}
 use Rattle.task_events.specs.Documents.{writes_of}
 use Rattle.task_events.specs.HitOrder.{hit_cmp, is_after}
-use Rattle.task_events.specs.Kind.{Kind}
+use Rattle.task_events.specs.Kind.{Kind, Progress}
 use Rattle.task_events.specs.Looking.{is_done, shard_description, work_or_end}
+use Rattle.task_events.specs.Tasks.{no_counts}
 
 -- a query looks at the rows of a version, and ends with its top
 abbrev pub query_step : ShardAsk → ℕ → ℕ → List Doc → Do
 query_step ask version turns writes = work_or_end (is_done turns version) (Top (shard_top ask version writes))
 
--- The version is that of its shard where the query names none.
-abbrev pub query_step_in : ShardAsk → Cluster → Corpus → ℕ → Do
-query_step_in ask cluster corpus turns =
+-- the version that a query reads: the one that it names, or else all that was written by its first turn
+abbrev pub version_due : ShardAsk → Option ℕ → List Doc → ℕ
+version_due ask version writes = unwrap_or ask.version (unwrap_or version (length writes))
+
+abbrev pub query_step_in : ShardAsk → Cluster → Corpus → Progress → Do
+query_step_in ask cluster corpus p =
     let writes = writes_of corpus cluster.shards ask.index ask.shard in
-    query_step ask (unwrap_or ask.version (length writes)) turns writes
+    query_step ask (version_due ask p.version writes) p.turns writes
 
 -- each key stands before the next in hit order
 abbrev pub ascend : List HitKey → Bool
@@ -50,6 +54,9 @@ query_task ask = record {
   action = actions.Query;
   description = shard_description ask.index ask.shard;
   place = Some (ask.index, ask.shard);
-  step = λ cluster corpus t page asked turns. query_step_in ask cluster corpus turns;
+  docs = [];
+  step = λ cluster corpus t p now. query_step_in ask cluster corpus p;
+  counts = λ p. no_counts;
+  limit = 1;
   replies = λ shards reply. query_can_have ask reply;
 }

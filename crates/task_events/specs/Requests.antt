@@ -1,5 +1,5 @@
 -- What the commands of a script ask for, and what each task was asked to do.
-use Rattle.std.specs.Prelude.{ℕ, List, [], ◌∷◌, Option, Some, None, if◌then◌else◌}
+use Rattle.std.specs.Prelude.{ℕ, List, [], ◌∷◌, Option, None, if◌then◌else◌}
 use Rattle.task_ids.specs.declared.task_id.TaskId.{TaskId}
 use Rattle.task_ids.specs.declared.task_info.Headers.{Headers}
 use Rattle.task_events.specs.declared.request.Request.{Request}

@@ -1,5 +1,5 @@
 -- The next page of a search: it asks as a search does, of the shards of its context alone, at their versions and after the cursor.
-use Rattle.std.specs.Prelude.{ℕ, ◌^◌, List, length, ◌++◌, codes, Bool, true, false, ◌&&◌, nat_lt, Option, Some, None}
+use Rattle.std.specs.Prelude.{ℕ, ◌^◌, List, [], length, ◌++◌, codes, Bool, true, false, ◌&&◌, nat_lt, Option, Some, None}
 use Rattle.std.specs.Option.{option_map_or}
 use Rattle.task_ids.specs.declared.action.Action.TheVariants as actions
 use Rattle.task_ids.specs.TaskId.{task_id_text}
@@ -15,6 +15,7 @@ use Rattle.task_events.specs.Kind.{Kind}
 use Rattle.task_events.specs.Readings.{page_reading}
 use Rattle.task_events.specs.Same.{same_task}
 use Rattle.task_events.specs.SearchTask.{search_step}
+use Rattle.task_events.specs.Tasks.{no_counts}
 
 -- a page starts only where its context stands
 abbrev pub scroll_step : Option Context → List Asked → Do
@@ -35,6 +36,9 @@ scroll_task ask = record {
   action = actions.Scroll;
   description = codes "scrollId[" ++ task_id_text ask.id ++ codes "]";
   place = None;
-  step = λ cluster corpus t page asked turns. scroll_step page asked;
+  docs = [];
+  step = λ cluster corpus t p now. scroll_step p.page p.asked;
+  counts = λ p. no_counts;
+  limit = 1;
   replies = scroll_can_have ask;
 }

@@ -1,5 +1,5 @@
 -- A search: it asks for the query of each shard and then for fetches, and replies with the plain answer.
-use Rattle.std.specs.Prelude.{ℕ, ◌^◌, List, ◌++◌, length, codes, Bool, true, false, not, ◌&&◌, nat_lt, nat_le, Option, Some, None, is_some, slice_get}
+use Rattle.std.specs.Prelude.{ℕ, ◌^◌, List, [], ◌++◌, length, codes, Bool, true, false, not, ◌&&◌, nat_lt, nat_le, Option, Some, None, is_some, slice_get}
 use Rattle.task_ids.specs.declared.action.Action.TheVariants as actions
 use Rattle.task_events.specs.declared.request.Request.{Request}
 use Rattle.task_events.specs.declared.request.SearchAsk.{SearchAsk}
@@ -13,6 +13,7 @@ use Rattle.task_events.specs.Contexts.{opens_context}
 use Rattle.task_events.specs.Kind.{Kind}
 use Rattle.task_events.specs.Readings.{Reading, search_reading}
 use Rattle.task_events.specs.Searches.{requests_of, are_answered, search_reply}
+use Rattle.task_events.specs.Tasks.{no_counts}
 
 abbrev pub ask_or_end : Option Request → Bool → Reply → Do
 ask_or_end (Some request) answered reply = AskNext request
@@ -43,6 +44,9 @@ search_task ask = record {
   action = actions.Search;
   description = codes "indices[" ++ ask.index ++ codes "]";
   place = None;
-  step = λ cluster corpus t page asked turns. search_step (search_reading t ask cluster.shards) asked;
+  docs = [];
+  step = λ cluster corpus t p now. search_step (search_reading t ask cluster.shards) p.asked;
+  counts = λ p. no_counts;
+  limit = 1;
   replies = search_can_have ask;
 }

@@ -1,5 +1,5 @@
 -- What a search or a page of one asks for and replies, by what it has asked for and what was answered.
-use Rattle.std.specs.Prelude.{ℕ, List, [], ◌++◌, length, Bool, ◌&&◌, ◌==◌, nat_le, Option, Some, None, is_some, option_and_then, option_map, map, filter, filter_map, find, take, drop, zip, slice_get, if◌then◌else◌}
+use Rattle.std.specs.Prelude.{ℕ, List, [], ◌++◌, length, Bool, ◌&&◌, ◌==◌, nat_le, Option, Some, None, is_some, option_and_then, option_map, map, filter, filter_map, find, take, drop, zip, if◌then◌else◌}
 use Rattle.std.specs.List.{list_any, list_all, flat_map, sum_by, last_or}
 use Rattle.std.specs.Option.{option_or}
 use Rattle.std.specs.Map.{lookup}

@@ -1,5 +1,5 @@
 -- The live tasks as a task list shows them: what each does and works on, when it started, and what its request carried.
-use Rattle.std.specs.Prelude.{ℕ, ◌+◌, ◌==◌, List, [], ◌∷◌, filter, filter_map, reverse, Option, option_map, if◌then◌else◌}
+use Rattle.std.specs.Prelude.{ℕ, ◌==◌, List, [], ◌∷◌, filter, filter_map, reverse, Option, option_map, if◌then◌else◌}
 use Rattle.std.specs.List.{flat_map}
 use Rattle.task_ids.specs.declared.task_id.TaskId.{TaskId}
 use Rattle.task_ids.specs.declared.task_info.Headers.{Headers}

@@ -1,5 +1,6 @@
 use crate::reply::Reply;
 use crate::request::Request;
+use shared_value::Shared;
 use std::fmt;
 use task_ids::{TaskId, Text};
 
@@ -94,10 +95,10 @@ pub enum Event {
     },
     /// A document is written, in the turn of work before it.
     Write {
-        index: Text,
+        index: Shared<Text>,
         shard: u32,
         outcome: Outcome,
-        id: Text,
+        id: Shared<Text>,
     },
     /// The answer to an ask reaches the task that asked.
     Answered {

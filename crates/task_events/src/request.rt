@@ -97,13 +97,13 @@ pub struct HitKey {
 #[derive(Drop)]
 pub struct ReindexAsk {
     /// The index whose documents are read.
-    pub source: Text,
+    pub source: Shared<Text>,
     /// Which of them are read.
     pub query: Query,
     /// How many are read and written at a time, from 1 to 10,000.
     pub batch: u32,
     /// The index to which they are written.
-    pub dest: Text,
+    pub dest: Shared<Text>,
     /// Into how many slices the documents are cut, from 1 to 32.
     pub slices: u32,
     /// How many documents a second are written at most, from 1 to 1,000,000, where that is bounded.
@@ -126,7 +126,7 @@ pub struct SliceAsk {
 #[derive(Drop)]
 pub struct BulkAsk {
     /// The index to which they are written.
-    pub dest: Text,
+    pub dest: Shared<Text>,
     pub docs: Items<Doc>,
 }
 
@@ -134,7 +134,7 @@ pub struct BulkAsk {
 #[derive(Drop)]
 pub struct BulkShardAsk {
     /// The index to which they are written.
-    pub dest: Text,
+    pub dest: Shared<Text>,
     /// The shard, from 0.
     pub shard: u32,
     pub docs: Items<Doc>,
@@ -143,10 +143,10 @@ pub struct BulkShardAsk {
 /// That a document was written.
 #[derive(Drop)]
 pub struct WriteNote {
-    pub index: Text,
+    pub index: Shared<Text>,
     /// The shard, from 0.
     pub shard: u32,
     /// Whether no document of its id was there before.
     pub created: bool,
-    pub id: Text,
+    pub id: Shared<Text>,
 }
