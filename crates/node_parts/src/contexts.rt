@@ -3,8 +3,9 @@
 ghost use Rattle.std.specs.Prelude.{◌≡◌, IfOk};
 ghost use Rattle.task_events.specs.Contexts.{opens_context, opened, cursor_in};
 ghost use Rattle.task_events.specs.Counts.{AreCounts};
-ghost use Rattle.node_parts.specs.Opening.{opened_by, page_id, FitsContext};
+ghost use Rattle.node_parts.specs.Opening.{opened_by, used_by, FitsContext};
 
+use crate::running::Running;
 use shared_value::Shared;
 use std::alloc::{AllocError, Global};
 use task_events::{Context, HitKey, Reply, SearchAsk, SearchReply, ShardCount, ShardCounts};
@@ -90,14 +91,14 @@ pub fn opened_by(
     Ok(Some(opened(alloc, task, root.ask(), reply.get(), now)?))
 }
 
-/// The context of which a task shows a page, where it shows one.
-pub fn page_id(work: &Work) -> Option<TaskId>
-    ensures { result ≡ page_id work.now }
+/// The context that a live task uses: that of which it shows a page, once it has passed.
+pub fn used_by(running: &Running) -> Option<TaskId>
+    ensures { result ≡ used_by running.now }
 {
-    match work {
-        Work::Scroll(root) => root.context(),
-        _ => None,
+    if running.is_new {
+        return None;
     }
+    running.page.map(|page| page.id)
 }
 
 /// The last row that a reply shows, where it is a good one of a search or of a page and shows one. It fails only for want of memory.

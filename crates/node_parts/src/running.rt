@@ -7,7 +7,7 @@ ghost use Rattle.task_work.specs.Works.{can_ask, work_takes};
 ghost use Rattle.node_parts.specs.Running.{next_number, running_with_ask, running_with_answer};
 
 use child_track::{AskError, AskToken, ChildTrack, Receipt};
-use task_events::{Reply, Stop};
+use task_events::{Reply, ScrollAsk, Stop};
 use task_ids::Headers;
 use task_table::Ticket;
 use task_work::Work;
@@ -20,6 +20,8 @@ pub struct Running {
     pub track: ChildTrack,
     /// What it works on.
     pub work: Work,
+    /// The page that it is asked to show, where it is asked for one.
+    pub page: Option<ScrollAsk>,
     /// It was put and has not passed.
     pub is_new: bool,
     /// What its request carried, which the requests of its own carry on.
@@ -27,9 +29,9 @@ pub struct Running {
 }
 
 impl Running {
-    /// Notes that the child which comes next was asked for, on this node, and gives the token that its request carries. It fails
-    /// only for want of memory (`Memory`).
-    pub fn ask(&mut self, to: u32) -> Result<AskToken, Stop>
+    /// Notes that the child which comes next was asked for, on this node and at this moment in milliseconds, and gives the token
+    /// that its request carries. It fails only for want of memory (`Memory`).
+    pub fn ask(&mut self, to: u32, now: u64) -> Result<AskToken, Stop>
         requires node { IsNode to }
         requires few { length self.old.track.asks + 1 < 2 ^ 32 }
         requires open { self.old.track.closed ≡ None }
@@ -40,7 +42,7 @@ impl Running {
     {
         match self.track.ask(to) {
             Ok(token) => {
-                self.work.asked(token.ask(), 0);
+                self.work.asked(token.ask(), now);
                 Ok(token)
             }
             Err(AskError::Closed { cancel: _ }) => unreachable!(),
@@ -48,17 +50,18 @@ impl Running {
         }
     }
 
-    /// Takes the answer to an ask of this task that is unanswered. It fails only for want of memory (`Memory`).
-    pub fn take_reply(&mut self, receipt: Receipt, reply: Reply) -> Result<(), Stop>
+    /// Takes the answer to an ask of this task that is unanswered, at this moment in milliseconds. It fails only for want of memory
+    /// (`Memory`).
+    pub fn take_reply(&mut self, receipt: Receipt, reply: Reply, now: u64) -> Result<(), Stop>
         requires own { Answers receipt self.old.track }
         requires takes { work_takes self.old.work receipt.ask reply ≡ true }
-        ensures taken { OnOk result (self.new ≡ running_with_answer self.old receipt.ask reply) }
+        ensures taken { OnOk result (self.new ≡ running_with_answer self.old receipt.ask reply now) }
         ensures memory { IfErr result (λ stop. stop ≡ Stop.Memory) }
     {
         if self.track.answer(receipt).is_err() {
             unreachable!()
         }
-        match self.work.feed(receipt.ask(), reply, 0) {
+        match self.work.feed(receipt.ask(), reply, now) {
             Ok(()) => Ok(()),
             Err(_) => Err(Stop::Memory),
         }
@@ -72,6 +75,7 @@ impl Running {
             ticket,
             track,
             work,
+            page: _,
             is_new: _,
             headers,
         } = self;
@@ -88,6 +92,7 @@ impl Drop for Running {
             ticket,
             track,
             work,
+            page: _,
             is_new: _,
             headers,
         } = self;

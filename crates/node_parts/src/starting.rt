@@ -2,7 +2,7 @@
 
 ghost use Rattle.std.specs.Prelude.{◌≡◌, List, Some, IfOk, IfErr, is_some, option_copied};
 ghost use Rattle.child_track.specs.Track.{new_track};
-ghost use Rattle.node_parts.specs.Starting.{task_for};
+ghost use Rattle.node_parts.specs.Starting.{task_for, page_in};
 ghost use Rattle.task_ids.specs.declared.doc.Doc.{Doc};
 ghost use Rattle.task_work.specs.Works.{IsWorkOn, is_page, new_work};
 
@@ -10,7 +10,7 @@ use crate::kinds::{action_of, description_of};
 use crate::running::Running;
 use child_track::ChildTrack;
 use std::alloc::{AllocError, Global};
-use task_events::{Context, Request, Stop};
+use task_events::{Context, Request, ScrollAsk, Stop};
 use task_ids::{Cluster, Headers, NewTask, TaskId};
 use task_table::Ticket;
 use task_work::Work;
@@ -37,6 +37,16 @@ pub fn new_task(
     })
 }
 
+/// The page that a request asks for, where it asks for one.
+fn page_in(request: &Request) -> Option<ScrollAsk>
+    ensures { result ≡ page_in request.now }
+{
+    match request {
+        Request::Scroll(ask) => Some(*ask),
+        _ => None,
+    }
+}
+
 /// The task of a ticket, with the work that is asked of it and what its request carried. A page is given the context that it shows.
 /// Where memory runs out (`Memory`) the ticket is given up.
 pub fn with_work(
@@ -53,6 +63,7 @@ pub fn with_work(
       ticket = ticket;
       track = new_track ticket.id;
       work = running.work;
+      page = page_in request.now;
       is_new = is_new;
       headers = headers;
     }) }
@@ -67,6 +78,7 @@ pub fn with_work(
             ticket,
             track: ChildTrack::new(alloc, task),
             work,
+            page: page_in(request),
             is_new,
             headers,
         }),

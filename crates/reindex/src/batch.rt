@@ -5,6 +5,7 @@ ghost use Rattle.task_ids.specs.Placing as placed;
 ghost use Rattle.reindex.specs.Bulks.{part_list, parts_of};
 
 use shard_docs::shard_of;
+use shared_value::Shared;
 use std::alloc::{AllocError, Global};
 use task_events::{BulkAsk, BulkShardAsk};
 use task_ids::{Doc, Items, Text};
@@ -17,7 +18,7 @@ fn docs_in(alloc: Global, docs: &[Doc], shards: u32, shard: u32) -> Result<Vec<D
 {
     let mut found = Vec::new(alloc);
     for doc in docs {
-        if shard_of(doc.id.as_str().as_bytes(), shards) == shard {
+        if shard_of(doc.id.get().as_str().as_bytes(), shards) == shard {
             found.push(doc.copy()?)?;
         }
     }
@@ -27,7 +28,7 @@ fn docs_in(alloc: Global, docs: &[Doc], shards: u32, shard: u32) -> Result<Vec<D
 /// Adds the part of a shard, where it has a document.
 fn add_part(
     parts: &mut Vec<BulkShardAsk>,
-    index: &Text,
+    index: &Shared<Text>,
     shard: u32,
     docs: Vec<Doc>,
 ) -> Result<(), AllocError>

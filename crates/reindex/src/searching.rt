@@ -40,7 +40,7 @@ pub(crate) fn first_search(
     requires slice { slice < reindex.now.slices }
     ensures { IfOk result (λ search. IsFirstSearch task reindex.now slice shards search) }
 {
-    let index = Shared::new(alloc, reindex.source.copy()?)?;
+    let index = reindex.source.copy()?;
     let query = reindex.query.copy()?;
     let body = SearchBody {
         query,

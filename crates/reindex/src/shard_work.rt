@@ -8,6 +8,7 @@ ghost use Rattle.reindex.specs.Writes.{notes_of};
 
 use crate::writing::{number_created, number_updated, write_next};
 use shard_docs::Shard;
+use shared_value::Shared;
 use std::alloc::{AllocError, Global};
 use std::collections::VecDeque;
 use std::marker::Model;
@@ -19,7 +20,7 @@ use task_ids::{Doc, Text};
 #[derive(Drop)]
 pub struct BulkShardWork {
     alloc: Global,
-    index: Text,
+    index: Shared<Text>,
     shard: u32,
     /// The documents that are still to be written, in order.
     left: VecDeque<Doc>,
@@ -69,7 +70,7 @@ impl BulkShardWork {
     }
 
     /// The index to which it writes. A world finds the shard by it.
-    pub fn index(&self) -> &Text
+    pub fn index(&self) -> &Shared<Text>
         ensures { result.now ≡ self.now.index }
     {
         &self.index

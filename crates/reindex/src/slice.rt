@@ -10,6 +10,7 @@ use crate::ask::{MachinePlan, ReindexDo};
 use crate::page::{Page, PageAnswer};
 use crate::phase::Phase;
 use crate::searching::{first_search, rate_of};
+use shared_value::Shared;
 use std::alloc::{AllocError, Global};
 use std::marker::Model;
 use std::mem::replace;
@@ -27,7 +28,7 @@ const MAX_PAGES: u32 = 1_000_000;
 #[derive(Drop)]
 pub struct Slice {
     first: SearchAsk,
-    dest: Text,
+    dest: Shared<Text>,
     slices: u32,
     rate: Rate,
     phase: Phase,

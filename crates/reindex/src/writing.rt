@@ -5,6 +5,7 @@ ghost use Rattle.task_events.specs.Looking.{rows_per_turn};
 ghost use Rattle.reindex.specs.Writes.{note_of, notes_of, BreaksOff};
 
 use shard_docs::{Shard, Written};
+use shared_value::Shared;
 use std::alloc::{AllocError, Global};
 use std::collections::VecDeque;
 use task_events::WriteNote;
@@ -16,7 +17,7 @@ const DOCS_PER_TURN: usize = 1024;
 /// Writes a document to a shard of an index, and notes it. It fails only for want of memory, and then the shard has not
 /// changed.
 fn write_one(
-    index: &Text,
+    index: &Shared<Text>,
     number: u32,
     shard: &mut Shard,
     doc: Doc,
@@ -42,7 +43,7 @@ fn write_one(
 /// Writes the next 1,024 documents, or those that are left, in order, and notes each.
 pub(crate) fn write_next(
     alloc: Global,
-    index: &Text,
+    index: &Shared<Text>,
     number: u32,
     shard: &mut Shard,
     left: &mut VecDeque<Doc>,

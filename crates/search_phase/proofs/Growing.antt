@@ -1,18 +1,46 @@
--- What is known of a query and of a fetch stays when the shard grows.
-use Rattle.std.specs.Prelude.{◌≡◌, ℕ, ◌*◌, ◌<◌, ◌≤◌, ◌==◌, cond, List, [], ◌++◌, Option, Some, None, IfSome, option_map, unwrap_or, filter_map, take, length, refl}
+-- What a shard says at a version within its writes stays when it grows, and so does what is known of a query and of a fetch.
+use Rattle.std.specs.Prelude.{◌≡◌, ℕ, ◌*◌, ◌<◌, ◌≤◌, ◌==◌, cond, List, [], ◌++◌, Option, Some, None, IsSome, IfSome, is_some, option_map, unwrap_or, filter, filter_map, take, length, refl}
 use Rattle.std.specs.Map.{lookup}
 use Rattle.std.proofs.Common.{sym, ◌∙◌, ap, subst, arith, true≢false}
 use Rattle.std.proofs.lemmas.List.{take-append-le, take_all}
+use Rattle.query_match.specs.declared.body.SearchBody.{SearchBody}
 use Rattle.task_ids.specs.declared.doc.Doc.{Doc}
 use Rattle.task_ids.specs.Rows.{living_rows}
 use Rattle.task_events.specs.declared.request.HitKey.{HitKey}
 use Rattle.task_events.specs.declared.request.ShardAsk.{ShardAsk}
+use Rattle.task_events.specs.declared.request.SlicePick.{SlicePick}
 use Rattle.task_events.specs.declared.request.FetchAsk.{FetchAsk}
-use Rattle.task_events.specs.Answers.{hit_at, window}
+use Rattle.task_events.specs.declared.reply.ShardTop.{ShardTop}
+use Rattle.task_events.specs.Answers.{hit_at, window, keys_among, matching_keys, shard_top, fetched}
+use Rattle.task_events.specs.HitOrder.{in_hit_order, is_after}
 use Rattle.task_events.specs.Looking.{rows_per_turn, is_done}
-use Rattle.search_phase.specs.Queries.{QueryState, IsQueried, new_query, version_at, keys_below, first_keys, queried, without_keys}
+use Rattle.search_phase.specs.Queries.{QueryState, IsQueried, HasTurned, new_query, version_at, has_ended, keys_below, first_keys, queried, without_keys}
 use Rattle.search_phase.specs.Fetches.{FetchState, IsFetched, new_fetch, hits_of_first, fetched_in}
 use Rattle.search_phase.proofs.Rows.{keys_below-none, keys_below-grow}
+
+-- ---- what the shard says
+
+pub matching_keys-grow : (body : SearchBody) (slice : Option SlicePick) (shard version : ℕ) (writes more : List Doc) → version ≤ length writes
+    → matching_keys body slice shard version (writes ++ more) ≡ matching_keys body slice shard version writes
+matching_keys-grow body slice shard version writes more within = ap (λ first. keys_among body slice shard (living_rows 0 first)) (take-append-le version writes more within)
+
+pub shard_top-grow : (ask : ShardAsk) (version : ℕ) (writes more : List Doc) → version ≤ length writes → shard_top ask version (writes ++ more) ≡ shard_top ask version writes
+shard_top-grow ask version writes more within =
+    ap (λ (found : List HitKey). record { shard = ask.shard; version = version; count = length found; keys = take (window ask.body) (in_hit_order (filter (is_after ask.after) found)) })
+    (matching_keys-grow ask.body ask.slice ask.shard version writes more within)
+
+pub hits-grow : (ask : FetchAsk) (places : List ℕ) (writes more : List Doc) → ask.version ≤ length writes
+    → filter_map (hit_at ask.index ask.version (writes ++ more)) places ≡ filter_map (hit_at ask.index ask.version writes) places
+hits-grow ask places writes more within =
+    ap (λ first. filter_map (λ place. option_map (λ doc. record { index = ask.index; doc = doc; place = place }) (lookup (λ other. place == other) (living_rows 0 first))) places)
+    (take-append-le ask.version writes more within)
+
+pub fetched-grow : (ask : FetchAsk) (writes more : List Doc) → ask.version ≤ length writes → fetched ask (writes ++ more) ≡ fetched ask writes
+fetched-grow ask writes more within = hits-grow ask ask.places writes more within
+
+pub hit_at-grow : (index : List ℕ) (version place : ℕ) (writes more : List Doc) → version ≤ length writes → hit_at index version (writes ++ more) place ≡ hit_at index version writes place
+hit_at-grow index version place writes more within =
+    ap (λ first. option_map (λ doc. record { index = index; doc = doc; place = place }) (lookup (λ other. place == other) (living_rows 0 first))) (take-append-le version writes more within)
 
 -- ---- queries
 
@@ -38,31 +66,90 @@ queried-grow ask version turns writes more within =
     cond (is_done turns version) (without_keys q) q)
     (keys_below-grow ask version (turns * rows_per_turn) writes more within)
 
-pub IsQueried-grow : (q : QueryState) (writes more : List Doc) → IfSome q.version (λ version. version ≤ length writes) → IsQueried q writes → IsQueried q (writes ++ more)
-IsQueried-grow q writes more within h = record { version_asked = h.version_asked; version_fixed = h.version_fixed; looked = go q.version refl within }
+-- and what holds before the first turn holds over any writes
+pub IsQueried-unturned : (q : QueryState) (writes other : List Doc) → q.turns ≡ 0 → IsQueried q writes → IsQueried q other
+IsQueried-unturned q writes other none h =
+    let version = version_at q other in
+    record {
+      version_asked = h.version_asked;
+      version_fixed = h.version_fixed;
+      looked = ap (λ (s : QueryState). record s { version = Some version }) (h.looked ∙ ap (λ n. queried q.ask (version_at q writes) n writes) none ∙ queried-none q.ask (version_at q writes) writes)
+          ∙ sym (ap (λ n. queried q.ask version n other) none ∙ queried-none q.ask version other);
+    }
+
+-- where no version is fixed no turn was taken
+unturned : (q : QueryState) → (0 < q.turns → IsSome q.version) → q.version ≡ None → q.turns ≡ 0
+unturned q fixed e = none q.turns (λ turned. true≢false (sym (fixed turned) ∙ ap is_some e))
   where
-    go : (o : Option ℕ) → q.version ≡ o → IfSome o (λ version. version ≤ length writes) → record q { version = Some (version_at q (writes ++ more)) } ≡ queried q.ask (version_at q (writes ++ more)) q.turns (writes ++ more)
+    none : (n : ℕ) → (0 < n → ⊥) → n ≡ 0
+    none n never = omega (arith, never)
+
+pub IsQueried-grow : (q : QueryState) (writes more : List Doc) → IfSome q.version (λ version. version ≤ length writes) → IsQueried q writes → IsQueried q (writes ++ more)
+IsQueried-grow q writes more within h = go q.version refl within
+  where
+    go : (o : Option ℕ) → q.version ≡ o → IfSome o (λ version. version ≤ length writes) → IsQueried q (writes ++ more)
+    go None e within = IsQueried-unturned q writes (writes ++ more) (unturned q h.version_fixed e) h
     go (Some version) e within =
         let here : version_at q writes ≡ version = ap (λ o. unwrap_or o (length writes)) e in
         let there : version_at q (writes ++ more) ≡ version = ap (λ o. unwrap_or o (length (writes ++ more))) e in
         let same = subst (λ n. record q { version = Some n } ≡ queried q.ask n q.turns writes) here h.looked in
-        subst (λ n. record q { version = Some n } ≡ queried q.ask n q.turns (writes ++ more)) (sym there) (same ∙ sym (queried-grow q.ask version q.turns writes more within))
+        record {
+          version_asked = h.version_asked;
+          version_fixed = h.version_fixed;
+          looked = subst (λ n. record q { version = Some n } ≡ queried q.ask n q.turns (writes ++ more)) (sym there) (same ∙ sym (queried-grow q.ask version q.turns writes more within));
+        }
+
+-- ---- the version of a query
+
+-- once it is fixed it is the same over any writes
+pub version_at-fixed : (q : QueryState) (writes other : List Doc) → IsSome q.version → version_at q other ≡ version_at q writes
+version_at-fixed q writes other fixed = of_version q.version fixed
+  where
+    of_version : (o : Option ℕ) → IsSome o → unwrap_or o (length other) ≡ unwrap_or o (length writes)
+    of_version (Some version) fixed = refl
+    of_version None fixed = absurd (true≢false (sym fixed))
+
+pub version_at-within : (q : QueryState) (writes : List Doc) → IfSome q.version (λ version. version ≤ length writes) → version_at q writes ≤ length writes
+version_at-within q writes within = of_version q.version within
+  where
+    of_version : (o : Option ℕ) → IfSome o (λ version. version ≤ length writes) → unwrap_or o (length writes) ≤ length writes
+    of_version (Some version) within = within
+    of_version None within = omega arith
+
+-- a turn fixes a version within the writes
+pub version_turned-within : (before after : QueryState) (writes : List Doc) → HasTurned before writes after → IfSome before.version (λ version. version ≤ length writes)
+    → IfSome after.version (λ version. version ≤ length writes)
+version_turned-within before after writes h within = subst (λ o. IfSome o (λ version. version ≤ length writes)) (sym h.version_fixed) (version_at-within before writes within)
+
+-- later writes end no query
+pub has_ended-grow : (q : QueryState) (writes other : List Doc) → (0 < q.turns → IsSome q.version) → has_ended q other ≡ has_ended q writes
+has_ended-grow q writes other fixed = go q.version refl
+  where
+    go : (o : Option ℕ) → q.version ≡ o → has_ended q other ≡ has_ended q writes
+    go (Some version) e = ap (is_done q.turns) (version_at-fixed q writes other (ap is_some e))
+    go None e =
+        let none : q.turns ≡ 0 = unturned q fixed e in
+        ap (λ n. is_done n (version_at q other)) none ∙ sym (ap (λ n. is_done n (version_at q writes)) none)
+
+-- nor do they change what it tells once it has ended
+pub top_told-grow : {X : Type 0} (told : ShardTop → X) (none : X) (q : QueryState) (writes more : List Doc) → (0 < q.turns → IsSome q.version) → IfSome q.version (λ version. version ≤ length writes)
+    → cond (has_ended q (writes ++ more)) (told (shard_top q.ask (version_at q (writes ++ more)) (writes ++ more))) none ≡ cond (has_ended q writes) (told (shard_top q.ask (version_at q writes) writes)) none
+top_told-grow told none q writes more fixed within = go q.version refl within
+  where
+    go : (o : Option ℕ) → q.version ≡ o → IfSome o (λ version. version ≤ length writes)
+        → cond (has_ended q (writes ++ more)) (told (shard_top q.ask (version_at q (writes ++ more)) (writes ++ more))) none ≡ cond (has_ended q writes) (told (shard_top q.ask (version_at q writes) writes)) none
+    go (Some version) e within =
+        let here : version_at q writes ≡ version = ap (λ o. unwrap_or o (length writes)) e in
+        let there : version_at q (writes ++ more) ≡ version = ap (λ o. unwrap_or o (length (writes ++ more))) e in
+        ap (λ v. cond (is_done q.turns v) (told (shard_top q.ask v (writes ++ more))) none) there
+        ∙ ap (λ top. cond (is_done q.turns version) (told top) none) (shard_top-grow q.ask version writes more within)
+        ∙ sym (ap (λ v. cond (is_done q.turns v) (told (shard_top q.ask v writes)) none) here)
     go None e within =
-        let later = version_at q (writes ++ more) in
-        let none : q.turns ≡ 0 = unturned q.turns (λ turned. true≢false (sym (h.version_fixed turned) ∙ ap Rattle.std.proofs.Common.is_some e)) in
-        ap (λ (s : QueryState). record s { version = Some later }) (h.looked ∙ ap (λ n. queried q.ask (version_at q writes) n writes) none ∙ queried-none q.ask (version_at q writes) writes)
-        ∙ sym (ap (λ n. queried q.ask later n (writes ++ more)) none ∙ queried-none q.ask later (writes ++ more))
-      where
-        unturned : (n : ℕ) → (0 < n → ⊥) → n ≡ 0
-        unturned n never = omega (arith, never)
+        let unturned : q.turns ≡ 0 = unturned q fixed e in
+        ap (λ n. cond (is_done n (version_at q (writes ++ more))) (told (shard_top q.ask (version_at q (writes ++ more)) (writes ++ more))) none) unturned
+        ∙ sym (ap (λ n. cond (is_done n (version_at q writes)) (told (shard_top q.ask (version_at q writes) writes)) none) unturned)
 
 -- ---- fetches
-
-hits-grow : (ask : FetchAsk) (places : List ℕ) (writes more : List Doc) → ask.version ≤ length writes
-    → filter_map (hit_at ask.index ask.version (writes ++ more)) places ≡ filter_map (hit_at ask.index ask.version writes) places
-hits-grow ask places writes more within =
-    ap (λ first. filter_map (λ place. option_map (λ doc. record { index = ask.index; doc = doc; place = place }) (lookup (λ other. place == other) (living_rows 0 first))) places)
-    (take-append-le ask.version writes more within)
 
 pub IsFetched-grow : (f : FetchState) (writes more : List Doc) → f.ask.version ≤ length writes → IsFetched f writes → IsFetched f (writes ++ more)
 IsFetched-grow f writes more within h =
@@ -71,6 +158,13 @@ IsFetched-grow f writes more within h =
 -- before the first turn there are no documents
 pub new_fetch-fetched : (ask : FetchAsk) (writes : List Doc) → IsFetched (new_fetch ask) writes
 new_fetch-fetched ask writes = ap (λ n. record { ask = ask; turns = 0; hits = hits_of_first ask n writes }) (sym (Rattle.std.proofs.Math.Nat.zero-mul rows_per_turn))
+
+-- and what holds before the first turn holds over any writes
+pub IsFetched-unturned : (f : FetchState) (writes other : List Doc) → f.turns ≡ 0 → IsFetched f writes → IsFetched f other
+IsFetched-unturned f writes other none h =
+    let over : List Doc → FetchState = λ writes. fetched_in f.ask f.turns writes in
+    let empty : (writes : List Doc) → over writes ≡ new_fetch f.ask = λ writes. ap (λ n. fetched_in f.ask n writes) none ∙ sym (new_fetch-fetched f.ask writes) in
+    h ∙ empty writes ∙ sym (empty other)
 
 -- what a turn comes to is a fetch over the same writes
 pub fetched_in-fetched : (f : FetchState) (ask : FetchAsk) (turns : ℕ) (writes : List Doc) → f ≡ fetched_in ask turns writes → IsFetched f writes

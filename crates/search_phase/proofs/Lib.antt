@@ -7,6 +7,7 @@ pub mod FetchAnswers
 pub mod FetchTurns
 pub mod Filtered
 pub mod Growing
+pub mod Growth
 pub mod HitKeys
 pub mod Kept
 pub mod Lookups
@@ -24,3 +25,4 @@ pub mod Roots
 pub mod Rows
 pub mod Sorting
 pub mod Turns
+pub mod Within

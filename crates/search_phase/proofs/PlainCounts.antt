@@ -1,5 +1,5 @@
 -- Where each top is what its shard's writes say, their counts and their keys are those of the plain answer.
-use Rattle.std.specs.Prelude.{◌≡◌, ℕ, ◌==◌, List, [], ◌∷◌, ◌++◌, true, Option, Some, None, option_map, option_and_then, map, filter, filter_map, take, zip, length, refl}
+use Rattle.std.specs.Prelude.{◌≡◌, ℕ, ◌≤◌, ◌==◌, List, [], ◌∷◌, ◌++◌, true, Option, Some, None, option_map, option_and_then, map, filter, filter_map, take, zip, length, refl}
 use Rattle.std.proofs.Common.{sym, ◌∙◌, ap, subst}
 use Rattle.std.proofs.lemmas.Bool.{eqb-true}
 use Rattle.std.specs.List.{flat_map, AllByRecursion}
@@ -27,12 +27,13 @@ abbrev pub version_of : ShardTop → ShardVersion
 version_of top = (top.shard, top.version)
 
 -- the top is what the writes of its shard say at its version
-abbrev pub IsHonestTop : Reading → (ℕ → List Doc) → ShardTop → Type 0
-IsHonestTop r writes top = top ≡ shard_top (query_of r (Newest top.shard)) top.version (writes top.shard)
+abbrev pub IsPlainTop : Reading → (ℕ → List Doc) → ShardTop → Type 0
+IsPlainTop r writes top = top ≡ shard_top (query_of r (Newest top.shard)) top.version (writes top.shard)
 
 -- the top of a shard that is read is what its writes say, at the version that is asked for, where one is
 pub record IsHonestRead (r : Reading) (writes : ℕ → List Doc) (at : ShardRead) (top : ShardTop) : Type 0 where
   pub honest : top ≡ shard_top (query_of r at) top.version (writes (shard_read at))
+  pub within : top.version ≤ length (writes (shard_read at))
   pub version : option_map_or (λ version. top.version == version) (version_read at) true ≡ true
 
 -- the answer to the query of a shard is such a top, where it is a top
@@ -50,7 +51,7 @@ plain_count r writes p = option_map (λ top. count_read r.ask writes p.0 top.ver
 module _ (r : Reading) (writes : ℕ → List Doc) where
   -- ---- the counts
 
-  honest_shard : (at : ShardRead) (top : ShardTop) → IsHonestRead r writes at top → top.shard ≡ shard_read at
+  pub honest_shard : (at : ShardRead) (top : ShardTop) → IsHonestRead r writes at top → top.shard ≡ shard_read at
   honest_shard at top h = ap (λ (t : ShardTop). t.shard) h.honest
 
   honest_count : (at : ShardRead) (top : ShardTop) → IsHonestRead r writes at top → counted at top ≡ count_read r.ask writes at top.version
@@ -90,13 +91,13 @@ module _ (r : Reading) (writes : ℕ → List Doc) where
       of_top None e rest = rw e rest
       of_top (Some top) e rest = let here : read_at (count_read r.ask writes at top.version) ≡ version_of top = honest_version at top (h.0 top e) in rw e (λ i. here i ∷ rest i)
 
-  pub honest_tops : (ats : List ShardRead) (asked : List Asked) → Beside (IsQueryAnswer r writes) ats asked → AllByRecursion (IsHonestTop r writes) (tops_of (take (length ats) asked))
+  pub honest_tops : (ats : List ShardRead) (asked : List Asked) → Beside (IsQueryAnswer r writes) ats asked → AllByRecursion (IsPlainTop r writes) (tops_of (take (length ats) asked))
   honest_tops [] asked h = tt
   honest_tops (at ∷ ats) [] h = tt
   honest_tops (at ∷ ats) (a ∷ asked) h = of_top (option_and_then top_of a.answer) refl (honest_tops ats asked h.1)
     where
-      of_top : (o : Option ShardTop) → option_and_then top_of a.answer ≡ o → AllByRecursion (IsHonestTop r writes) (tops_of (take (length ats) asked))
-          → AllByRecursion (IsHonestTop r writes) (tops_of (take (length (at ∷ ats)) (a ∷ asked)))
+      of_top : (o : Option ShardTop) → option_and_then top_of a.answer ≡ o → AllByRecursion (IsPlainTop r writes) (tops_of (take (length ats) asked))
+          → AllByRecursion (IsPlainTop r writes) (tops_of (take (length (at ∷ ats)) (a ∷ asked)))
       of_top None e rest = rw e rest
       of_top (Some top) e rest =
           let here : IsHonestRead r writes at top = h.0 top e in
@@ -113,17 +114,17 @@ module _ (r : Reading) (writes : ℕ → List Doc) where
   abbrev pub cut_keys_at : ShardVersion → List HitKey
   cut_keys_at at = take (window r.ask.body) (in_hit_order (keys_after at))
 
-  pub top_keys : (top : ShardTop) → IsHonestTop r writes top → top.keys ≡ cut_keys_at (version_of top)
+  pub top_keys : (top : ShardTop) → IsPlainTop r writes top → top.keys ≡ cut_keys_at (version_of top)
   top_keys top h = ap (λ (t : ShardTop). t.keys) h
 
-  keys_of_tops : (tops : List ShardTop) → AllByRecursion (IsHonestTop r writes) tops → flat_map (λ top. top.keys) tops ≡ flat_map cut_keys_at (map version_of tops)
+  keys_of_tops : (tops : List ShardTop) → AllByRecursion (IsPlainTop r writes) tops → flat_map (λ top. top.keys) tops ≡ flat_map cut_keys_at (map version_of tops)
   keys_of_tops [] h = refl
   keys_of_tops (top ∷ tops) h =
       let here : top.keys ≡ cut_keys_at (version_of top) = top_keys top h.0 in
       let later : flat_map (λ top. top.keys) tops ≡ flat_map cut_keys_at (map version_of tops) = keys_of_tops tops h.1 in
       λ i. here i ++ later i
 
-  pub winners_are_plain : (tops : List ShardTop) → AllByRecursion (IsHonestTop r writes) tops
+  pub winners_are_plain : (tops : List ShardTop) → AllByRecursion (IsPlainTop r writes) tops
       → winners_among r.ask.body tops ≡ winners r.ask.body (filter (is_after r.after) (found_keys r.ask writes (map version_of tops)))
   winners_are_plain tops h =
       let versions : List ShardVersion = map version_of tops in

@@ -25,7 +25,7 @@ use Rattle.task_events.specs.Searches.{top_of, tops_in, winners_among, has_winne
 use Rattle.search_phase.specs.Searching.{AreApart}
 use Rattle.search_phase.specs.FetchPhase.{tops_of}
 use Rattle.search_phase.proofs.Sorting.{by_test}
-use Rattle.search_phase.proofs.PlainCounts.{version_of, IsHonestTop, IsQueryAnswer, honest_tops, top_keys}
+use Rattle.search_phase.proofs.PlainCounts.{version_of, IsPlainTop, IsQueryAnswer, honest_tops, top_keys}
 use Rattle.search_phase.proofs.Requests.{list_all-slice_get}
 use Rattle.search_phase.proofs.Cut.{list_all-in_hit_order}
 use Rattle.search_phase.proofs.Lookups.{IsIn, each_in, at_each, list_all-in, list_all-weaker, list_all-take, list_all-drop, list_all-filter, list_all-flat_map, is_some-find, filter_map_where, list_any-in, IsIn-filter, list_any-map, find-filter, find_passes, lookup-map, Paired, lookup-paired, Beside}
@@ -184,7 +184,7 @@ keys_of_shard body shard [] = refl
 keys_of_shard body shard (row ∷ rows) = rw (eq-eqb shard shard refl) (keys_of_shard body shard rows)
 
 module _ (r : Reading) (writes : ℕ → List Doc) where
-  own_keys : (top : ShardTop) → IsHonestTop r writes top → list_all (λ (key : HitKey). key.shard == top.shard) top.keys ≡ true
+  own_keys : (top : ShardTop) → IsPlainTop r writes top → list_all (λ (key : HitKey). key.shard == top.shard) top.keys ≡ true
   own_keys top h =
       let rows : List Row = filter (λ row. is_found r.ask.body r.ask.slice row.1) (rows_at top.version (writes top.shard)) in
       let found : List HitKey = map (hit_key r.ask.body top.shard) rows in
@@ -195,7 +195,7 @@ module _ (r : Reading) (writes : ℕ → List Doc) where
       (list_all-in_hit_order own after (list_all-filter own (is_after r.after) found (keys_of_shard r.ask.body top.shard rows)))
 
   -- the shard of each winner has a top
-  winners_have_tops : (tops : List ShardTop) → AllByRecursion (IsHonestTop r writes) tops
+  winners_have_tops : (tops : List ShardTop) → AllByRecursion (IsPlainTop r writes) tops
       → list_all (λ (key : HitKey). list_any (λ (t : ShardTop). key.shard == t.shard) tops) (winners_among r.ask.body tops) ≡ true
   winners_have_tops tops h =
       let has_top : HitKey → Bool = λ key. list_any (λ (t : ShardTop). key.shard == t.shard) tops in
@@ -208,7 +208,7 @@ module _ (r : Reading) (writes : ℕ → List Doc) where
       of_top has_top is top here =
           list_all-weaker (λ (key : HitKey). key.shard == top.shard) has_top top.keys
           (λ key e. is key ∙ list_any-in (λ (t : ShardTop). key.shard == t.shard) top tops here e)
-          (own_keys top (at_each (IsHonestTop r writes) top tops h here))
+          (own_keys top (at_each (IsPlainTop r writes) top tops h here))
 
   -- ---- a winner's hit
 

@@ -1,5 +1,6 @@
 pub mod FetchPhase
 pub mod Fetches
+pub mod Growth
 pub mod Merged
 pub mod Plans
 pub mod Queries

@@ -8,11 +8,15 @@ use Rattle.task_events.specs.declared.context.Context.{Context}
 use Rattle.task_events.specs.declared.reading.ShardRead.{ShardRead}
 use Rattle.task_events.specs.declared.reading.ShardRead.TheVariants.{Newest, Kept}
 use Rattle.task_events.specs.declared.request.SearchAsk.{SearchAsk}
+use Rattle.task_events.specs.declared.request.ShardAsk.{ShardAsk}
+use Rattle.task_events.specs.declared.request.FetchAsk.{FetchAsk}
 use Rattle.task_events.specs.declared.request.Request.{Request}
 use Rattle.task_events.specs.declared.request.Request.TheVariants as asks
 use Rattle.task_events.specs.declared.reply.Reply.{Reply}
 use Rattle.task_events.specs.declared.reply.Reply.TheVariants.{Search, Top, Hits, AllFailed}
 use Rattle.task_events.specs.declared.reply.SearchReply.{SearchReply}
+use Rattle.task_events.specs.declared.reply.Hit.{Hit}
+use Rattle.task_events.specs.declared.reply.ShardTop.{ShardTop}
 use Rattle.task_events.specs.declared.reply.ShardCount.{ShardCount}
 use Rattle.task_events.specs.declared.step.Asked.{Asked}
 use Rattle.task_events.specs.declared.step.Do.{Do}
@@ -115,11 +119,22 @@ abbrev pub EachAnswer : (Request → Reply → Type 0) → Searching → Type 0
 EachAnswer P s = (place : ℕ) (a : Asked) (request : Request) (reply : Reply) → slice_get s.asked place ≡ Some a
     → slice_get (requests_of s.reading s.asked) place ≡ Some request → a.answer ≡ Some reply → P request reply
 
--- What a shard answers is what its writes say: a query at the version that the answer names, a fetch at the version that it asks for.
--- A cancelled or rejected task says nothing of the shard.
+-- The top of a query is what the writes of its shard say at its version.
+pub record IsHonestTop (ask : ShardAsk) (writes : List Doc) (top : ShardTop) : Type 0 where
+  -- the version lies within the writes
+  pub within : top.version ≤ length writes
+  pub says : top ≡ shard_top ask top.version writes
+
+-- The hits of a fetch are what the writes of its shard say at the version that it asks for.
+pub record AreHonestHits (ask : FetchAsk) (writes : List Doc) (hits : List Hit) : Type 0 where
+  -- the version lies within the writes
+  pub within : ask.version ≤ length writes
+  pub says : hits ≡ fetched ask writes
+
+-- What a shard answers is what its writes say. A cancelled or rejected task says nothing of the shard.
 abbrev pub IsHonest : (ℕ → List Doc) → Request → Reply → Type 0
-IsHonest writes (asks.Query ask) (Top top) = top ≡ shard_top ask top.version (writes ask.shard)
-IsHonest writes (asks.Fetch ask) (Hits hits) = hits ≡ fetched ask (writes ask.shard)
+IsHonest writes (asks.Query ask) (Top top) = IsHonestTop ask (writes ask.shard) top
+IsHonest writes (asks.Fetch ask) (Hits hits) = AreHonestHits ask (writes ask.shard) hits
 IsHonest writes request reply = Unit {0}
 
 -- each answer that the search has is honest

@@ -22,7 +22,7 @@ fn is_in_slice(slice: Option<SlicePick>, id: &[u8]) -> bool
 fn is_found(ask: &ShardAsk, doc: &Doc) -> bool
     ensures { result ≡ is_found ask.now.body ask.now.slice doc.now }
 {
-    let id = doc.id.as_str().as_bytes();
+    let id = doc.id.get().as_str().as_bytes();
     matches(&ask.body.get().query, id, doc.source.as_value()) && is_in_slice(ask.slice, id)
 }
 

@@ -7,16 +7,27 @@ ghost use Rattle.std.specs.Str.{bytes_eq};
 ghost use Rattle.task_events.specs.FetchTask.{are_among};
 ghost use Rattle.task_events.specs.HitOrder.{is_after};
 ghost use Rattle.task_events.specs.QueryTask.{ascend, is_top_for};
-ghost use Rattle.task_events.specs.Kinds.{can_have};
+ghost use Rattle.task_events.specs.Kinds.{are_below, can_have};
 ghost use Rattle.task_events.specs.Readings.{version_read};
 ghost use Rattle.task_events.specs.Searches.{query_of};
 
 use crate::keeping::is_after;
 use crate::reading::{Reading, shard_read, version_read};
-use task_events::{FetchAsk, Hit, HitKey, Reply, Request, ShardRead, ShardTop};
+use task_events::{Counts, FetchAsk, Hit, HitKey, Reply, Request, ShardRead, ShardTop};
 
 /// A count of rows is below this.
 const MAX_COUNT: u64 = 4_294_967_296;
+
+/// Whether nothing was counted, as by a task that writes nothing.
+fn are_zero(counts: Counts) -> bool
+    ensures { result ≡ are_below 1 counts }
+{
+    counts.total == 0
+        && counts.created == 0
+        && counts.updated == 0
+        && counts.batches == 0
+        && counts.failures == 0
+}
 
 fn is_ascending(keys: &[HitKey]) -> bool
     ensures { result ≡ ascend keys.now }
@@ -68,7 +79,8 @@ pub(crate) fn query_can_have(reading: &Reading, at: ShardRead, reply: &Reply) ->
         result ≡ can_have shards (Request.Query (query_of reading.now at)) reply.now }
 {
     match reply {
-        Reply::Cancelled { .. } | Reply::Rejected { .. } => true,
+        Reply::Cancelled { counts, .. } => are_zero(*counts),
+        Reply::Rejected { .. } => true,
         Reply::Top(top) => is_top_for(reading, at, top.get()),
         Reply::Search(_) | Reply::Hits(_) | Reply::AllFailed(_) => false,
     }
@@ -98,7 +110,8 @@ pub(crate) fn fetch_can_have(fetch: &FetchAsk, reply: &Reply) -> bool
     ensures { (shards : ℕ) → result ≡ can_have shards (Request.Fetch fetch.now) reply.now }
 {
     match reply {
-        Reply::Cancelled { .. } | Reply::Rejected { .. } => true,
+        Reply::Cancelled { counts, .. } => are_zero(*counts),
+        Reply::Rejected { .. } => true,
         Reply::Hits(hits) => {
             let hits = hits.get().as_slice();
             are_of_index(hits, fetch.index.get().as_str())

@@ -1,10 +1,12 @@
 -- What the work of a task does next, and what it is after an ask, an answer and a turn.
-use Rattle.std.specs.Prelude.{◌≡◌, ℕ, ◌+◌, List, Bool, false, ◌&&◌, ◌||◌, true, is_some, Option, Some, None, option_map, if◌then◌else◌}
+use Rattle.std.specs.Prelude.{◌≡◌, ℕ, ◌+◌, List, [], Bool, false, ◌&&◌, ◌||◌, true, is_some, Option, Some, None, option_map, if◌then◌else◌}
 use Rattle.task_ids.specs.declared.task_id.TaskId.{TaskId}
 use Rattle.task_ids.specs.declared.doc.Doc.{Doc}
 use Rattle.task_events.specs.declared.context.Context.{Context}
 use Rattle.task_events.specs.declared.request.Request.{Request}
 use Rattle.task_events.specs.declared.request.Request.TheVariants as asks
+use Rattle.task_events.specs.declared.request.WriteNote.{WriteNote}
+use Rattle.task_events.specs.declared.reply.Counts.{Counts}
 use Rattle.task_events.specs.declared.reply.Hit.{Hit}
 use Rattle.task_events.specs.declared.reply.ShardTop.{ShardTop}
 use Rattle.task_events.specs.declared.reply.Reply.{Reply}
@@ -14,6 +16,8 @@ use Rattle.task_events.specs.Answers.{shard_top, fetched}
 use Rattle.task_events.specs.FetchTask.{fetch_step}
 use Rattle.task_events.specs.QueryTask.{query_step}
 use Rattle.task_events.specs.Readings.{search_reading, page_reading}
+use Rattle.task_events.specs.Tasks.{no_counts}
+use Rattle.task_events.specs.Written.{notes_at}
 use Rattle.search_phase.specs.Queries as queries
 use Rattle.search_phase.specs.Queries.{QueryState, IsQueried, new_query, version_at, has_ended, queried}
 use Rattle.search_phase.specs.Fetches as fetches
@@ -59,12 +63,19 @@ place_of (Query q top) = Some (q.ask.index, q.ask.shard)
 place_of (Fetch f hits) = Some (f.ask.index, f.ask.shard)
 place_of (Scroll s) = None
 
--- what it does next, where it works on a shard with these writes
-abbrev pub next_of : Work → List Doc → Do
-next_of (Search s) writes = next_step s
-next_of (Query q top) writes = query_step q.ask (version_at q writes) q.turns writes
-next_of (Fetch f hits) writes = fetch_step f.ask f.turns writes
-next_of (Scroll s) writes = next_step s
+-- what it does next at a moment, where it works on a shard with these writes
+abbrev pub next_of : Work → List Doc → ℕ → Do
+next_of (Search s) writes now = next_step s
+next_of (Query q top) writes now = query_step q.ask (version_at q writes) q.turns writes
+next_of (Fetch f hits) writes now = fetch_step f.ask f.turns writes
+next_of (Scroll s) writes now = next_step s
+
+-- the moment for which it waits
+abbrev pub due_in : Do → Option ℕ
+due_in (steps.Wait until) = until
+due_in (steps.AskNext request) = None
+due_in steps.Turn = None
+due_in (steps.Finish reply) = None
 
 abbrev pub query_after : QueryState → List Doc → Work
 query_after q writes = Query q (found_top q writes)
@@ -86,6 +97,20 @@ HasTurned (Query q top) writes (Query r found) = queries.HasTurned q writes r ×
 HasTurned (Fetch f hits) writes (Fetch g found) = fetches.HasTurned f g × (is_some found ≡ (is_some hits || has_fetched g))
 HasTurned before writes after = ⊥
 
+-- ---- what it writes and counts
+
+-- the documents that its next turn writes: none of these kinds writes any
+abbrev pub docs_next : Work → List Doc
+docs_next work = []
+
+-- the notes of what its next turn writes, after these writes
+abbrev pub work_notes : Work → List Doc → List WriteNote
+work_notes work writes = notes_at (place_of work) writes (docs_next work)
+
+-- what it has counted so far: none of these kinds counts
+abbrev pub counts_of : Work → Counts
+counts_of work = no_counts
+
 -- ---- asks and answers: a query and a fetch ask for nothing
 
 -- it asks for a child next, and this number is above those of all its asks
@@ -105,10 +130,11 @@ work_takes (Search s) ask reply = takes s ask reply
 work_takes (Scroll s) ask reply = takes s ask reply
 work_takes _ ask reply = false
 
-abbrev pub work_with_answer : Work → ℕ → Reply → Work
-work_with_answer (Search s) ask reply = Search (with_answer s ask reply)
-work_with_answer (Scroll s) ask reply = Scroll (with_answer s ask reply)
-work_with_answer work ask reply = work
+-- after an answer at a moment
+abbrev pub work_with_answer : Work → ℕ → Reply → ℕ → Work
+work_with_answer (Search s) ask reply now = Search (with_answer s ask reply)
+work_with_answer (Scroll s) ask reply now = Scroll (with_answer s ask reply)
+work_with_answer work ask reply now = work
 
 -- ---- the plain answer
 
