@@ -1,5 +1,6 @@
--- What follows where something is found, where a call succeeds, and where it fails.
-use Rattle.std.proofs.Common.{◌≡◌, Option, Some, sym, subst, refl}
+-- What follows where something is found, where a call succeeds, where it fails, and where two names are one or differ.
+use Rattle.std.proofs.Common.{◌≡◌, ℕ, ◌⊎◌, true, false, List, Option, Some, sym, subst, refl}
+use Rattle.std.specs.Str.{bytes_eq}
 use Rattle.std.specs.Prelude.{Result, Ok, Err, OnOk, OnErr, IsSome}
 
 pub some_of : {A : Type 0} (o : Option A) (a : A) → o ≡ Some a → IsSome o
@@ -23,3 +24,7 @@ on_err (Err e) P p = p
 
 pub of_err : {T E : Type 0} (r : Result T E) (e : E) (P : Type 0) → r ≡ Err e → OnErr r P → P
 of_err r e P is p = subst (λ x. OnErr x P) is p
+
+-- two names are one, or both tests between them fail
+abbrev pub AreSameOrOther : List ℕ → List ℕ → Type 0
+AreSameOrOther a b = ((bytes_eq a b ≡ true) × (bytes_eq b a ≡ true) × (a ≡ b)) ⊎ ((bytes_eq a b ≡ false) × (bytes_eq b a ≡ false))

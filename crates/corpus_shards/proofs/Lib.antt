@@ -1,2 +1,6 @@
+pub mod Appended
 pub mod Cases
-mod StoredShards
+mod Made
+mod PlacedLines
+mod Replaced
+mod Written

@@ -1,40 +1,47 @@
--- The shards of the corpus.
-use Rattle.std.specs.Prelude.{◌≡◌, ℕ, ◌<◌, ◌^◌, List, length, Bool, Option, Some, None, map, option_map, if◌then◌else◌, String}
-use Rattle.std.specs.List.{list_any, range_with_len}
+-- What the shards of all indices have.
+use Rattle.std.specs.Prelude.{◌≡◌, ℕ, ◌<◌, List, [], length, map, slice_index_or, Bool, not, ◌&&◌, ◌==◌, is_some, option_map, false, IfSome}
+use Rattle.std.specs.Option.{option_map_or}
 use Rattle.std.specs.Str.{bytes_eq}
-use Rattle.std.specs.HashMap.{HashMap, get_by_text}
-use Rattle.std.specs.Global.{Vec}
-use Rattle.std.specs.declared.alloc.Global.{Global}
-use Rattle.std.specs.declared.hash.FoldHasher.{FoldHasher}
-use Rattle.std.specs.declared.hash.BuildHasherDefault.{BuildHasherDefault}
+use Rattle.std.specs.HashMap.{get_by_text}
+use Rattle.std.specs.HashSet.{contains_text}
 use Rattle.task_ids.specs.declared.corpus.Corpus.{Corpus}
 use Rattle.task_ids.specs.declared.corpus.CorpusLine.{CorpusLine}
 use Rattle.task_ids.specs.declared.doc.Doc.{Doc}
 use Rattle.task_events.specs.Documents.{writes_of}
+use Rattle.corpus_shards.specs.Placed.{AreFew}
+use Rattle.corpus_shards.specs.declared.Shards.{Shards}
 
-pub record Stored : Type 0 where
-  pub corpus : Corpus
-  -- how many shards each index has
-  pub shards : ℕ
+-- the index has its shards
+abbrev pub has_shards : Shards → List ℕ → Bool
+has_shards s index = is_some (get_by_text s.by_index index)
 
--- some lines are of this index
-abbrev pub has_index : List CorpusLine → List ℕ → Bool
-has_index lines index = list_any (λ line. bytes_eq index line.index) lines
+-- it has them from the corpus
+abbrev pub is_of_corpus : Shards → List ℕ → Bool
+is_of_corpus s index = has_shards s index && not (contains_text s.made index)
 
--- the writes of each shard of an index, by shard, where these are the lines
-abbrev pub shards_of : List CorpusLine → ℕ → List ℕ → List (List Doc)
-shards_of lines shards index = map (writes_of (record { lines = lines }) shards index) (range_with_len 0 shards)
+-- the writes of a shard of an index, which are none where there is no such shard
+abbrev pub writes_in : Shards → List ℕ → ℕ → List Doc
+writes_in s index shard = option_map_or (λ list. slice_index_or list.items shard []) (get_by_text s.by_index index) []
 
--- the shards of an index, if some lines are of it
-abbrev pub shards_among : List CorpusLine → ℕ → List ℕ → Option (List (List Doc))
-shards_among lines shards index = if has_index lines index then Some (shards_of lines shards index) else None
+-- Each shard of each index has what is written, of which the corpus is all lines so far: those that were read, and one for each document
+-- that was written since.
+pub record HasWritten (corpus : Corpus) (shards : ℕ) (s : Shards) : Type 0 where
+  pub count : s.count ≡ shards
+  pub some : 0 < shards
+  pub each : (index : List ℕ) (shard : ℕ) → writes_in s index shard ≡ writes_of corpus shards index shard
+  pub as_many : (index : List ℕ) → IfSome (get_by_text s.by_index index) (λ list. length list.items ≡ shards)
+  pub few : AreFew corpus.lines shards
+  pub empty : s.empty ≡ []
 
--- no shard has more documents than there are places
-abbrev pub AreFew : List CorpusLine → ℕ → Type 0
-AreFew lines shards = (index : List ℕ) (shard : ℕ) → length (writes_of (record { lines = lines }) shards index shard) < 2 ^ 32
+-- the lines of documents that are written to an index
+abbrev pub lines_of : List ℕ → List Doc → List CorpusLine
+lines_of index docs = map (λ doc. record { index = index; doc = doc }) docs
 
--- the table has the shards of each index that some lines are of
-pub record AreShards (lines : List CorpusLine) (shards : ℕ) (table : HashMap (String Global) (Vec (List Doc)) (BuildHasherDefault FoldHasher)) : Type 0 where
-  pub some_shards : 0 < shards
-  pub by_index : (index : List ℕ) → option_map (λ list. list.items) (get_by_text table index) ≡ shards_among lines shards index
-  pub few : AreFew lines shards
+-- t is s after the writes of one shard of an index have become these
+pub record Replaces (index : List ℕ) (shard : ℕ) (writes : List Doc) (s t : Shards) : Type 0 where
+  pub here : writes_in t index shard ≡ writes
+  pub elsewhere : (q : List ℕ) (k : ℕ) → (bytes_eq index q && (shard == k)) ≡ false → writes_in t q k ≡ writes_in s q k
+  pub as_many : (q : List ℕ) → option_map (λ list. length list.items) (get_by_text t.by_index q) ≡ option_map (λ list. length list.items) (get_by_text s.by_index q)
+  pub of_corpus : (q : List ℕ) → is_of_corpus t q ≡ is_of_corpus s q
+  pub count : t.count ≡ s.count
+  pub empty : t.empty ≡ s.empty

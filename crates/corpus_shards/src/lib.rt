@@ -1,42 +1,43 @@
-//! The shards of a corpus: where each of its documents lies.
+//! The shards of indices: where each document lies that the corpus has or that was written since.
 #![tactic(auto)]
 
-ghost use Rattle.std.specs.Prelude.{◌≡◌, ℕ, List, ◌++◌, ◌∷◌, [], ◌<◌, ◌^◌, length, map, IfOk, IfSome, OnOk};
+ghost use Rattle.std.specs.Prelude.{◌≡◌, ℕ, List, ◌++◌, ◌∷◌, [], ◌<◌, ◌^◌, ◌||◌, length, map, IfOk, IfSome, OnOk, OnErr, is_some};
 ghost use Rattle.std.specs.List.{range_with_len};
 ghost use Rattle.std.specs.HashMap.{get_by_text};
+ghost use Rattle.std.specs.Str.{bytes_eq};
+ghost use Rattle.task_ids.specs.Placing as placing;
+ghost use Rattle.task_ids.specs.declared.corpus.Corpus.{Corpus};
 ghost use Rattle.task_ids.specs.declared.corpus.CorpusLine.{CorpusLine};
-ghost use Rattle.task_events.specs.Documents.{writes_of};
-ghost use Rattle.corpus_shards.specs.Stored.{AreFew, AreShards, has_index};
+ghost use Rattle.std.specs.Borrow.{sem};
+ghost use Rattle.corpus_shards.specs.Lent.{LendsShard};
+ghost use Rattle.corpus_shards.specs.Placed.{AreShards, has_index};
+ghost use Rattle.corpus_shards.specs.Stored.{HasWritten, writes_in, has_shards, is_of_corpus};
 
 use shard_docs::{Shard, shard_of};
 use std::alloc::{AllocError, Global};
-use std::collections::HashMap;
-use std::marker::Model;
+use std::collections::{HashMap, HashSet};
 use task_ids::{Corpus, CorpusLine, Doc};
 
-/// The shards of each index of the corpus.
+/// The shards of each index that a document is of, or that was made. The contracts of this crate say when they have
+/// what was written (`HasWritten`).
 #[derive(Drop)]
-pub struct Shards<'a> {
-    corpus: &'a Corpus,
-    count: u32,
-    by_index: HashMap<String, Vec<Shard>>,
-    /// That of an index which no document is of.
-    empty: Shard,
+pub struct Shards {
+    /// How many shards each index has.
+    pub count: u32,
+    /// The shards of an index, from 0.
+    pub by_index: HashMap<String, Vec<Shard>>,
+    /// The indices that were made: no document of the corpus is of them.
+    pub made: HashSet<String>,
+    /// The shard of an index that has none: no document.
+    pub empty: Shard,
 }
 
-impl<'a> Model for Shards<'a> {
-    ghost use Rattle.corpus_shards.specs.Stored.{Stored, AreShards};
-    ghost use Rattle.std.specs.Prelude.{◌≡◌, []};
-    ghost use Rattle.std.specs.Coded.{codes};
-    ghost use Rattle.task_ids.specs.contracts.corpus.Corpus as corpus_row;
-
-    ghost Value = { Stored };
-
-    ghost coded = { Prim.hlevel (codes, corpus_row.the_row.coded) };
-
-    ghost view = { λ s. record { corpus = s.corpus.now; shards = s.count } };
-
-    ghost invariant = { λ s. AreShards s.corpus.now.lines s.count s.by_index × (s.empty ≡ []) };
+/// The number of the shard of a document, of so many.
+fn number_of(doc: &Doc, count: u32) -> usize
+    requires { 0 < count }
+    ensures { result ≡ placing.shard_of doc.now.id count }
+{
+    shard_of(doc.id.get().as_str().as_bytes(), count) as usize
 }
 
 /// Writes a copy of a document.
@@ -72,7 +73,7 @@ fn place(
     ensures { (lines : List CorpusLine) → AreShards lines count by_index.old
         → OnOk result (AreShards (lines ++ line.now ∷ []) count by_index.new) }
 {
-    let shard = shard_of(line.doc.id.as_str().as_bytes(), count) as usize;
+    let shard = number_of(&line.doc, count);
     if let Some(shards) = by_index.get_mut(line.index.as_str()) {
         return write_copy(&mut shards[shard], &line.doc);
     }
@@ -82,24 +83,38 @@ fn place(
     Ok(())
 }
 
-impl<'a> Shards<'a> {
-    /// A shard without a document.
-    pub fn empty(&self) -> &Shard
-        ensures { result.now ≡ [] }
+impl Shards {
+    /// The shards of a corpus, of which each index has so many. It copies the documents. It fails only for want of
+    /// memory.
+    pub fn new(alloc: Global, corpus: &Corpus, count: u32) -> Result<Shards, AllocError>
+        requires { 0 < count }
+        ensures written { IfOk result (λ shards. HasWritten corpus.now count shards) }
+        ensures of_corpus { IfOk result (λ shards. (index : List ℕ)
+            → is_of_corpus shards index ≡ has_index corpus.now.lines index) }
     {
-        &self.empty
+        let mut by_index = HashMap::new(alloc);
+        for line in corpus.lines.as_slice() {
+            place(alloc, &mut by_index, line, count)?;
+        }
+        Ok(Shards {
+            count,
+            by_index,
+            made: HashSet::new(alloc),
+            empty: Shard::new(alloc),
+        })
     }
 
-    /// Whether some document is of the index.
+    /// Whether some document of the corpus is of the index.
     pub fn has(&self, index: &str) -> bool
-        ensures { result ≡ has_index self.now.corpus.lines index.now }
+        ensures { result ≡ is_of_corpus self.now index.now }
     {
-        self.by_index.get(index).is_some()
+        self.by_index.contains_key(index) && !self.made.contains(index)
     }
 
     /// The shard of an index, from 0: the documents of the index that it has. It is empty where there is no such.
     pub fn get(&self, index: &str, shard: u32) -> &Shard
-        ensures { result.now ≡ writes_of self.now.corpus self.now.shards index.now shard }
+        requires { self.now.empty ≡ [] }
+        ensures { result.now ≡ writes_in self.now index.now shard }
     {
         let Some(shards) = self.by_index.get(index) else {
             return &self.empty;
@@ -110,21 +125,35 @@ impl<'a> Shards<'a> {
         }
     }
 
-    /// The shards of a corpus, of which each index has so many. It copies the documents. It fails only for want of memory.
-    pub fn new(alloc: Global, corpus: &'a Corpus, count: u32) -> Result<Shards<'a>, AllocError>
-        requires { 0 < count }
-        ensures ok { IfOk result (λ shards. shards ≡ record { corpus = corpus.now; shards = count }) }
-        ensures few { IfOk result (λ _. AreFew corpus.now.lines count) }
+    /// The shard of an index, from 0, to be written to, where the index has shards.
+    pub fn get_mut(&mut self, index: &str, shard: u32) -> Option<&mut Shard>
+        requires { IfSome (get_by_text self.old.by_index index.now) (λ shards. shard < length shards.items) }
+        ensures* lent { sem 𝓛 (LendsShard self.entry index.now shard result) }
+        ensures there { is_some result ≡ has_shards self.old index.now }
+        ensures writes { IfSome result (λ found. found.now ≡ writes_in self.old index.now shard) }
     {
-        let mut by_index = HashMap::new(alloc);
-        for line in corpus.lines.as_slice() {
-            place(alloc, &mut by_index, line, count)?;
+        let shards = self.by_index.get_mut(index)?;
+        Some(&mut shards[shard as usize])
+    }
+
+    /// Gives an index its shards, without a document, where it has none yet. It fails only for want of memory. In
+    /// either case no shard has another document than before.
+    pub fn make(&mut self, alloc: Global, index: &str) -> Result<(), AllocError>
+        ensures made { OnOk result ((q : List ℕ) → has_shards self.new q
+            ≡ (bytes_eq index.now q || has_shards self.old q)) }
+        ensures err { OnErr result ((q : List ℕ) → has_shards self.new q ≡ has_shards self.old q) }
+        ensures same { (q : List ℕ) (shard : ℕ) → writes_in self.new q shard ≡ writes_in self.old q shard }
+        ensures of_corpus { (q : List ℕ) → is_of_corpus self.new q ≡ is_of_corpus self.old q }
+        ensures written { (corpus : Corpus) (shards : ℕ) → HasWritten corpus shards self.old
+            → HasWritten corpus shards self.new }
+    {
+        if self.by_index.contains_key(index) {
+            return Ok(());
         }
-        Ok(Shards {
-            corpus,
-            count,
-            by_index,
-            empty: Shard::new(alloc),
-        })
+        self.made.insert(String::from_str(alloc, index)?)?;
+        let shards = empty_shards(alloc, self.count)?;
+        self.by_index
+            .insert(String::from_str(alloc, index)?, shards)?;
+        Ok(())
     }
 }

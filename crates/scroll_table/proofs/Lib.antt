@@ -1,5 +1,8 @@
 mod Answered
+mod Cleared
 mod Kept
 mod NoneDue
+mod Owned
 mod Places
+mod Ranked
 mod Timed

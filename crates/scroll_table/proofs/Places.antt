@@ -20,7 +20,7 @@ equal Greater e = absurd (cc)
 pub same_at : (a b : TaskId) → is_at (task_id_cmp a) b ≡ true → a ≡ b
 same_at a b e = exact_ids a b (equal (task_id_cmp a b) e)
 
-self_at : (a : TaskId) → is_at (task_id_cmp a) a ≡ true
+pub self_at : (a : TaskId) → is_at (task_id_cmp a) a ≡ true
 self_at a = (eq_by_cmp_equiv ids_total).refl a
 
 no_self : (a b : TaskId) → is_at (task_id_cmp a) b ≡ false → a ≡ b → ⊥

@@ -64,3 +64,12 @@ taken_out now old new id shown due gone q = ap (unexpired now) (gone q) ∙ go (
 pub none_left : (now : ℕ) (o : Option Context) → now < 2 ^ 64 → ((end : Option ℕ) → option_map end_of o ≡ Some end → is_due now end ≡ false) → unexpired now o ≡ o
 none_left now None shown none = refl
 none_left now (Some c) shown none = ap (λ b. cond b None (Some c)) (sym (due_end now c shown) ∙ none (end_of c) refl)
+
+-- ---- one more was noted, and no more is
+
+pub end_back : (contexts : BTreeMap TaskId Context) (id : TaskId) (end : Option ℕ) (was more is : TaskId → Option (Option ℕ)) → get task_id_cmp contexts id ≡ None → ((q : TaskId) → was q ≡ option_map end_of (get task_id_cmp contexts q)) → ((q : TaskId) → more q ≡ cond (is_at (task_id_cmp id) q) (Some end) (was q)) → ((q : TaskId) → is q ≡ cond (is_at (task_id_cmp id) q) None (more q)) → (q : TaskId) → is q ≡ option_map end_of (get task_id_cmp contexts q)
+end_back contexts id end was more is none each added removed q = removed q ∙ ap (cond (is_at (task_id_cmp id) q) None) (added q) ∙ go (is_at (task_id_cmp id) q) refl
+  where
+    go : (b : Bool) → is_at (task_id_cmp id) q ≡ b → cond b None (cond b (Some end) (was q)) ≡ option_map end_of (get task_id_cmp contexts q)
+    go true e = sym (ap (λ k. option_map end_of (get task_id_cmp contexts k)) (sym (same_at id q e)) ∙ ap (option_map end_of) none)
+    go false e = each q

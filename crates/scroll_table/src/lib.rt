@@ -7,6 +7,7 @@
 mod context;
 mod ends;
 mod moments;
+mod owners;
 mod table;
 
 pub use context::PageError;

@@ -1,4 +1,4 @@
-ghost use Rattle.std.specs.Prelude.{◌≡◌, ◌↔◌, ◌+◌, ◌≤◌, None, Some, Ok, Err, IsSome, IsSomeAnd, OnOk, OnErr, option_copied, filter, filter_map, min, map, length, not, if◌then◌else◌};
+ghost use Rattle.std.specs.Prelude.{◌≡◌, ◌↔◌, ◌+◌, ◌≤◌, None, Some, Ok, Err, true, false, IsSome, IsSomeAnd, OnOk, OnErr, option_copied, filter, filter_map, min, map, length, not, if◌then◌else◌};
 ghost use Rattle.std.specs.BTreeMap as tree;
 ghost use Rattle.std.specs.BTreeMap.{is_at, IsOrdered};
 ghost use Rattle.std.specs.FinMap as finite;
@@ -9,11 +9,13 @@ ghost use Rattle.task_events.specs.declared.context.Context.{Context};
 ghost use Rattle.scroll_table.specs.declared.context.PageError.{PageError};
 ghost use Rattle.scroll_table.specs.Ends as ends;
 ghost use Rattle.scroll_table.specs.Ends.{AreEndsOf};
-ghost use Rattle.task_events.specs.Contexts.{with_use, given_back, can_clear, is_expired, unexpired, version_kept};
+ghost use Rattle.scroll_table.specs.Owners.{AreOwnersOf};
+ghost use Rattle.task_events.specs.Contexts.{with_use, given_back, can_clear, is_expired, unexpired, without_owned, version_kept};
 ghost use Rattle.scroll_table.specs.Contexts.{answer_for, lent, oldest_of};
 
 use crate::context::{PageError, answer, end_of};
 use crate::ends::Ends;
+use crate::owners::Owners;
 use std::alloc::{AllocError, Global};
 use std::collections::BTreeMap;
 use std::marker::Model;
@@ -26,6 +28,8 @@ pub struct ScrollTable {
     contexts: BTreeMap<TaskId, Context>,
     /// When each of them expires.
     ends: Ends,
+    /// Those that belong to a task.
+    owners: Owners,
 }
 
 impl Model for ScrollTable {
@@ -39,10 +43,11 @@ impl Model for ScrollTable {
     ghost coded = { finite.code coded_task_id context_row.the_row.coded };
 
     ghost use Rattle.scroll_table.specs.Ends.{AreEndsOf};
+    ghost use Rattle.scroll_table.specs.Owners.{AreOwnersOf};
 
     ghost view = { λ a. finite.from_entries a.contexts.entries };
 
-    ghost invariant = { λ a. AreEndsOf a.ends a.contexts };
+    ghost invariant = { λ a. AreEndsOf a.ends a.contexts × AreOwnersOf a.owners a.contexts };
 }
 
 impl ScrollTable {
@@ -53,6 +58,7 @@ impl ScrollTable {
         ScrollTable {
             contexts: BTreeMap::new(alloc),
             ends: Ends::new(alloc),
+            owners: Owners::new(alloc),
         }
     }
 
@@ -63,10 +69,16 @@ impl ScrollTable {
         ensures err { OnErr result (self.new ≡ self.old) }
     {
         let id = context.id;
+        let owner = context.owner;
         self.ends.add(id, end_of(&context))?;
+        let Ok(()) = self.owners.add(owner, id) else {
+            self.ends.remove(&id);
+            return Err(AllocError);
+        };
         match self.contexts.insert(id, context) {
             Ok(_) => Ok(()),
             Err(_) => {
+                self.owners.remove(owner, id);
                 self.ends.remove(&id);
                 Err(AllocError)
             }
@@ -129,21 +141,14 @@ impl ScrollTable {
         ensures can { result ≡ can_clear by (finite.get self.old id) }
         ensures cleared { self.new ≡ (if result then finite.remove self.old id else self.old) }
     {
-        if !self.can_clear(id, by) {
-            return false;
-        }
-        self.contexts.remove(&id);
-        self.ends.remove(&id);
-        true
+        clear_one(&mut self.contexts, &mut self.ends, &mut self.owners, id, by)
     }
 
-    fn can_clear(&self, id: TaskId, by: Option<TaskId>) -> bool
-        ensures { result ≡ can_clear by (finite.get self.now id) }
+    /// Takes each context away that belongs to this task, unless a task uses it. It looks at no other, and takes no memory.
+    pub fn clear_owned(&mut self, owner: TaskId)
+        ensures { (id : TaskId) → finite.get self.new id ≡ without_owned owner (finite.get self.old id) }
     {
-        match self.get(id) {
-            Some(context) => context.is_owned_by(by) && context.busy.is_none(),
-            None => false,
-        }
+        clear_each(&mut self.contexts, &mut self.ends, &mut self.owners, owner);
     }
 
     /// The least version that a context keeps of a shard of an index, where one keeps one. It goes over all contexts.
@@ -160,7 +165,7 @@ impl ScrollTable {
         ensures count { finite.len self.new + result ≡ finite.len self.old }
     {
         let before = self.contexts.len();
-        take_expired(&mut self.contexts, &mut self.ends, now);
+        take_expired(&mut self.contexts, &mut self.ends, &mut self.owners, now);
         (before - self.contexts.len()) as u64
     }
 }
@@ -213,16 +218,93 @@ fn note_return(
     end_of(context)
 }
 
-/// Takes away the contexts that have expired.
-fn take_expired(contexts: &mut BTreeMap<TaskId, Context>, ends: &mut Ends, now: u64)
-    requires { AreEndsOf ends.old contexts.old }
+/// Whether a context is there that belongs to this task, or to none where this is none, and that no task uses.
+fn may_clear(contexts: &BTreeMap<TaskId, Context>, id: &TaskId, by: Option<TaskId>) -> bool
+    ensures { result ≡ can_clear by (tree.get task_id_cmp contexts.now id.now) }
+{
+    match contexts.get(id) {
+        Some(context) => context.is_owned_by(by) && context.busy.is_none(),
+        None => false,
+    }
+}
+
+/// Takes a context away, also from those of its owner.
+fn take_out(contexts: &mut BTreeMap<TaskId, Context>, owners: &mut Owners, id: &TaskId)
+    requires { AreOwnersOf owners.old contexts.old }
+    ensures owners { AreOwnersOf owners.new contexts.new }
+    ensures gone { (q : TaskId) → tree.get task_id_cmp contexts.new q
+        ≡ (if is_at (task_id_cmp id.now) q then None else tree.get task_id_cmp contexts.old q) }
+    ensures fewer { length contexts.new.entries ≤ length contexts.old.entries }
+{
+    if let Some(context) = contexts.remove(id) {
+        owners.remove(context.owner, *id);
+    }
+}
+
+/// Takes a context away that belongs to this task, or to none where this is none, unless a task uses it, and says whether
+/// it was there.
+fn clear_one(
+    contexts: &mut BTreeMap<TaskId, Context>,
+    ends: &mut Ends,
+    owners: &mut Owners,
+    id: TaskId,
+    by: Option<TaskId>,
+) -> bool
+    requires ends { AreEndsOf ends.old contexts.old }
+    requires owners { AreOwnersOf owners.old contexts.old }
     ensures ends { AreEndsOf ends.new contexts.new }
+    ensures owners { AreOwnersOf owners.new contexts.new }
+    ensures can { result ≡ can_clear by (tree.get task_id_cmp contexts.old id) }
+    ensures gone { result ≡ true → (q : TaskId) → tree.get task_id_cmp contexts.new q
+        ≡ (if is_at (task_id_cmp id) q then None else tree.get task_id_cmp contexts.old q) }
+    ensures stays { result ≡ false → contexts.new ≡ contexts.old }
+{
+    if !may_clear(contexts, &id, by) {
+        return false;
+    }
+    take_out(contexts, owners, &id);
+    ends.remove(&id);
+    true
+}
+
+/// Takes each context away that belongs to this task, unless a task uses it.
+fn clear_each(
+    contexts: &mut BTreeMap<TaskId, Context>,
+    ends: &mut Ends,
+    owners: &mut Owners,
+    owner: TaskId,
+)
+    requires ends { AreEndsOf ends.old contexts.old }
+    requires owners { AreOwnersOf owners.old contexts.old }
+    ensures ends { AreEndsOf ends.new contexts.new }
+    ensures owners { AreOwnersOf owners.new contexts.new }
+    ensures left { (id : TaskId) → tree.get task_id_cmp contexts.new id
+        ≡ without_owned owner (tree.get task_id_cmp contexts.old id) }
+{
+    let mut after = None;
+    while let Some(id) = owners.next(owner, after) {
+        clear_one(contexts, ends, owners, id, Some(owner));
+        after = Some(id);
+    }
+}
+
+/// Takes away the contexts that have expired.
+fn take_expired(
+    contexts: &mut BTreeMap<TaskId, Context>,
+    ends: &mut Ends,
+    owners: &mut Owners,
+    now: u64,
+)
+    requires ends { AreEndsOf ends.old contexts.old }
+    requires owners { AreOwnersOf owners.old contexts.old }
+    ensures ends { AreEndsOf ends.new contexts.new }
+    ensures owners { AreOwnersOf owners.new contexts.new }
     ensures left { (id : TaskId) → tree.get task_id_cmp contexts.new id
         ≡ unexpired now (tree.get task_id_cmp contexts.old id) }
     ensures fewer { length contexts.new.entries ≤ length contexts.old.entries }
 {
     while let Some(id) = ends.take_due(now) {
-        contexts.remove(&id);
+        take_out(contexts, owners, &id);
     }
 }
 

@@ -1,7 +1,8 @@
-use Rattle.std.proofs.Common.{take, subst, ◌∙◌, sym, ap, ◌++◌, ◌∷◌, []}
+use Rattle.std.proofs.Common.{take, subst, ◌∙◌, sym, ap, ◌++◌, ◌∷◌, [], refl}
 use Rattle.std.proofs.lemmas.List.{take_more, take_all}
-use Rattle.corpus_shards.specs.Stored.{AreShards, AreFew}
-use Rattle.corpus_shards.proofs.StoredShards.{no_lines, as_many_shards}
+use Rattle.corpus_shards.specs.Placed.{AreShards}
+use Rattle.corpus_shards.proofs.PlacedLines.{no_lines, as_many_shards}
+use Rattle.corpus_shards.proofs.Written.{placed, placed_indices}
 use Rattle.corpus_shards.proofs.Shards.new.Goals as goal
 
 pub loop-line-init : goal.loop-line-init
@@ -16,12 +17,12 @@ loop-line-preserved c =
 pub place-requires-clause-as_many : goal.place-requires-clause-as_many
 place-requires-clause-as_many c = as_many_shards _ c.args.count c.loop-line.by_index c.loop-line.invariant
 
-pub invariant_of-result : goal.invariant_of-result
-invariant_of-result c =
+pub returns-clause-written : goal.returns-clause-written
+returns-clause-written c =
     let all = take_all c.loop-line.line-index c.as_slice-line-items.result.now c.loop-line-test.false ∙ c.as_slice-line-items.ensures in
-    (subst (λ lines. AreShards lines c.args.count c.loop-line.by_index) all c.loop-line.invariant, c.new.ensures)
+    placed c.args.corpus.now.lines c.args.count _ (subst (λ lines. AreShards lines c.args.count c.loop-line.by_index) all c.loop-line.invariant) refl c.new-2.ensures
 
-pub returns-clause-few : goal.returns-clause-few
-returns-clause-few c =
+pub returns-clause-of_corpus : goal.returns-clause-of_corpus
+returns-clause-of_corpus c =
     let all = take_all c.loop-line.line-index c.as_slice-line-items.result.now c.loop-line-test.false ∙ c.as_slice-line-items.ensures in
-    subst (λ lines. AreFew lines c.args.count) all c.loop-line.invariant.few
+    placed_indices c.args.corpus.now.lines c.args.count (record { count = c.args.count; by_index = c.loop-line.by_index; made = c.new.result; empty = c.new-2.result }) (subst (λ lines. AreShards lines c.args.count c.loop-line.by_index) all c.loop-line.invariant) c.new.ensures.empty

@@ -1,5 +1,5 @@
 use Rattle.std.proofs.Common.{take}
-use Rattle.corpus_shards.specs.Stored.{AreShards}
+use Rattle.corpus_shards.specs.Placed.{AreShards}
 use Rattle.corpus_shards.proofs.Shards.new.Given as goal
 
 abbrev pub invariant-loop-line : goal.invariant-loop-line

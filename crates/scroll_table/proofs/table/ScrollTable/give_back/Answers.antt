@@ -6,6 +6,7 @@ use Rattle.task_ids.proofs.TaskIdKeys.{get_id, one_put}
 use Rattle.task_events.specs.declared.context.Context.{Context}
 use Rattle.task_events.specs.Contexts.{given_back}
 use Rattle.scroll_table.specs.Ends.{kept_at}
+use Rattle.scroll_table.proofs.Owned.{owner_stays}
 use Rattle.scroll_table.proofs.Timed.{one_changed, set_there}
 use Rattle.scroll_table.proofs.Answered.{one_there}
 use Rattle.scroll_table.proofs.table.ScrollTable.give_back.Goals as goal
@@ -22,13 +23,15 @@ invariant_of-self c =
     let ends = c.self.inside.ends in
     let (context, there) = one_there (finite.get c.args.self.now id) _ c.requires.busy in
     let stands = sym (get_id c.self.inside.contexts.entries id) ∙ ap (λ m. finite.get m id) c.self.view_is ∙ there in
-    let kept = set_there c.self.inside.contexts id context c.note_return-end.result (kept_at ends) (kept_at c.set.new.self) stands c.self.invariant.each c.set.ensures.set in
-    record {
-      ends = c.set.ensures.ends;
-      each = one_changed c.self.inside.contexts c.note_return-end.new.contexts id (Some (given_back c.args.after c.args.now context)) (kept_at ends) (kept_at c.set.new.self) c.self.invariant.each
-          (c.note_return-end.ensures.returned context stands)
-          (λ q. kept q ∙ ap (λ end. cond (is_at (task_id_cmp id) q) (Some end) (kept_at ends q)) (c.note_return-end.ensures.end context stands));
-    }
+    let changed = c.note_return-end.ensures.returned context stands in
+    let kept = set_there c.self.inside.contexts id context c.note_return-end.result (kept_at ends) (kept_at c.set.new.self) stands c.self.invariant.0.each c.set.ensures.set in (
+      record {
+        ends = c.set.ensures.ends;
+        each = one_changed c.self.inside.contexts c.note_return-end.new.contexts id (Some (given_back c.args.after c.args.now context)) (kept_at ends) (kept_at c.set.new.self) c.self.invariant.0.each changed
+            (λ q. kept q ∙ ap (λ end. cond (is_at (task_id_cmp id) q) (Some end) (kept_at ends q)) (c.note_return-end.ensures.end context stands));
+      },
+      owner_stays c.self.inside.owners c.self.inside.contexts c.note_return-end.new.contexts id c.self.invariant.1 context (given_back c.args.after c.args.now context) stands refl changed,
+    )
 
 pub returns : goal.returns
 returns c context there =

@@ -1,5 +1,5 @@
--- The shards of the corpus, line by line.
-use Rattle.std.proofs.Common.{◌≡◌, ℕ, suc, zero, ◌+◌, ◌<◌, ◌≤◌, ◌^◌, ◌⊎◌, Bool, true, false, ◌||◌, cond, List, [], ◌∷◌, ◌++◌, length, map, filter, set, get_or, Option, Some, None, refl, sym, ap, ◌∙◌, arith, inl, inr, subst}
+-- The shards of each index while the lines are placed, one after the other.
+use Rattle.std.proofs.Common.{◌≡◌, ℕ, suc, zero, ◌+◌, ◌<◌, ◌≤◌, ◌^◌, Bool, true, false, ◌||◌, cond, List, [], ◌∷◌, ◌++◌, length, map, filter, set, get_or, Option, Some, None, refl, sym, ap, ◌∙◌, arith, inl, inr, subst}
 use Rattle.std.specs.Prelude.{◌&&◌, ◌==◌, option_map}
 use Rattle.std.specs.List.{range_with_len}
 use Rattle.std.specs.Str.{bytes_eq}
@@ -10,8 +10,7 @@ use Rattle.std.specs.declared.hash.FoldHasher.{FoldHasher}
 use Rattle.std.specs.declared.hash.BuildHasherDefault.{BuildHasherDefault}
 use Rattle.std.specs.Map.{lookup}
 use Rattle.std.specs.Prelude.{String, string_bytes, IfSome}
-use Rattle.std.proofs.lemmas.List.{map-append}
-use Rattle.std.proofs.lemmas.List.Elements.{filter-append}
+use Rattle.std.proofs.lemmas.List.{append-nil}
 use Rattle.std.proofs.lemmas.List.FromFn.{get_or-map-range_with_len, length-map-range_with_len}
 use Rattle.std.proofs.lemmas.Bool.Decides.{nat_tests}
 use Rattle.std.proofs.lemmas.Slice.Eq.{bytes_eq-Decides}
@@ -20,7 +19,9 @@ use Rattle.task_ids.specs.declared.doc.Doc.{Doc}
 use Rattle.task_ids.specs.Placing.{shard_of}
 use Rattle.task_events.specs.Documents.{writes_of}
 use Rattle.shard_docs.proofs.Ids.{same_or_other}
-use Rattle.corpus_shards.specs.Stored.{has_index, shards_of, shards_among, AreShards}
+use Rattle.corpus_shards.specs.Placed.{has_index, shards_of, shards_among, AreShards}
+use Rattle.corpus_shards.proofs.Appended.{writes_append}
+use Rattle.corpus_shards.proofs.Cases.{AreSameOrOther}
 
 -- the writes of a shard, where these are the lines
 abbrev written_by : List CorpusLine → ℕ → List ℕ → ℕ → List Doc
@@ -57,9 +58,7 @@ past_shards lines shards index shard some past = ap (map (λ line. line.doc)) (n
 
 pub one_more : (lines : List CorpusLine) (line : CorpusLine) (shards : ℕ) (index : List ℕ) (shard : ℕ)
     → written_by (lines ++ line ∷ []) shards index shard ≡ written_by lines shards index shard ++ cond (is_of index shards shard line) (line.doc ∷ []) []
-one_more lines line shards index shard =
-    ap (map (λ l. l.doc)) (filter-append (is_of index shards shard) lines (line ∷ [])) ∙ map-append (λ l. l.doc) (filter (is_of index shards shard) lines) _
-    ∙ ap (λ later. written_by lines shards index shard ++ later) (one (is_of index shards shard line))
+one_more lines line shards index shard = writes_append lines (line ∷ []) shards index shard ∙ ap (λ later. written_by lines shards index shard ++ later) (one (is_of index shards shard line))
   where
     one : (b : Bool) → map (λ (l : CorpusLine). l.doc) (cond b (line ∷ []) []) ≡ cond b (line.doc ∷ []) []
     one true = refl
@@ -81,11 +80,7 @@ set_one f g a (suc n) (suc s) at within here others =
 
 more_elsewhere : (lines : List CorpusLine) (line : CorpusLine) (shards : ℕ) (index : List ℕ) (shard : ℕ) → is_of index shards shard line ≡ false
     → written_by (lines ++ line ∷ []) shards index shard ≡ written_by lines shards index shard
-more_elsewhere lines line shards index shard off = one_more lines line shards index shard ∙ rw off (nothing (written_by lines shards index shard))
-  where
-    nothing : (xs : List Doc) → xs ++ [] ≡ xs
-    nothing [] = refl
-    nothing (x ∷ xs) = ap (λ later. x ∷ later) (nothing xs)
+more_elsewhere lines line shards index shard off = one_more lines line shards index shard ∙ rw off (append-nil (written_by lines shards index shard))
 
 abbrev pub Table : Type 0
 Table = HashMap (String Global) (Vec (List Doc)) (BuildHasherDefault FoldHasher)
@@ -172,7 +167,7 @@ after_line lines line shards table after list are changed wrote few = record {
     or_true true = refl
     or_true false = refl
 
-    at_index : (index : List ℕ) → ((bytes_eq line.index index ≡ true) × (bytes_eq index line.index ≡ true) × (line.index ≡ index)) ⊎ ((bytes_eq line.index index ≡ false) × (bytes_eq index line.index ≡ false))
+    at_index : (index : List ℕ) → AreSameOrOther line.index index
         → option_map (λ l. l.items) (get_by_text after index) ≡ shards_among (lines ++ line ∷ []) shards index
     at_index index (inl (hit, back, same)) =
         ap (option_map (λ l. l.items)) (changed index ∙ ap (λ b. cond b (Some list) (get_by_text table index)) hit)
@@ -190,7 +185,7 @@ after_line lines line shards table after list are changed wrote few = record {
         elsewhere b e = ap (λ h. cond h (Some (shards_of (lines ++ line ∷ []) shards index)) None) (e ∙ or_false (has_index lines index))
             ∙ ap (λ s. cond (has_index lines index) (Some s) None) (same_shards lines line shards are.some_shards index back)
 
-    few_at : (index : List ℕ) (shard : ℕ) → ((bytes_eq line.index index ≡ true) × (bytes_eq index line.index ≡ true) × (line.index ≡ index)) ⊎ ((bytes_eq line.index index ≡ false) × (bytes_eq index line.index ≡ false))
+    few_at : (index : List ℕ) (shard : ℕ) → AreSameOrOther line.index index
         → (b : Bool) → is_of index shards shard line ≡ b → length (written_by (lines ++ line ∷ []) shards index shard) < 2 ^ 32
     few_at index shard which false e = subst (λ docs. length docs < 2 ^ 32) (sym (more_elsewhere lines line shards index shard e)) (are.few index shard)
     few_at index shard (inr (off, back)) true e = absurd (let h = rw back at e in cc)

@@ -1,0 +1,100 @@
+-- An index gets shards without a document: nothing that is written changes.
+use Rattle.std.proofs.Common.{◌≡◌, ℕ, zero, suc, ◌+◌, inl, inr, Bool, true, false, not, ◌&&◌, ◌||◌, cond, List, [], length, map, get_or, Option, Some, None, sym, subst, ap, ◌∙◌, refl}
+use Rattle.std.specs.Prelude.{IfSome, is_some}
+use Rattle.std.specs.Option.{option_map_or}
+use Rattle.std.specs.List.{range_with_len}
+use Rattle.std.specs.Str.{bytes_eq}
+use Rattle.std.specs.HashMap as table
+use Rattle.std.specs.HashMap.{HashMap, get_by_text}
+use Rattle.std.specs.HashSet as set
+use Rattle.std.specs.HashSet.{HashSet, contains_text}
+use Rattle.std.specs.String.{string_eq}
+use Rattle.std.specs.Prelude.{String, string_bytes}
+use Rattle.std.specs.declared.alloc.Global.{Global}
+use Rattle.std.specs.declared.hash.FoldHasher.{FoldHasher}
+use Rattle.std.specs.declared.hash.BuildHasherDefault.{BuildHasherDefault}
+use Rattle.std.proofs.lemmas.Map.Text.{hash_map_updates_text, hash_set_updates_text}
+use Rattle.std.specs.Global.{Vec}
+use Rattle.std.proofs.lemmas.List.FromFn.{length-map-range_with_len}
+use Rattle.task_ids.specs.declared.corpus.Corpus.{Corpus}
+use Rattle.task_ids.specs.declared.doc.Doc.{Doc}
+use Rattle.shard_docs.proofs.Ids.{same_or_other}
+use Rattle.corpus_shards.specs.declared.Shards.{Shards}
+use Rattle.corpus_shards.specs.Stored.{HasWritten, writes_in, has_shards, is_of_corpus}
+use Rattle.corpus_shards.proofs.Cases.{AreSameOrOther}
+
+-- nothing lies in shards without a document
+nothing_in : (a n k : ℕ) → get_or {A = List Doc} (map (λ _. []) (range_with_len a n)) k [] ≡ []
+nothing_in a zero k = refl
+nothing_in a (suc n) zero = refl
+nothing_in a (suc n) (suc k) = nothing_in (a + 1) n k
+
+-- what a set and a table have after a change at an index
+pub noted : (old new : HashSet (String Global) (BuildHasherDefault FoldHasher)) (name : String Global) (index : List ℕ) → string_bytes name ≡ index → set.UpdatesBy string_eq (string_eq name) old new true
+    → (q : List ℕ) → contains_text new q ≡ cond (bytes_eq index q) true (contains_text old q)
+noted old new name index named updates = subst (λ (i : List ℕ). (q : List ℕ) → contains_text new q ≡ cond (bytes_eq i q) true (contains_text old q)) named (hash_set_updates_text (string_bytes name) old new true updates)
+
+pub entered : {X : Type 0} (old new : HashMap (String Global) X (BuildHasherDefault FoldHasher)) (name : String Global) (index : List ℕ) (value : X) → string_bytes name ≡ index → table.UpdatesBy string_eq (string_eq name) old new (Some value)
+    → (q : List ℕ) → get_by_text new q ≡ cond (bytes_eq index q) (Some value) (get_by_text old q)
+entered old new name index value named updates =
+    subst (λ (i : List ℕ). (q : List ℕ) → get_by_text new q ≡ cond (bytes_eq i q) (Some value) (get_by_text old q)) named (hash_map_updates_text (string_bytes name) old new (Some value) updates)
+
+module _ (s t : Shards) (index : List ℕ) (none : has_shards s index ≡ false) where
+  -- an index that had no shards is noted as one that was made
+  pub of_corpus_still : ((q : List ℕ) → bytes_eq index q ≡ false → has_shards t q ≡ has_shards s q)
+      → ((q : List ℕ) → contains_text t.made q ≡ cond (bytes_eq index q) true (contains_text s.made q)) → (q : List ℕ) → is_of_corpus t q ≡ is_of_corpus s q
+  of_corpus_still others noted q = by_case (same_or_other index q)
+    where
+      and_false : (b : Bool) → (b && false) ≡ false
+      and_false true = refl
+      and_false false = refl
+
+      by_case : AreSameOrOther index q → is_of_corpus t q ≡ is_of_corpus s q
+      by_case (inl (hit, back, same)) =
+          ap (λ made. has_shards t q && not made) (noted q ∙ ap (λ b. cond b true (contains_text s.made q)) hit) ∙ and_false (has_shards t q)
+          ∙ sym (ap (λ has. has && not (contains_text s.made q)) (ap (has_shards s) (sym same) ∙ none))
+      by_case (inr (off, back)) =
+          ap (λ made. has_shards t q && not made) (noted q ∙ ap (λ b. cond b true (contains_text s.made q)) off)
+          ∙ ap (λ has. has && not (contains_text s.made q)) (others q off)
+
+  module _ (list : Vec (List Doc)) (blank : list.items ≡ map (λ _. []) (range_with_len 0 s.count))
+      (changed : (q : List ℕ) → get_by_text t.by_index q ≡ cond (bytes_eq index q) (Some list) (get_by_text s.by_index q)) where
+    pub has_made : (q : List ℕ) → has_shards t q ≡ bytes_eq index q || has_shards s q
+    has_made q = ap is_some (changed q) ∙ of_either (bytes_eq index q)
+      where
+        of_either : (b : Bool) → is_some (cond b (Some list) (get_by_text s.by_index q)) ≡ b || has_shards s q
+        of_either true = refl
+        of_either false = refl
+
+    pub others_stay : (q : List ℕ) → bytes_eq index q ≡ false → has_shards t q ≡ has_shards s q
+    others_stay q off = has_made q ∙ ap (λ b. b || has_shards s q) off
+
+    abbrev found_as : (o : Option (Vec (List Doc))) (k : ℕ) → List Doc
+    found_as o k = option_map_or (λ those. get_or those.items k []) o []
+
+    pub same_writes : (q : List ℕ) (k : ℕ) → writes_in t q k ≡ writes_in s q k
+    same_writes q k = ap (λ o. found_as o k) (changed q) ∙ by_case (same_or_other index q)
+      where
+        nothing_at : (o : Option (Vec (List Doc))) → is_some o ≡ false → found_as o k ≡ []
+        nothing_at None e = refl
+        nothing_at (Some those) e = absurd (cc)
+
+        by_case : AreSameOrOther index q → found_as (cond (bytes_eq index q) (Some list) (get_by_text s.by_index q)) k ≡ writes_in s q k
+        by_case (inl (hit, back, same)) =
+            ap (λ b. found_as (cond b (Some list) (get_by_text s.by_index q)) k) hit ∙ ap (λ items. get_or items k []) blank ∙ nothing_in 0 s.count k
+            ∙ sym (nothing_at (get_by_text s.by_index q) (ap (has_shards s) (sym same) ∙ none))
+        by_case (inr (off, back)) = ap (λ b. found_as (cond b (Some list) (get_by_text s.by_index q)) k) off
+
+    pub still_written : t.count ≡ s.count → t.empty ≡ s.empty → (corpus : Corpus) (shards : ℕ) → HasWritten corpus shards s → HasWritten corpus shards t
+    still_written count empty corpus shards has = record {
+      count = count ∙ has.count;
+      some = has.some;
+      each = λ q k. same_writes q k ∙ has.each q k;
+      as_many = λ q. as_many_at q (bytes_eq index q) refl;
+      few = has.few;
+      empty = empty ∙ has.empty;
+    }
+      where
+        as_many_at : (q : List ℕ) (b : Bool) → bytes_eq index q ≡ b → IfSome (get_by_text t.by_index q) (λ those. length those.items ≡ shards)
+        as_many_at q true e = rw (changed q, e) (ap length blank ∙ length-map-range_with_len {X = List Doc} (λ _. []) 0 s.count ∙ has.count)
+        as_many_at q false e = rw (changed q, e) (has.as_many q)

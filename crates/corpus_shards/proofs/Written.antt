@@ -1,0 +1,60 @@
+-- The shards have what is written.
+use Rattle.std.proofs.Common.{◌≡◌, ◌⊎◌, inl, inr, not, ◌&&◌, ℕ, ◌<◌, ◌≤◌, Bool, true, false, List, [], length, map, get_or, string_bytes, Option, Some, None, sym, ap, ◌∙◌, refl, arith}
+use Rattle.std.specs.Prelude.{is_some, option_map, if◌then◌else◌}
+use Rattle.std.specs.List.{list_any, range_with_len}
+use Rattle.std.specs.Str.{bytes_eq}
+use Rattle.std.specs.HashMap.{get_by_text}
+use Rattle.std.specs.Global.{Vec}
+use Rattle.std.proofs.lemmas.List.{get_or_past}
+use Rattle.std.proofs.lemmas.List.FromFn.{get_or-map-range_with_len, length-map-range_with_len}
+use Rattle.std.proofs.lemmas.Bool.{cases_lt}
+use Rattle.task_ids.specs.declared.corpus.CorpusLine.{CorpusLine}
+use Rattle.task_ids.specs.declared.doc.Doc.{Doc}
+use Rattle.task_events.specs.Documents.{writes_of}
+use Rattle.corpus_shards.specs.declared.Shards.{Shards}
+use Rattle.corpus_shards.specs.Placed.{has_index, AreShards}
+use Rattle.corpus_shards.specs.Stored.{HasWritten, writes_in, is_of_corpus}
+use Rattle.corpus_shards.proofs.PlacedLines.{found_shards, none_found, as_many_shards, unknown_index, past_shards}
+
+-- ---- once the corpus is placed
+
+module _ (lines : List CorpusLine) (shards : ℕ) (s : Shards) (are : AreShards lines shards s.by_index) where
+  placed_each : (index : List ℕ) (shard : ℕ) → writes_in s index shard ≡ writes_of (record { lines = lines }) shards index shard
+  placed_each index shard = by_case (get_by_text s.by_index index) refl
+    where
+      in_list : (list : Vec (List Doc)) → list.items ≡ map (writes_of (record { lines = lines }) shards index) (range_with_len 0 shards) → (shard < shards) ⊎ (shards ≤ shard)
+          → get_or list.items shard [] ≡ writes_of (record { lines = lines }) shards index shard
+      in_list list are_those (inl within) = ap (λ xs. get_or xs shard []) are_those ∙ get_or-map-range_with_len (writes_of (record { lines = lines }) shards index) 0 shards shard shard [] within (omega arith)
+      in_list list are_those (inr past) =
+          let many = ap length are_those ∙ length-map-range_with_len (writes_of (record { lines = lines }) shards index) 0 shards in
+          get_or_past list.items shard [] (omega (arith, many, past)) ∙ sym (past_shards lines shards index shard are.some_shards past)
+
+      by_case : (o : Option (Vec (List Doc))) → get_by_text s.by_index index ≡ o → writes_in s index shard ≡ writes_of (record { lines = lines }) shards index shard
+      by_case None e = rw e (sym (unknown_index lines shards index shard (none_found lines shards s.by_index index are e)))
+      by_case (Some list) e = rw e (in_list list (found_shards lines shards s.by_index index list are e) (cases_lt shard shards))
+
+  pub placed : s.count ≡ shards → s.empty ≡ [] → HasWritten (record { lines = lines }) shards s
+  placed count empty = record {
+    count = count;
+    some = are.some_shards;
+    each = placed_each;
+    as_many = as_many_shards lines shards s.by_index are;
+    few = are.few;
+    empty = empty;
+  }
+
+  pub placed_indices : s.made.keys ≡ [] → (index : List ℕ) → is_of_corpus s index ≡ has_index lines index
+  placed_indices none index = ap (λ keys. is_some (get_by_text s.by_index index) && not (list_any (λ key. bytes_eq index (string_bytes key)) keys)) none
+      ∙ and_true (is_some (get_by_text s.by_index index)) ∙ sym (is_some_map (get_by_text s.by_index index)) ∙ ap is_some (are.by_index index) ∙ is_some_if _ (has_index lines index)
+    where
+      and_true : (b : Bool) → (b && not false) ≡ b
+      and_true true = refl
+      and_true false = refl
+
+      is_some_map : (o : Option (Vec (List Doc))) → is_some (option_map (λ list. list.items) o) ≡ is_some o
+      is_some_map None = refl
+      is_some_map (Some list) = refl
+
+      is_some_if : {X : Type 0} (x : X) (b : Bool) → is_some (if b then Some x else None) ≡ b
+      is_some_if x true = refl
+      is_some_if x false = refl
