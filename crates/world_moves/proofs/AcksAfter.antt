@@ -53,6 +53,7 @@ use Rattle.world_moves.proofs.KeptTasks.{kept_same}
 use Rattle.world_moves.proofs.NodeTablesSame.{listed_same}
 use Rattle.world_moves.proofs.NamedCancels.{is_in, in_filter}
 use Rattle.world_moves.proofs.Parts.{part_lawful, part_plain, later_part}
+use Rattle.world_moves.specs.Good.{so_far}
 
 -- ---- tasks and messages
 
@@ -75,15 +76,16 @@ module _ (cluster : Cluster) (corpus : Corpus) (script : Script) (h : List Event
       let taken = ack_taken cluster corpus script h tasks tables flight ties nth p n here in
       record {
         lawful = (taken.0, ties.lawful, awaits);
-        kept = kept_same cluster corpus (scripted script) (Acked p n) h tasks refl ties.kept;
+        kept = kept_same cluster corpus (scripted script) (Acked p n) h tasks refl refl ties.kept;
         listed = λ place. listed_same cluster (Acked p n) h (λ m. refl) refl place _ (ties.listed place);
         sent = map-append (message_of (Acked p n ∷ h)) (remove flight nth) more
             ∙ ap (λ ms. ms ++ map (message_of (Acked p n ∷ h)) more) (all_stay (Acked p n) h (remove flight nth) (remove (in_flight h) nth) (pairs_left (message_of h) flight (in_flight h) nth ties.sent))
             ∙ ap (λ ms. map Some (remove (in_flight h) nth) ++ ms) says
             ∙ sym (map-append Some (remove (in_flight h) nth) (unbans_from p (Acked p n ∷ h)))
             ∙ ap (λ ms. map Some (ms ++ unbans_from p (Acked p n ∷ h))) (sym taken.1);
-        good = rw taken.1 (all_append (IsGood cluster corpus (Acked p n ∷ h)) (remove (in_flight h) nth) (unbans_from p (Acked p n ∷ h)) (all_left (IsGood cluster corpus h) (in_flight h) nth ties.good)
-            (good_unbans cluster corpus (Acked p n ∷ h) p (unbans_are_sent p (Acked p n ∷ h)) (banned_nodes p h)));
+        good = rw taken.1 (all_append (IsGood cluster (so_far corpus script h) (Acked p n ∷ h)) (remove (in_flight h) nth) (unbans_from p (Acked p n ∷ h)) (all_left (IsGood cluster (so_far corpus script h) h) (in_flight h) nth ties.good)
+            (good_unbans cluster (so_far corpus script h) (Acked p n ∷ h) p (unbans_are_sent p (Acked p n ∷ h)) (banned_nodes p h)));
+        within = ties.within;
         plain = ties.plain;
       }
 

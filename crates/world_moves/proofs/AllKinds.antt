@@ -1,65 +1,93 @@
 -- Each kind of task shows what KindLaws asks of it.
-use Rattle.std.proofs.Common.{◌≡◌, ℕ, List, [], Option, Some, None, subst}
+use Rattle.std.proofs.Common.{◌≡◌, ℕ, Bool, true, false, List, [], Option, Some, None, refl, subst}
 use Rattle.std.specs.Prelude.{⊤}
 use Rattle.task_ids.specs.declared.task_id.TaskId.{TaskId}
 use Rattle.task_ids.specs.declared.cluster.Cluster.{Cluster}
 use Rattle.task_ids.specs.declared.corpus.Corpus.{Corpus}
 use Rattle.task_ids.specs.declared.doc.Doc.{Doc}
 use Rattle.task_events.specs.declared.context.Context.{Context}
+use Rattle.task_events.specs.declared.event.Event.{Event}
 use Rattle.task_events.specs.declared.request.Request.{Request}
 use Rattle.task_events.specs.declared.request.Request.TheVariants as asks
+use Rattle.task_events.specs.declared.request.ScrollAsk.{ScrollAsk}
+use Rattle.task_events.specs.declared.reply.Counts.{Counts}
 use Rattle.task_events.specs.declared.reply.Reply.TheVariants.{Cancelled, Rejected}
-use Rattle.task_events.specs.declared.step.Asked.{Asked}
 use Rattle.task_events.specs.Counts.{AreCounts}
+use Rattle.task_events.specs.Kind.{Progress}
+use Rattle.task_events.specs.Kinds.{kind_of, are_below}
 use Rattle.task_events.specs.Readings.{search_reading}
-use Rattle.task_events.specs.Tasks.{no_counts}
+use Rattle.node_parts.specs.declared.running.Running.{Running}
 use Rattle.task_work.specs.declared.work.Work.{Work}
+use Rattle.task_work.specs.declared.work.Work.TheVariants as works
 use Rattle.task_work.specs.Works.{IsWorkOn, new_work}
-use Rattle.world_moves.specs.Good.{IsGoodReply}
+use Rattle.world_moves.specs.Facts.{Facts}
+use Rattle.world_moves.specs.Good.{IsGoodReply, IsWithin, IsContextWithin, Grows}
 use Rattle.world_moves.specs.SearchRuns.{RunsSearch, RunsPage}
-use Rattle.world_moves.specs.Ties.{WorksFor}
-use Rattle.world_moves.proofs.FetchLaws.{fetch_starts, fetch_rejected, fetch_cancelled, fetch_laws}
+use Rattle.world_moves.specs.Ties.{WorksFor, RunsAt, progress_from}
+use Rattle.world_moves.proofs.FetchLaws.{fetch_starts, fetch_rejected, fetch_cancelled, fetch_grows, fetch_laws}
+use Rattle.world_moves.proofs.FirstRuns.{starting}
 use Rattle.world_moves.proofs.KindLaws.{KindLaws}
-use Rattle.world_moves.proofs.PageLaws.{page_starts, page_rejected, page_cancelled, page_laws}
-use Rattle.world_moves.proofs.QueryLaws.{query_starts, query_rejected, query_cancelled, query_laws}
-use Rattle.world_moves.proofs.SearchLaws.{search_starts, search_rejected, search_cancelled, search_laws}
+use Rattle.world_moves.proofs.PageLaws.{page_starts, page_rejected, page_cancelled, page_grows, page_laws}
+use Rattle.world_moves.proofs.QueryLaws.{query_starts, query_rejected, query_cancelled, query_grows, query_laws}
+use Rattle.world_moves.proofs.SearchLaws.{search_starts, search_rejected, search_cancelled, search_grows, search_laws}
 
--- the context of which a request asks for a page has its id, and its shards can be kept
-abbrev pub IsPageOf : Option Context → Request → Type 0
-IsPageOf None request = ⊤
-IsPageOf (Some c) (asks.Scroll ask) = (c.id ≡ ask.id) × AreCounts c.shards
-IsPageOf (Some c) _ = ⊤
+-- the context of which a request asks for a page has its id, and what it keeps can be kept and was written
+abbrev pub IsPageOf : Cluster → Corpus → Option Context → Request → Type 0
+IsPageOf cluster corpus None request = ⊤
+IsPageOf cluster corpus (Some c) (asks.Scroll ask) = (c.id ≡ ask.id) × AreCounts c.shards × IsContextWithin cluster corpus c
+IsPageOf cluster corpus (Some c) _ = ⊤
 
 one_of : (v w : Work) → Some v ≡ Some w → v ≡ w
 one_of v w is = cc
 
 module _ (cluster : Cluster) (corpus : Corpus) where
   -- work that has just started is as far as the past says
-  pub works_first : (t : TaskId) (request : Request) (page : Option Context) (w : Work) → new_work t request cluster.shards page ≡ Some w → ((writes : List Doc) → IsWorkOn w writes) → IsPageOf page request
-      → WorksFor cluster corpus t page [] [] [] 0 (Some request) w
-  works_first t (asks.Search ask) page w is on sound = subst (RunsSearch cluster corpus (search_reading t ask cluster.shards) [] [] []) (one_of _ w is) (search_starts cluster corpus ask t)
-  works_first t (asks.Query ask) page w is on sound = query_starts cluster corpus ask t w (one_of _ w is) (on _)
-  works_first t (asks.Fetch ask) page w is on sound = fetch_starts cluster corpus ask t w (one_of _ w is) (on _)
-  works_first t (asks.Scroll ask) (Some c) w is on sound = subst (RunsPage cluster corpus ask.id (Some c) [] [] []) (one_of _ w is) (page_starts cluster corpus ask c sound.0 sound.1)
-  works_first t (asks.Scroll ask) None w is on sound = absurd (cc)
+  pub works_first : (t : TaskId) (new : Bool) (request : Request) (page : Option Context) (w : Work) → new_work t request cluster.shards page ≡ Some w → ((writes : List Doc) → IsWorkOn w writes) → IsPageOf cluster corpus page request → IsWithin cluster corpus request
+      → WorksFor cluster corpus t new (starting page) [] [] (Some request) w
+  works_first t new (asks.Search ask) page w is on sound within = subst (RunsSearch cluster corpus (search_reading t ask cluster.shards) [] [] []) (one_of _ w is) (search_starts cluster corpus ask t)
+  works_first t new (asks.Query ask) page w is on sound within = query_starts cluster corpus ask t w (one_of _ w is) (on _) within
+  works_first t new (asks.Fetch ask) page w is on sound within = fetch_starts cluster corpus ask t w (one_of _ w is) (on _) within
+  works_first t new (asks.Scroll ask) (Some c) w is on sound within = subst (RunsPage cluster corpus ask.id new (Some c) [] [] []) (one_of _ w is) (page_starts cluster corpus ask new c sound.0 sound.1 sound.2)
+  works_first t new (asks.Scroll ask) None w is on sound within = absurd (cc)
 
-  -- each request can be rejected and cancelled
+  -- a page whose task has not passed is none yet
+  pub page_first : (t : TaskId) (ask : ScrollAsk) (w : Work) → WorksFor cluster corpus t true (starting None) [] [] (Some (asks.Scroll ask)) w
+  page_first t ask w = (refl, refl, refl, refl)
+
+  -- each request can be rejected, and cancelled with what a task of it can have counted
   pub good_rejection : (n : ℕ) (request : Request) → IsGoodReply cluster corpus request (Rejected n)
   good_rejection n (asks.Search ask) = search_rejected cluster corpus ask n
   good_rejection n (asks.Query ask) = query_rejected cluster corpus ask n
   good_rejection n (asks.Fetch ask) = fetch_rejected cluster corpus ask n
   good_rejection n (asks.Scroll ask) = page_rejected cluster corpus ask n
 
-  pub good_cancelled : (t : TaskId) (c : ℕ) (request : Request) → IsGoodReply cluster corpus request (Cancelled t c no_counts)
-  good_cancelled t c (asks.Search ask) = search_cancelled cluster corpus ask t c
-  good_cancelled t c (asks.Query ask) = query_cancelled cluster corpus ask t c
-  good_cancelled t c (asks.Fetch ask) = fetch_cancelled cluster corpus ask t c
-  good_cancelled t c (asks.Scroll ask) = page_cancelled cluster corpus ask t c
+  pub good_cancelled : (t : TaskId) (c : ℕ) (counts : Counts) (request : Request) → are_below (kind_of request).limit counts ≡ true → IsGoodReply cluster corpus request (Cancelled t c counts)
+  good_cancelled t c counts (asks.Search ask) low = search_cancelled cluster corpus ask t c counts low
+  good_cancelled t c counts (asks.Query ask) low = query_cancelled cluster corpus ask t c counts low
+  good_cancelled t c counts (asks.Fetch ask) low = fetch_cancelled cluster corpus ask t c counts low
+  good_cancelled t c counts (asks.Scroll ask) low = page_cancelled cluster corpus ask t c counts low
 
-module _ (cluster : Cluster) (corpus : Corpus) (t : TaskId) (page : Option Context) (asked : List Asked) (requests : List Request) (awaited : List (Option ℕ)) (turns : ℕ) where
-  pub kind_laws : (o : Option Request) (w : Work) → WorksFor cluster corpus t page asked requests awaited turns o w → KindLaws cluster corpus t page asked requests awaited turns o w
+-- it stays as the past says where more is written
+pub works_grow : (cluster : Cluster) (corpus later : Corpus) → Grows cluster corpus later → (t : TaskId) (new : Bool) (p : Progress) (requests : List Request) (awaited : List (Option ℕ)) (o : Option Request) (w : Work)
+    → WorksFor cluster corpus t new p requests awaited o w → WorksFor cluster later t new p requests awaited o w
+works_grow cluster corpus later grows t new p requests awaited (Some (asks.Search ask)) (works.Search s) x = search_grows cluster corpus later grows (search_reading t ask cluster.shards) p.asked requests awaited s x
+works_grow cluster corpus later grows t new p requests awaited (Some (asks.Query ask)) w x = query_grows cluster corpus later grows p.version p.turns awaited ask w x
+works_grow cluster corpus later grows t new p requests awaited (Some (asks.Fetch ask)) w x = fetch_grows cluster corpus later grows p.turns awaited ask w x
+works_grow cluster corpus later grows t new p requests awaited (Some (asks.Scroll ask)) w x = page_grows cluster corpus later grows ask.id new p.asked requests awaited p.page w x
+works_grow cluster corpus later grows t new p requests awaited (Some (asks.Search ask)) _ x = absurd x
+works_grow cluster corpus later grows t new p requests awaited None w x = absurd x
+
+module _ (cluster : Cluster) (corpus : Corpus) (t : TaskId) (p : Progress) (requests : List Request) (awaited : List (Option ℕ)) where
+  pub kind_laws : (o : Option Request) (w : Work) → WorksFor cluster corpus t false p requests awaited o w → KindLaws cluster corpus t p requests awaited o w
   kind_laws None w x = absurd x
-  kind_laws (Some (asks.Search ask)) w x = search_laws cluster corpus t page asked requests awaited turns ask w x
-  kind_laws (Some (asks.Query ask)) w x = query_laws cluster corpus t page asked requests awaited turns ask w x
-  kind_laws (Some (asks.Fetch ask)) w x = fetch_laws cluster corpus t page asked requests awaited turns ask w x
-  kind_laws (Some (asks.Scroll ask)) w x = page_laws cluster corpus t asked requests awaited turns page ask w x
+  kind_laws (Some (asks.Search ask)) w x = search_laws cluster corpus t p requests awaited ask w x
+  kind_laws (Some (asks.Query ask)) w x = query_laws cluster corpus t p requests awaited ask w x
+  kind_laws (Some (asks.Fetch ask)) w x = fetch_laws cluster corpus t p requests awaited ask w x
+  kind_laws (Some (asks.Scroll ask)) w x = page_laws cluster corpus t p requests awaited ask w x
+
+-- a kept task that has passed shows it
+pub passed_laws : (cluster : Cluster) (look : List Event → Corpus) (h : List Event) (t : TaskId) (facts : Facts) (r : Running) → facts.new ≡ false → RunsAt cluster look h t facts r
+    → KindLaws cluster (look h) t (progress_from cluster look facts) facts.requests facts.awaited facts.request r.work
+passed_laws cluster look h t facts r passed runs =
+    kind_laws cluster (look h) t (progress_from cluster look facts) facts.requests facts.awaited facts.request r.work
+    (subst (λ new. WorksFor cluster (look h) t new (progress_from cluster look facts) facts.requests facts.awaited facts.request r.work) passed runs.works)

@@ -1,5 +1,5 @@
 -- The tables fit the past after an answer has come, where they are changed as it says.
-use Rattle.std.proofs.Common.{◌≡◌, ◌≤◌, ℕ, zero, suc, ◌+◌, ◌-◌, true, false, List, ◌∷◌, map, get_or, Option, Some, None, refl, sym, ap, subst, ◌∙◌, arith}
+use Rattle.std.proofs.Common.{◌≡◌, ◌≤◌, ℕ, zero, suc, ◌+◌, ◌-◌, Bool, true, false, List, ◌∷◌, map, get_or, Option, Some, None, refl, sym, ap, subst, ◌∙◌, arith}
 use Rattle.std.specs.Prelude.{is_some, IsSome, slice_get, slice_set, remove, option_map, option_and_then}
 use Rattle.task_ids.specs.declared.task_id.TaskId.{TaskId}
 use Rattle.task_ids.specs.declared.cluster.Cluster.{Cluster}
@@ -12,13 +12,14 @@ use Rattle.task_events.specs.declared.request.Request.{Request}
 use Rattle.task_events.specs.declared.reply.Reply.{Reply}
 use Rattle.task_events.specs.declared.event.Event.{Event}
 use Rattle.task_events.specs.declared.event.Event.TheVariants.{Answered}
-use Rattle.task_events.specs.Contexts.{page_of}
+use Rattle.task_events.specs.Clock.{clock}
+use Rattle.task_events.specs.Kind.{Progress}
 use Rattle.task_events.specs.Same.{same_task}
 use Rattle.task_events.specs.Lawful.{AwaitsNoMark}
-use Rattle.task_events.specs.Tasks.{is_live}
-use Rattle.task_events.specs.Asks.{request_of_ask, answer_of, is_unanswered}
+use Rattle.task_events.specs.Tasks.{is_live, is_new}
+use Rattle.task_events.specs.Asks.{last_ask, request_of_ask, answer_of, is_unanswered}
 use Rattle.task_events.specs.Requests.{request_of}
-use Rattle.task_events.specs.Steps.{asked_by, turns_of}
+use Rattle.task_events.specs.Steps.{asked_by, came_by}
 use Rattle.task_events.specs.Steps.{with_answer as asked_with_answer}
 use Rattle.task_events.specs.Messages.{Message, in_flight, is_answer}
 use Rattle.task_events.specs.Messages.Message.{Answer}
@@ -40,9 +41,9 @@ use Rattle.world_moves.specs.Facts.{facts_of, awaited_by, requested_by}
 use Rattle.world_moves.specs.Flights.{event_at, message_of, reply_in}
 use Rattle.world_moves.specs.Moves.{Delivers}
 use Rattle.command_roots.specs.Roots.{scripted}
-use Rattle.world_moves.specs.Ties.{Ties, Runs, WorksFor, IsGood}
+use Rattle.world_moves.specs.Ties.{Ties, RunsAt, WorksFor, IsGood, progress_from}
 use Rattle.world_moves.specs.Good.{IsGoodReply}
-use Rattle.world_moves.proofs.AllKinds.{kind_laws}
+use Rattle.world_moves.proofs.AllKinds.{passed_laws}
 use Rattle.world_moves.proofs.KindLaws.{Takes}
 use Rattle.world_moves.proofs.SearchAnswers.{has_at, within}
 use Rattle.world_moves.proofs.ByPlace.{pair_at, pairs_left, all_here, all_left}
@@ -52,6 +53,7 @@ use Rattle.world_moves.proofs.KeptTasks.{kept_after}
 use Rattle.world_moves.proofs.NodeTablesSame.{listed_same}
 use Rattle.world_moves.proofs.AsksCounted.{awaited_at, awaited_counted, requested_at, requested_counted}
 use Rattle.world_moves.proofs.StepsAfter.{kept_running}
+use Rattle.world_moves.specs.Good.{so_far}
 
 -- ---- the answer
 
@@ -117,51 +119,72 @@ module _ (cluster : Cluster) (corpus : Corpus) (script : Script) (h : List Event
       the_request : (r : Request) × (slice_get (requested_by t h) (receipt.ask - 1) ≡ Some r)
       the_request = has_at (requested_by t h) (receipt.ask - 1) (let l = within (awaited_by t h) (receipt.ask - 1) is_open in omega (arith, awaited_counted cluster t h ties.lawful, requested_counted cluster t h ties.lawful))
 
-      good_reply : IsGoodReply cluster corpus the_request.0 reply
+      good_reply : IsGoodReply cluster (so_far corpus script h) the_request.0 reply
       good_reply =
           let number : receipt.ask ≡ receipt.ask - 1 + 1 = (let l = from_one in omega arith) in
-          all_here (IsGood cluster corpus h) (in_flight h) nth (Answer t receipt.ask reply) ties.good arrives the_request.0
+          all_here (IsGood cluster (so_far corpus script h) h) (in_flight h) nth (Answer t receipt.ask reply) ties.good arrives the_request.0
           (ap (λ k. request_of_ask t k h) number ∙ requested_at cluster t (receipt.ask - 1) h ties.lawful ∙ the_request.1)
 
       pub delivers : Delivers cluster h nth (Answered t receipt.ask ∷ h)
       delivers = (Answer t receipt.ask reply, Answered t receipt.ask, arrives, (refl, refl), refl)
 
       module _ (r : Running) (here : tasks t ≡ Some r) where
-        runs : Runs cluster corpus t (facts_of (scripted script) t h) r
+        runs : RunsAt cluster (so_far corpus script) h t (facts_of (scripted script) t h) r
         runs = kept_running cluster corpus script h tasks tables flight ties t asker_live r here
 
         pub own : Answers receipt r.track
         own = (parent ∙ ap Some (sym (ap (λ z. z.task) runs.track)), (from_one, ap (λ z. is_some (get_or z.asks (receipt.ask - 1) None)) runs.track ∙ is_open))
 
-        takes_it : Takes cluster corpus t (page_of (scripted script) t h) (asked_by t h) (requested_by t h) (awaited_by t h) (turns_of t h) (request_of (scripted script) t h) r.work (receipt.ask - 1) reply
-        takes_it = (kind_laws cluster corpus t (page_of (scripted script) t h) (asked_by t h) (requested_by t h) (awaited_by t h) (turns_of t h) (request_of (scripted script) t h) r.work runs.works).takes_answer (receipt.ask - 1) the_request.0 reply the_request.1 is_open good_reply
+        abbrev progress : Progress
+        progress = progress_from cluster (so_far corpus script) (facts_of (scripted script) t h)
+
+        -- a task that awaits an answer has passed
+        passed : is_new t h ≡ false
+        passed = by_case (is_new t h) refl
+          where
+            by_case : (b : Bool) → is_new t h ≡ b → b ≡ false
+            by_case false e = refl
+            by_case true e =
+                let none : last_ask t h ≡ 0 = facts.new_asks t e in
+                let f : false ≡ true = sym (facts.not_asked t receipt.ask (let low = from_one in omega (arith, none))) ∙ still_open in
+                cc
+
+        takes_it : (now : ℕ) → Takes cluster (so_far corpus script h) t progress (requested_by t h) (awaited_by t h) (request_of (scripted script) t h) r.work (receipt.ask - 1) reply now
+        takes_it now = (passed_laws cluster (so_far corpus script) h t (facts_of (scripted script) t h) r passed runs).takes_answer (receipt.ask - 1) the_request.0 reply now the_request.1 is_open good_reply
 
         pub takes_reply : work_takes r.work receipt.ask reply ≡ true
-        takes_reply = ap (λ k. work_takes r.work k reply) number_is ∙ takes_it.takes
+        takes_reply = ap (λ k. work_takes r.work k reply) number_is ∙ (takes_it 0).takes
 
-        works_after : WorksFor cluster corpus t (page_of (scripted script) t h) (map (asked_with_answer receipt.ask (answer_of t receipt.ask h)) (asked_by t h)) (requested_by t h) (slice_set (awaited_by t h) (receipt.ask - 1) None) (turns_of t h) (request_of (scripted script) t h) (work_with_answer r.work receipt.ask reply)
+        -- with this answer
+        abbrev progress_with : ℕ → Progress
+        progress_with k = record progress { asked = map (asked_with_answer k (answer_of t receipt.ask h)) (asked_by t h); came = slice_set (came_by t h) (receipt.ask - 1) (clock h) }
+
+        works_after : WorksFor cluster (so_far corpus script h) t (is_new t h) (progress_with receipt.ask) (requested_by t h) (slice_set (awaited_by t h) (receipt.ask - 1) None) (request_of (scripted script) t h) (work_with_answer r.work receipt.ask reply (clock h))
         works_after =
-            subst (λ k. WorksFor cluster corpus t (page_of (scripted script) t h) (map (asked_with_answer k (answer_of t receipt.ask h)) (asked_by t h)) (requested_by t h) (slice_set (awaited_by t h) (receipt.ask - 1) None) (turns_of t h) (request_of (scripted script) t h) (work_with_answer r.work k reply)) (sym number_is)
-            (takes_it.after (answer_of t receipt.ask h) answered_with)
+            subst (λ new. WorksFor cluster (so_far corpus script h) t new (progress_with receipt.ask) (requested_by t h) (slice_set (awaited_by t h) (receipt.ask - 1) None) (request_of (scripted script) t h) (work_with_answer r.work receipt.ask reply (clock h))) (sym passed)
+            (subst (λ k. WorksFor cluster (so_far corpus script h) t false (progress_with k) (requested_by t h) (slice_set (awaited_by t h) (receipt.ask - 1) None) (request_of (scripted script) t h) (work_with_answer r.work k reply (clock h))) (sym number_is)
+            ((takes_it (clock h)).after (answer_of t receipt.ask h) answered_with))
 
-        runs_after : Runs cluster corpus t (record (facts_of (scripted script) t h) { awaited = slice_set (awaited_by t h) (receipt.ask - 1) None; asked = map (asked_with_answer receipt.ask (answer_of t receipt.ask h)) (asked_by t h) }) (running_with_answer r receipt.ask reply)
+        runs_after : RunsAt cluster (so_far corpus script) h t (record (facts_of (scripted script) t h) { awaited = slice_set (awaited_by t h) (receipt.ask - 1) None; asked = map (asked_with_answer receipt.ask (answer_of t receipt.ask h)) (asked_by t h); came = slice_set (came_by t h) (receipt.ask - 1) (clock h) }) (running_with_answer r receipt.ask reply (clock h))
         runs_after = record {
           live = runs.live;
           id = runs.id;
           token = runs.token;
           track = ap (λ z. track_with_answer z receipt.ask) runs.track;
+          page = runs.page;
           new = runs.new;
           headers = runs.headers;
           works = works_after;
         }
 
-        pub after_answer : AwaitsNoMark h → (after : TaskId → Option Running) → after t ≡ Some (running_with_answer r receipt.ask reply) → ((q : TaskId) → same_task t q ≡ false → after q ≡ tasks q)
+        pub after_answer : AwaitsNoMark h → (after : TaskId → Option Running) → after t ≡ Some (running_with_answer r receipt.ask reply (clock h)) → ((q : TaskId) → same_task t q ≡ false → after q ≡ tasks q)
             → Ties cluster corpus script (Answered t receipt.ask ∷ h) after tables (remove flight nth)
         after_answer awaits after there others = record {
           lawful = (taken_away.0, ties.lawful, awaits);
-          kept = kept_after cluster corpus (scripted script) t (Answered t receipt.ask) h tasks after refl ties.kept (rw there (rw (at_answered (scripted script) t h receipt.ask) runs_after)) others;
+          kept = kept_after cluster corpus (scripted script) t (Answered t receipt.ask) h tasks after refl refl ties.kept (rw there (subst (λ facts. RunsAt cluster (so_far corpus script) h t facts (running_with_answer r receipt.ask reply (clock h))) (sym (at_answered (scripted script) t h receipt.ask)) runs_after)) others;
           listed = λ place. listed_same cluster (Answered t receipt.ask) h (λ m. refl) refl place _ (ties.listed place);
           sent = rw taken_away.1 (all_stay (Answered t receipt.ask) h (remove flight nth) (remove (in_flight h) nth) (pairs_left (message_of h) flight (in_flight h) nth ties.sent));
-          good = rw taken_away.1 (all_left (IsGood cluster corpus h) (in_flight h) nth ties.good);
+          good = rw taken_away.1 (all_left (IsGood cluster (so_far corpus script h) h) (in_flight h) nth ties.good);
+          within = ties.within;
           plain = ties.plain;
         }

@@ -1,5 +1,5 @@
 -- The tables fit the past after an ask, where they are changed as it says.
-use Rattle.std.proofs.Common.{◌≡◌, ◌⊎◌, ◌≤◌, ◌<◌, ℕ, ◌+◌, true, false, List, [], ◌∷◌, ◌++◌, length, Option, Some, None, refl, sym, ap, subst, ◌∙◌, inl, inr, arith}
+use Rattle.std.proofs.Common.{◌≡◌, ◌⊎◌, ◌≤◌, ◌<◌, ℕ, ◌+◌, Bool, true, false, List, [], ◌∷◌, ◌++◌, length, Option, Some, None, refl, sym, ap, subst, ◌∙◌, inl, inr, arith}
 use Rattle.std.specs.List.{AllByRecursion}
 use Rattle.std.proofs.lemmas.Bool.{cases_lt}
 use Rattle.std.proofs.lemmas.List.{map-append}
@@ -14,17 +14,17 @@ use Rattle.task_events.specs.declared.request.Request.{Request}
 use Rattle.task_events.specs.declared.reply.Reply.{Reply}
 use Rattle.task_events.specs.declared.event.Event.{Event}
 use Rattle.task_events.specs.declared.event.Event.TheVariants.{Ask}
-use Rattle.task_events.specs.Contexts.{page_of}
 use Rattle.task_events.specs.Same.{same_task, same_pair}
 use Rattle.task_events.specs.Tasks.{is_live, is_new, child_of}
 use Rattle.task_events.specs.Asks.{last_ask, request_of_ask, rejection_of, answer_of}
 use Rattle.task_events.specs.Requests.{request_of}
-use Rattle.task_events.specs.Steps.{asked_by, turns_of}
+use Rattle.task_events.specs.Kind.{Progress}
+use Rattle.task_events.specs.Steps.{asked_by, came_by}
 use Rattle.task_events.specs.Kinds.{kind_of, node_for}
 use Rattle.task_ids.specs.Placing.{node_of}
 use Rattle.std.specs.Option.{option_map_or}
-use Rattle.world_moves.proofs.AllKinds.{kind_laws}
-use Rattle.world_moves.proofs.KindLaws.{KindLaws, Asks}
+use Rattle.world_moves.proofs.AllKinds.{passed_laws}
+use Rattle.world_moves.proofs.KindLaws.{Asks}
 use Rattle.task_events.specs.Messages.{Message, in_flight}
 use Rattle.task_events.specs.Messages.Message.{Request as a_request, Answer as an_answer, Ban as a_ban}
 use Rattle.task_events.specs.Laws.{IsTold}
@@ -43,15 +43,18 @@ use Rattle.node_parts.specs.Running.{PlansToAsk, next_number, running_with_ask}
 use Rattle.world_moves.specs.Facts.{facts_of, awaited_by, requested_by}
 use Rattle.world_moves.specs.Flights.{message_of}
 use Rattle.command_roots.specs.Roots.{scripted}
-use Rattle.world_moves.specs.Ties.{Ties, Runs, WorksFor, IsGood}
-use Rattle.world_moves.specs.Good.{IsGoodReply}
+use Rattle.world_moves.specs.Owning.{MayAskOwn}
+use Rattle.world_moves.specs.Ties.{Ties, RunsAt, WorksFor, IsGood, progress_from}
+use Rattle.world_moves.specs.Good.{IsGoodReply, IsWithin}
 use Rattle.world_moves.proofs.FactsAfter.{at_ask}
 use Rattle.world_moves.proofs.FlightAfter.{all_stay, event_newest}
 use Rattle.world_moves.proofs.KeptTasks.{kept_after}
 use Rattle.world_moves.proofs.NodeTablesSame.{listed_same}
 use Rattle.world_moves.proofs.ByPlace.{all_push}
+use Rattle.world_moves.proofs.AskedOwn.{may_ask_own}
 use Rattle.world_moves.proofs.AsksCounted.{awaited_counted}
 use Rattle.world_moves.proofs.StepsAfter.{kept_running}
+use Rattle.world_moves.specs.Good.{so_far}
 
 -- ---- the node of an ask
 
@@ -96,15 +99,19 @@ module _ (cluster : Cluster) (corpus : Corpus) (script : Script) (h : List Event
   pub node_of_request : (1 ≤ node_for cluster t request) × (node_for cluster t request ≤ cluster.nodes)
   node_of_request = node_within cluster t request ((reach_facts cluster h ties.lawful).live_in t live)
 
-  module _ (r : Running) (here : tasks t ≡ Some r) (planned : PlansToAsk (Some r) request) where
-    runs : Runs cluster corpus t (facts_of (scripted script) t h) r
+  module _ (passed : is_new t h ≡ false) (now : ℕ) (r : Running) (here : tasks t ≡ Some r) (planned : PlansToAsk (Some r) now request) where
+    abbrev progress : Progress
+    progress = progress_from cluster (so_far corpus script) (facts_of (scripted script) t h)
+
+    -- with one ask more
+    abbrev progress_with : ℕ → Progress
+    progress_with k = record progress { asked = asked_by t h ++ record { ask = k; answer = None } ∷ []; came = came_by t h ++ 0 ∷ [] }
+
+    runs : RunsAt cluster (so_far corpus script) h t (facts_of (scripted script) t h) r
     runs = kept_running cluster corpus script h tasks tables flight ties t live r here
 
-    laws : KindLaws cluster corpus t (page_of (scripted script) t h) (asked_by t h) (requested_by t h) (awaited_by t h) (turns_of t h) (request_of (scripted script) t h) r.work
-    laws = kind_laws cluster corpus t (page_of (scripted script) t h) (asked_by t h) (requested_by t h) (awaited_by t h) (turns_of t h) (request_of (scripted script) t h) r.work runs.works
-
-    asks_it : Asks cluster corpus t (page_of (scripted script) t h) (asked_by t h) (requested_by t h) (awaited_by t h) (turns_of t h) (request_of (scripted script) t h) r.work request
-    asks_it = laws.asks request planned
+    asks_it : Asks cluster (so_far corpus script h) t progress (requested_by t h) (awaited_by t h) (request_of (scripted script) t h) r.work request
+    asks_it = (passed_laws cluster (so_far corpus script) h t (facts_of (scripted script) t h) r passed runs).asks request now planned
 
     track_asks : length r.track.asks ≡ length (awaited_by t h)
     track_asks = ap (λ z. length z.asks) runs.track
@@ -124,37 +131,52 @@ module _ (cluster : Cluster) (corpus : Corpus) (script : Script) (h : List Event
     pub can_now : can_ask r.work (next_number r) ≡ true
     can_now = ap (λ m. can_ask r.work (m + 1)) track_asks ∙ asks_it.may
 
-    works_on : (n : ℕ) → WorksFor cluster corpus t (page_of (scripted script) t h) (asked_by t h ++ record { ask = last_ask t h + 1; answer = None } ∷ []) (requested_by t h ++ request ∷ []) (awaited_by t h ++ Some n ∷ []) (turns_of t h) (request_of (scripted script) t h) (work_with_ask r.work (next_number r))
+    works_on : (n : ℕ) → WorksFor cluster (so_far corpus script h) t (is_new t h) (progress_with (last_ask t h + 1)) (requested_by t h ++ request ∷ []) (awaited_by t h ++ Some n ∷ []) (request_of (scripted script) t h) (work_with_ask r.work (next_number r))
     works_on n =
         let counted : length (awaited_by t h) + 1 ≡ last_ask t h + 1 = ap (λ m. m + 1) (awaited_counted cluster t h ties.lawful) in
         let number : length (awaited_by t h) + 1 ≡ next_number r = ap (λ m. m + 1) (sym track_asks) in
-        subst (λ k. WorksFor cluster corpus t (page_of (scripted script) t h) (asked_by t h ++ record { ask = k; answer = None } ∷ []) (requested_by t h ++ request ∷ []) (awaited_by t h ++ Some n ∷ []) (turns_of t h) (request_of (scripted script) t h) (work_with_ask r.work (next_number r))) counted
-        (subst (λ k. WorksFor cluster corpus t (page_of (scripted script) t h) (asked_by t h ++ record { ask = length (awaited_by t h) + 1; answer = None } ∷ []) (requested_by t h ++ request ∷ []) (awaited_by t h ++ Some n ∷ []) (turns_of t h) (request_of (scripted script) t h) (work_with_ask r.work k)) number (asks_it.after n))
+        subst (λ new. WorksFor cluster (so_far corpus script h) t new (progress_with (last_ask t h + 1)) (requested_by t h ++ request ∷ []) (awaited_by t h ++ Some n ∷ []) (request_of (scripted script) t h) (work_with_ask r.work (next_number r))) (sym passed)
+        (subst (λ k. WorksFor cluster (so_far corpus script h) t false (progress_with k) (requested_by t h ++ request ∷ []) (awaited_by t h ++ Some n ∷ []) (request_of (scripted script) t h) (work_with_ask r.work (next_number r))) counted
+        (subst (λ k. WorksFor cluster (so_far corpus script h) t false (progress_with (length (awaited_by t h) + 1)) (requested_by t h ++ request ∷ []) (awaited_by t h ++ Some n ∷ []) (request_of (scripted script) t h) (work_with_ask r.work k)) number (asks_it.after n)))
 
-    pub after_ask : (after : TaskId → Option Running) (n : ℕ) (token : Token) (headers : Headers) → AwaitsNoMark h → mark_of t h ≡ None → is_new t h ≡ false → n ≡ node_for cluster t request → token ≡ record { parent = t; ask = last_ask t h + 1 }
+    -- what is asked for names what was written
+    asked_within : (n : ℕ) (p : TaskId) (k : ℕ) (q : Request) → request_of_ask p k (Ask t (last_ask t h + 1) n request ∷ h) ≡ Some q → IsWithin cluster (so_far corpus script h) q
+    asked_within n p k q = by_pair (same_pair p k t (last_ask t h + 1)) refl
+      where
+        by_pair : (b : Bool) → same_pair p k t (last_ask t h + 1) ≡ b → request_of_ask p k (Ask t (last_ask t h + 1) n request ∷ h) ≡ Some q → IsWithin cluster (so_far corpus script h) q
+        by_pair true e asked = subst (IsWithin cluster (so_far corpus script h)) (let same : request ≡ q = (let f = rw e at asked in cc) in same) asks_it.within
+        by_pair false e asked = ties.within p k q (rw e at asked)
+
+    -- and what it asks for of contexts is of its own
+    pub asked_own : MayAskOwn (scripted script) t request h
+    asked_own = may_ask_own cluster corpus script h ties.lawful ties.plain t request asks_it.owns
+
+    pub after_ask : (after : TaskId → Option Running) (n : ℕ) (token : Token) (headers : Headers) → AwaitsNoMark h → mark_of t h ≡ None → n ≡ node_for cluster t request → token ≡ record { parent = t; ask = last_ask t h + 1 }
         → after t ≡ Some (running_with_ask r n) → ((q : TaskId) → same_task t q ≡ false → after q ≡ tasks q)
         → Ties cluster corpus script (Ask t (last_ask t h + 1) n request ∷ h) after tables (flight ++ sent.Request token n (length h) headers ∷ [])
-    after_ask after n token headers awaits unmarked passed node is there others = record {
+    after_ask after n token headers awaits unmarked node is there others = record {
       lawful = (record { goes_on = record { live = live; passed = passed }; unmarked = unmarked; next = refl; low = rw node node_of_request.0; high = rw node node_of_request.1 }, ties.lawful, awaits);
-      kept = kept_after cluster corpus (scripted script) t (Ask t (last_ask t h + 1) n request) h tasks after refl ties.kept (rw there (rw (at_ask (scripted script) t h (last_ask t h + 1) n request) asked_on)) others;
+      kept = kept_after cluster corpus (scripted script) t (Ask t (last_ask t h + 1) n request) h tasks after refl refl ties.kept (rw there (subst (λ facts. RunsAt cluster (so_far corpus script) h t facts (running_with_ask r n)) (sym (at_ask (scripted script) t h (last_ask t h + 1) n request)) asked_on)) others;
       listed = λ place. listed_same cluster (Ask t (last_ask t h + 1) n request) h (λ m. refl) refl place _ (ties.listed place);
       sent =
           map-append (message_of (Ask t (last_ask t h + 1) n request ∷ h)) flight (sent.Request token n (length h) headers ∷ [])
           ∙ (λ i. all_stay (Ask t (last_ask t h + 1) n request) h flight (in_flight h) ties.sent i ++ newest i ∷ [])
           ∙ sym (map-append Some (in_flight h) (a_request t (last_ask t h + 1) n request ∷ []));
-      good = all_push (IsGood cluster corpus (Ask t (last_ask t h + 1) n request ∷ h)) (in_flight h) (a_request t (last_ask t h + 1) n request) (good_on cluster corpus t (last_ask t h + 1) n request h ties.lawful (omega arith) (in_flight h) (told cluster h ties.lawful) ties.good) tt;
+      good = all_push (IsGood cluster (so_far corpus script h) (Ask t (last_ask t h + 1) n request ∷ h)) (in_flight h) (a_request t (last_ask t h + 1) n request) (good_on cluster (so_far corpus script h) t (last_ask t h + 1) n request h ties.lawful (omega arith) (in_flight h) (told cluster h ties.lawful) ties.good) tt;
+      within = asked_within n;
       plain = ties.plain;
     }
       where
         newest : message_of (Ask t (last_ask t h + 1) n request ∷ h) (sent.Request token n (length h) headers) ≡ Some (a_request t (last_ask t h + 1) n request)
         newest = rw is (rw (event_newest (Ask t (last_ask t h + 1) n request) h) refl)
 
-        asked_on : Runs cluster corpus t (record (facts_of (scripted script) t h) { awaited = awaited_by t h ++ Some n ∷ []; requests = requested_by t h ++ request ∷ []; asked = asked_by t h ++ record { ask = last_ask t h + 1; answer = None } ∷ [] }) (running_with_ask r n)
+        asked_on : RunsAt cluster (so_far corpus script) h t (record (facts_of (scripted script) t h) { awaited = awaited_by t h ++ Some n ∷ []; requests = requested_by t h ++ request ∷ []; asked = asked_by t h ++ record { ask = last_ask t h + 1; answer = None } ∷ []; came = came_by t h ++ 0 ∷ [] }) (running_with_ask r n)
         asked_on = record {
           live = runs.live;
           id = runs.id;
           token = runs.token;
           track = ap (λ z. with_ask z n) runs.track;
+          page = runs.page;
           new = runs.new;
           headers = runs.headers;
           works = works_on n;

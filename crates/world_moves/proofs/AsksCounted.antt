@@ -37,7 +37,7 @@ get_or-set_none (x ∷ xs) (suc k) = get_or-set_none xs k
 
 -- ---- as many as the number of the last ask
 
-counted : {X : Type 0} (t p : TaskId) (h : List Event) (xs : List X) (x : X) (k : ℕ) → k ≡ last_ask p h + 1 → length xs ≡ last_ask t h
+pub counted : {X : Type 0} (t p : TaskId) (h : List Event) (xs : List X) (x : X) (k : ℕ) → k ≡ last_ask p h + 1 → length xs ≡ last_ask t h
     → length (cond (same_task t p) (xs ++ x ∷ []) xs) ≡ cond (same_task t p) k (last_ask t h)
 counted t p h xs x k next so_far = by_case (same_task_tells t p)
   where

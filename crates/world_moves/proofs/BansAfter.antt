@@ -40,6 +40,7 @@ use Rattle.world_moves.proofs.FlightAfter.{all_stay}
 use Rattle.world_moves.proofs.KeptTasks.{kept_same, is_at_task}
 use Rattle.world_moves.proofs.NodeTablesSame.{listed_same}
 use Rattle.world_moves.proofs.OpenListings.{is_at_listing}
+use Rattle.world_moves.specs.Good.{so_far}
 
 -- ---- tasks and messages
 
@@ -49,10 +50,11 @@ module _ (cluster : Cluster) (corpus : Corpus) (script : Script) (h : List Event
       let taken = ban_taken cluster corpus script h tasks tables flight ties nth p c n here in
       record {
         lawful = (record { sent = taken.0; number = ban_mark cluster corpus script h tasks tables flight ties nth p c n here }, ties.lawful, awaits);
-        kept = kept_same cluster corpus (scripted script) (BanPut n p c) h tasks refl ties.kept;
+        kept = kept_same cluster corpus (scripted script) (BanPut n p c) h tasks refl refl ties.kept;
         listed = λ place. listed_same cluster (BanPut n p c) h (λ m. refl) refl place _ (ties.listed place);
         sent = rw taken.1 (all_stay (BanPut n p c) h (remove flight nth) (remove (in_flight h) nth) (pairs_left (message_of h) flight (in_flight h) nth ties.sent));
-        good = rw taken.1 (all_left (IsGood cluster corpus h) (in_flight h) nth ties.good);
+        good = rw taken.1 (all_left (IsGood cluster (so_far corpus script h) h) (in_flight h) nth ties.good);
+        within = ties.within;
         plain = ties.plain;
       }
 
@@ -61,10 +63,11 @@ module _ (cluster : Cluster) (corpus : Corpus) (script : Script) (h : List Event
       let taken = unban_taken cluster corpus script h tasks tables flight ties nth p n here in
       record {
         lawful = (taken.0, ties.lawful, awaits);
-        kept = kept_same cluster corpus (scripted script) (BanGone n p) h tasks refl ties.kept;
+        kept = kept_same cluster corpus (scripted script) (BanGone n p) h tasks refl refl ties.kept;
         listed = λ place. listed_same cluster (BanGone n p) h (λ m. refl) refl place _ (ties.listed place);
         sent = rw taken.1 (all_stay (BanGone n p) h (remove flight nth) (remove (in_flight h) nth) (pairs_left (message_of h) flight (in_flight h) nth ties.sent));
-        good = rw taken.1 (all_left (IsGood cluster corpus h) (in_flight h) nth ties.good);
+        good = rw taken.1 (all_left (IsGood cluster (so_far corpus script h) h) (in_flight h) nth ties.good);
+        within = ties.within;
         plain = ties.plain;
       }
 

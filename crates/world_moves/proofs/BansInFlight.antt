@@ -33,6 +33,7 @@ use Rattle.node_parts.specs.declared.running.Running.{Running}
 use Rattle.world_moves.specs.Flights.{message_of, message_of_notice}
 use Rattle.world_moves.specs.Ties.{Ties, IsGood}
 use Rattle.world_moves.proofs.ByPlace.{pair_at, all_here}
+use Rattle.world_moves.specs.Good.{so_far}
 
 -- ---- the nodes of bans
 
@@ -101,7 +102,7 @@ module _ (cluster : Cluster) (corpus : Corpus) (script : Script) (h : List Event
     ban_mark = ban_told.0
 
     pub ban_number : IsCancel c
-    ban_number = all_here (IsGood cluster corpus h) (in_flight h) nth (Ban p c n) ties.good ban_here
+    ban_number = all_here (IsGood cluster (so_far corpus script h) h) (in_flight h) nth (Ban p c n) ties.good ban_here
 
     pub ban_in : IsIn cluster n
     ban_in = banned_in cluster p n h ties.lawful ban_told.1

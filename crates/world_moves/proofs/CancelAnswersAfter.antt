@@ -28,7 +28,13 @@ use Rattle.world_moves.specs.Describing.{Describing}
 use Rattle.world_moves.specs.Facts.{facts_of}
 use Rattle.world_moves.specs.Flights.{message_of}
 use Rattle.world_moves.specs.Plain.{AnswersPlainly}
+use Rattle.corpus_shards.specs.Stored.{HasWritten}
+use Rattle.corpus_shards.specs.declared.Shards.{Shards}
+use Rattle.task_events.specs.declared.request.Request.{Request}
+use Rattle.task_events.specs.Asks.{request_of_ask}
+use Rattle.world_moves.specs.Good.{IsWithin, so_far}
 use Rattle.world_moves.specs.Ties.{Ties, IsKept, IsTableAt, IsGood}
+use Rattle.world_moves.proofs.KeptTasks.{kept_same}
 use Rattle.world_moves.proofs.CancelAnswers.{IsAnswerable, answers_appended, answers_keep, all_lawful, answered_after}
 use Rattle.world_moves.proofs.DescriptionsAfter.{quiet}
 use Rattle.world_moves.proofs.FlightAfter.{all_stay}
@@ -97,13 +103,19 @@ module _ (cluster : Cluster) (t : TaskId) (h : List Event) where
       → Ties cluster corpus script h tasks tables flight → AwaitsNoMark h → Ties cluster corpus script (with_answers t h) tasks tables flight
   answers_tied corpus script tasks tables flight ties awaits = record {
     lawful = answers_lawful ties.lawful awaits;
-    kept = kept (λ past. (u : TaskId) → IsKept cluster corpus u (facts_of (scripted script) u past) (tasks u)) (λ c past k. k) (λ c past k. k) t h ties.kept;
+    kept = kept (λ past. (u : TaskId) → IsKept cluster (so_far corpus script) past u (facts_of (scripted script) u past) (tasks u))
+        (λ c past. kept_same cluster corpus (scripted script) (AnswerPlaced c) past tasks refl refl) (λ c past. kept_same cluster corpus (scripted script) (AnswerDone c) past tasks refl refl) t h ties.kept;
     listed = λ place. kept (λ past. IsTableAt cluster place past (slice_get tables place))
         (λ c past. listed_same cluster (AnswerPlaced c) past (λ n. refl) refl place _) (λ c past. listed_same cluster (AnswerDone c) past (λ n. refl) refl place _) t h (ties.listed place);
     sent = kept (λ past. map (message_of past) flight ≡ map Some (in_flight past)) (λ c past. all_stay (AnswerPlaced c) past flight _) (λ c past. all_stay (AnswerDone c) past flight _) t h ties.sent;
-    good = kept (λ past. AllByRecursion (IsGood cluster corpus past) (in_flight past)) (λ c past g. g) (λ c past g. g) t h ties.good;
+    good = kept (λ past. AllByRecursion (IsGood cluster (so_far corpus script past) past) (in_flight past)) (λ c past g. g) (λ c past g. g) t h ties.good;
+    within = kept (λ past. (p : TaskId) (k : ℕ) (r : Request) → request_of_ask p k past ≡ Some r → IsWithin cluster (so_far corpus script past) r) (λ c past w. w) (λ c past w. w) t h ties.within;
     plain = kept (AnswersPlainly cluster corpus script) (λ c past p. p) (λ c past p. p) t h ties.plain;
   }
+
+  -- what is written stays
+  pub shards_answered : (corpus : Corpus) (script : Script) (shards : Shards) → HasWritten (so_far corpus script h) cluster.shards shards → HasWritten (so_far corpus script (with_answers t h)) cluster.shards shards
+  shards_answered corpus script shards has = kept (λ past. HasWritten (so_far corpus script past) cluster.shards shards) (λ c past x. x) (λ c past x. x) t h has
 
   pub answers_noted : (tables : List Table) (roots : ℕ → Option TaskId) (bans : List (FinMap task_id_cmp ℕ)) (cores : List Cancellations) (listings : BTreeSet Listing)
       → Cancelling cluster (λ u. waiting_for u h) h tables roots bans cores listings → Cancelling cluster (λ u. waiting_for u (with_answers t h)) (with_answers t h) tables roots bans cores listings

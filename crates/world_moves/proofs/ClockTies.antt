@@ -20,9 +20,10 @@ pub ticked : (cluster : Cluster) (corpus : Corpus) (script : Script) (h : List E
     → AwaitsNoMark h → (ms : ℕ) → Ties cluster corpus script (Tick ms ∷ h) tasks tables flight
 ticked cluster corpus script h tasks tables flight ties awaits ms = record {
   lawful = (tt, ties.lawful, awaits);
-  kept = kept_same cluster corpus (scripted script) (Tick ms) h tasks refl ties.kept;
+  kept = kept_same cluster corpus (scripted script) (Tick ms) h tasks refl refl ties.kept;
   listed = λ place. listed_same cluster (Tick ms) h (λ n. refl) refl place _ (ties.listed place);
   sent = all_stay (Tick ms) h flight _ ties.sent;
   good = ties.good;
+  within = ties.within;
   plain = ties.plain;
 }

@@ -1,14 +1,15 @@
 -- The tables of contexts after one of them has changed.
-use Rattle.std.proofs.Common.{◌≡◌, ◌≢◌, ◌⊎◌, ◌<◌, ◌≤◌, nat_lt, get_or, ℕ, ◌-◌, Bool, true, false, cond, List, length, Option, Some, None, refl, sym, ap, subst, ◌∙◌, inl, inr, arith}
+use Rattle.std.proofs.Common.{◌≡◌, ◌≢◌, ◌⊎◌, ◌<◌, ◌≤◌, nat_lt, get_or, ℕ, ◌+◌, ◌-◌, Bool, true, false, cond, List, length, Option, Some, None, refl, sym, ap, subst, ◌∙◌, inl, inr, arith}
 use Rattle.std.specs.Prelude.{IsSome, IsSomeAnd, ◌&&◌, not, slice_get, slice_set, option_map, option_and_then, Result, Ok, Err, IsOk}
 use Rattle.std.proofs.lemmas.Bool.{cases_eq}
+use Rattle.std.proofs.lemmas.Bool.Decides.{nat_tests}
 use Rattle.std.proofs.lemmas.Option.{slice_get_past, slice_get_read, slice_get_within}
 use Rattle.std.specs.FinMap.{FinMap, get, insert, remove, get-insert, get-remove}
 use Rattle.task_ids.specs.TaskIdOrder.{task_id_cmp}
 use Rattle.task_ids.specs.declared.task_id.TaskId.{TaskId}
 use Rattle.task_ids.proofs.TaskIdKeys.{ids_total}
 use Rattle.task_events.specs.declared.context.Context.{Context}
-use Rattle.task_events.specs.Contexts.{can_clear, after_begin, after_root, unexpired, is_busy, is_expired, is_owned_by}
+use Rattle.task_events.specs.Contexts.{can_clear, after_begin, after_taking, unexpired, is_busy, is_expired, is_owned_by}
 use Rattle.task_events.specs.Same.{same_task}
 use Rattle.task_laws.proofs.Same.{same_task_tells, same_tests}
 use Rattle.task_events.specs.declared.request.Request.TheVariants.{Scroll}
@@ -131,7 +132,7 @@ stands_for by now (Some d) c e =
     (λ may. by_test (is_busy d) (λ busy. absurd (let f : Err Busy ≡ Ok c = rw (may, busy) at e in cc)) (λ free. let f : Ok d ≡ Ok c = rw (may, free) at e in cc))
     (λ not_so. absurd (let f : Err Missing ≡ Ok c = rw not_so at e in cc))
 
-pub takes_another : (now : ℕ) (user : TaskId) (ask : ScrollAsk) (q : TaskId) (o : Option Context) → same_task ask.id q ≡ false → after_root now user (Some (Scroll ask)) q o ≡ o
+pub takes_another : (now : ℕ) (user : TaskId) (ask : ScrollAsk) (q : TaskId) (o : Option Context) → same_task ask.id q ≡ false → after_taking now user (Some (Scroll ask)) q o ≡ o
 takes_another now user ask q o differs = rw differs refl
 
 -- ---- tables that go over the clock one by one
@@ -139,6 +140,37 @@ takes_another now user ask q o differs = rw differs refl
 -- the contexts where the tables before a place have gone over it
 abbrev pub over_to : ℕ → ℕ → List Contexts → TaskId → Option Context
 over_to now place tables q = cond (nat_lt (q.node - 1) place) (unexpired now (context_in tables q)) (context_in tables q)
+
+-- where the tables before a place have made this of each of their contexts
+abbrev pub each_to : (Option Context → Option Context) → ℕ → List Contexts → TaskId → Option Context
+each_to makes place tables q = cond (nat_lt (q.node - 1) place) (makes (context_in tables q)) (context_in tables q)
+
+-- one table more
+pub each_more : (makes : Option Context → Option Context) (tables items : List Contexts) (place : ℕ) (table after : Contexts) → slice_get items place ≡ Some table → ((q : TaskId) → context_in items q ≡ each_to makes place tables q) → ((q : TaskId) → get after q ≡ makes (get table q))
+    → (q : TaskId) → context_in (slice_set items place after) q ≡ each_to makes (place + 1) tables q
+each_more makes tables items place table after there so_far here q = by_case (cases_eq place (q.node - 1))
+  where
+    by_case : (place ≡ q.node - 1) ⊎ (place ≢ q.node - 1) → context_in (slice_set items place after) q ≡ each_to makes (place + 1) tables q
+    by_case (inl same) =
+        let now = one_there (slice_set items place after) place after after (set_same items place table after there) q (sym same) in
+        let was = one_there items place table table there q (sym same) in
+        let not_yet : nat_lt (q.node - 1) place ≡ false = grind (arith, nat_tests) in
+        let done : nat_lt (q.node - 1) (place + 1) ≡ true = grind (arith, nat_tests) in
+        let before : context_in items q ≡ context_in tables q = so_far q ∙ rw not_yet refl in
+        now ∙ here q ∙ ap makes (sym was ∙ before) ∙ sym (rw done refl)
+    by_case (inr apart) =
+        let still : nat_lt (q.node - 1) (place + 1) ≡ nat_lt (q.node - 1) place = grind (arith, nat_tests) in
+        ap (option_and_then (λ x. get x q)) (set_other items place (q.node - 1) after apart) ∙ so_far q ∙ sym (ap (λ b. cond b (makes (context_in tables q)) (context_in tables q)) still)
+
+-- all tables
+pub each_done : (makes : Option Context → Option Context) (tables items : List Contexts) → makes None ≡ None → ((q : TaskId) → context_in items q ≡ each_to makes (length tables) tables q) → (q : TaskId) → context_in items q ≡ makes (context_in tables q)
+each_done makes tables items none over q =
+    by_test (nat_lt (q.node - 1) (length tables))
+    (λ inside. over q ∙ rw inside refl)
+    (λ past.
+    let high : length tables ≤ q.node - 1 = grind (arith, nat_tests) in
+    let gone = none_there tables q high in
+    over q ∙ rw past (gone ∙ sym (ap makes gone ∙ none)))
 
 -- a context stands in the table of its node
 pub within : (tables : List Contexts) (id : TaskId) (c : Context) → context_in tables id ≡ Some c → id.node - 1 < length tables

@@ -1,5 +1,5 @@
 -- What task lists show after an event: of the tasks that were live before it, what they showed.
-use Rattle.std.proofs.Common.{◌≡◌, ◌≤◌, ℕ, ◌+◌, ◌*◌, Bool, true, false, cond, not, List, [], ◌∷◌, ◌++◌, map, get_or, Option, Some, None, refl, sym, ap, subst, ◌∙◌, arith}
+use Rattle.std.proofs.Common.{◌≡◌, ◌≤◌, ℕ, ◌+◌, ◌*◌, Bool, true, false, cond, not, List, [], ◌∷◌, ◌++◌, length, map, get_or, Option, Some, None, refl, sym, ap, subst, ◌∙◌, arith}
 use Rattle.std.specs.Prelude.{slice_get, slice_set, remove}
 use Rattle.std.specs.List.{AllByRecursion}
 use Rattle.std.proofs.lemmas.List.Elements.{All-filter, All-map}
@@ -21,7 +21,7 @@ use Rattle.world_moves.specs.declared.flight.Sent.TheVariants as sent
 use Rattle.world_moves.specs.Acts.{messages_in}
 use Rattle.world_moves.specs.Flights.{told_to, told_parent}
 use Rattle.task_events.specs.Cancels.{last_command}
-use Rattle.world_moves.specs.Describing.{Describing, IsDescribed, DescribesAll, Carries}
+use Rattle.world_moves.specs.Describing.{longest_tick, Describing, IsDescribed, DescribesAll, Carries}
 use Rattle.world_moves.proofs.AtPlace.{set_at}
 use Rattle.world_moves.proofs.ByPlace.{all_left}
 
@@ -44,7 +44,8 @@ starts_none (Root k t) s = absurd (cc)
 starts_none (Put t p k) s = absurd (cc)
 starts_none _ s = refl
 
-longer : (day now n k : ℕ) → n + 1 ≡ k → now ≤ n * day → now ≤ k * day
+-- with one more of them, as much or more
+pub longer : (day now n k : ℕ) → n + 1 ≡ k → now ≤ n * day → now ≤ k * day
 longer day now n k next low = subst (λ m. now ≤ m * day) next (let more : (n + 1) * day ≡ n * day + day = grind arith in omega (arith, more, low))
 
 module _ (script : Script) (h : List Event) where
@@ -84,7 +85,8 @@ module _ (script : Script) (h : List Event) where
       rows_are = λ place. rows_stay e (starts_none e s) (slice_get after place) (rows place);
       carried = all_carried e (starts_none e s) queue carried;
       clock_is = d.clock_is ∙ sym (clock_stays e s);
-      clock_low = subst (λ k. now ≤ k * day_ms) (sym (command_stays e s)) d.clock_low;
+      clock_low = subst (λ k. k ≤ length script.commands → now ≤ k * day_ms) (sym (command_stays e s)) d.clock_low;
+      clock_high = longer longest_tick now (length h) (length (e ∷ h)) (omega arith) d.clock_high;
       few_begun = subst (λ k. k ≤ 65536) (sym (command_stays e s)) d.few_begun;
     }
 
@@ -94,17 +96,19 @@ module _ (script : Script) (h : List Event) where
       rows_are = λ place. rows_stay (Begin k) refl (slice_get tables place) (d.rows_are place);
       carried = all_carried (Begin k) refl flight d.carried;
       clock_is = d.clock_is;
-      clock_low = longer day_ms now (last_command h) k next d.clock_low;
+      clock_low = λ low. longer day_ms now (last_command h) k next (d.clock_low (omega (arith, next, low)));
+      clock_high = longer longest_tick now (length h) (length (Begin k ∷ h)) (omega arith) d.clock_high;
       few_begun = few;
     }
 
     -- the clock moves
-    pub ticked_tells : (ms : ℕ) → now + ms ≤ last_command h * day_ms → Describing script h tables flight now → Describing script (Tick ms ∷ h) tables flight (now + ms)
-    ticked_tells ms low d = record {
+    pub ticked_tells : (ms : ℕ) → (last_command h ≤ length script.commands → now + ms ≤ last_command h * day_ms) → ms ≤ longest_tick → Describing script h tables flight now → Describing script (Tick ms ∷ h) tables flight (now + ms)
+    ticked_tells ms low high d = record {
       rows_are = λ place. rows_stay (Tick ms) refl (slice_get tables place) (d.rows_are place);
       carried = all_carried (Tick ms) refl flight d.carried;
       clock_is = ap (λ m. m + ms) d.clock_is;
       clock_low = low;
+      clock_high = let more : (length h + 1) * longest_tick ≡ length h * longest_tick + longest_tick = grind arith in let before = d.clock_high in omega (arith, more, before, high);
       few_begun = d.few_begun;
     }
 

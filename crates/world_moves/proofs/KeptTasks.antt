@@ -15,9 +15,10 @@ use Rattle.task_events.specs.Requests.{Scripted}
 use Rattle.task_events.specs.Same.{same_task}
 use Rattle.task_laws.proofs.Same.{same_task_tells, same_tests}
 use Rattle.node_parts.specs.declared.running.Running.{Running}
-use Rattle.world_moves.specs.Facts.{facts_of, about, is_about}
-use Rattle.world_moves.specs.Ties.{IsKept}
-use Rattle.world_moves.proofs.FactsAfter.{frame}
+use Rattle.task_events.specs.Written.{corpus_at}
+use Rattle.world_moves.specs.Facts.{Facts, facts_of, about, is_about, is_write}
+use Rattle.world_moves.specs.Ties.{IsKept, Runs, progress_from}
+use Rattle.world_moves.proofs.FactsAfter.{frame, lines_same}
 
 is_equal : (o : Ordering) → is_eq o ≡ true → o ≡ Equal
 is_equal Less e = absurd (cc)
@@ -34,24 +35,34 @@ is_at_task t q = by_case (is_at (task_id_cmp t) q) refl (same_task_tells t q)
     by_case false e (inr (differs, apart)) = e ∙ sym differs
 
 module _ (cluster : Cluster) (corpus : Corpus) (said : Scripted) where
-  pub kept_after : (t : TaskId) (e : Event) (h : List Event) (tasks after : TaskId → Option Running) → about e ≡ Some t
-      → ((q : TaskId) → IsKept cluster corpus q (facts_of said q h) (tasks q))
-      → IsKept cluster corpus t (facts_of said t (e ∷ h)) (after t)
+  -- by what is written so far
+  abbrev look : List Event → Corpus
+  look h = corpus_at corpus said h
+
+  -- what is kept of a task stays what it is where nothing is written
+  still_kept : (e : Event) (h : List Event) → is_write e ≡ false → (q : TaskId) (facts : Facts) (o : Option Running) → IsKept cluster look h q facts o → IsKept cluster look (e ∷ h) q facts o
+  still_kept e h w q facts None kept = kept
+  still_kept e h w q facts (Some r) kept = subst (λ now. Runs cluster now (progress_from cluster look facts) q facts r) (sym (lines_same said corpus e h w)) kept
+
+  -- an event about one task
+  pub kept_after : (t : TaskId) (e : Event) (h : List Event) (tasks after : TaskId → Option Running) → about e ≡ Some t → is_write e ≡ false
+      → ((q : TaskId) → IsKept cluster look h q (facts_of said q h) (tasks q))
+      → IsKept cluster look (e ∷ h) t (facts_of said t (e ∷ h)) (after t)
       → ((q : TaskId) → same_task t q ≡ false → after q ≡ tasks q)
-      → (q : TaskId) → IsKept cluster corpus q (facts_of said q (e ∷ h)) (after q)
-  kept_after t e h tasks after a kept here others q = by_case (same_task_tells t q)
+      → (q : TaskId) → IsKept cluster look (e ∷ h) q (facts_of said q (e ∷ h)) (after q)
+  kept_after t e h tasks after a w kept here others q = by_case (same_task_tells t q)
     where
       elsewhere : same_task t q ≡ false → t ≢ q → is_about q e ≡ false
       elsewhere differs apart = rw a (grind (arith, same_tests, apart))
 
-      by_case : ((same_task t q ≡ true) × (t ≡ q)) ⊎ ((same_task t q ≡ false) × (t ≢ q)) → IsKept cluster corpus q (facts_of said q (e ∷ h)) (after q)
-      by_case (inl (is_one, same)) = subst (λ x. IsKept cluster corpus x (facts_of said x (e ∷ h)) (after x)) same here
-      by_case (inr (differs, apart)) = rw (frame said q e h (elsewhere differs apart)) (rw (others q differs) (kept q))
+      by_case : ((same_task t q ≡ true) × (t ≡ q)) ⊎ ((same_task t q ≡ false) × (t ≢ q)) → IsKept cluster look (e ∷ h) q (facts_of said q (e ∷ h)) (after q)
+      by_case (inl (is_one, same)) = subst (λ x. IsKept cluster look (e ∷ h) x (facts_of said x (e ∷ h)) (after x)) same here
+      by_case (inr (differs, apart)) = rw (frame said q e h (elsewhere differs apart) w) (rw (others q differs) (still_kept e h w q _ (tasks q) (kept q)))
 
   -- an event that is about no task
-  pub kept_same : (e : Event) (h : List Event) (tasks : TaskId → Option Running) → about e ≡ None
-      → ((q : TaskId) → IsKept cluster corpus q (facts_of said q h) (tasks q)) → (q : TaskId) → IsKept cluster corpus q (facts_of said q (e ∷ h)) (tasks q)
-  kept_same e h tasks a kept q = rw (frame said q e h (rw a refl)) (kept q)
+  pub kept_same : (e : Event) (h : List Event) (tasks : TaskId → Option Running) → about e ≡ None → is_write e ≡ false
+      → ((q : TaskId) → IsKept cluster look h q (facts_of said q h) (tasks q)) → (q : TaskId) → IsKept cluster look (e ∷ h) q (facts_of said q (e ∷ h)) (tasks q)
+  kept_same e h tasks a w kept q = rw (frame said q e h (rw a refl) w) (still_kept e h w q _ (tasks q) (kept q))
 
 -- a map that was changed at one id: what it has there, and that it has the same everywhere else
 pub at_changed : (t : TaskId) (o : Option Running) (tasks after : TaskId → Option Running) → ((q : TaskId) → after q ≡ cond (is_at (task_id_cmp t) q) o (tasks q)) → after t ≡ o

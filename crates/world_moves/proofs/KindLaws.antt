@@ -1,73 +1,122 @@
 -- What each kind of task shows of its work where that is as far as the past says: it stays so after each step, and ends with a good reply.
 -- SearchLaws, PageLaws, QueryLaws and FetchLaws show it, and AllKinds for any kind.
-use Rattle.std.proofs.Common.{◌≡◌, ◌<◌, ℕ, ◌+◌, true, false, List, [], ◌∷◌, ◌++◌, length, map, get_or, Option, Some, None, sym, ap, ◌∙◌}
-use Rattle.std.specs.Prelude.{is_some, option_map, slice_get, slice_set, ⊤}
-use Rattle.corpus_shards.specs.Stored.{Stored, AreFew}
+use Rattle.std.proofs.Common.{◌≡◌, ◌⊎◌, ◌<◌, ℕ, ◌+◌, ◌*◌, true, false, List, [], ◌∷◌, ◌++◌, length, map, get_or, Option, Some, None, sym, ap, ◌∙◌}
+use Rattle.std.specs.Prelude.{is_some, option_map, option_and_then, slice_get, slice_set, count_by, not}
+use Rattle.std.specs.List.{AllByRecursion}
+use Rattle.std.specs.Option.{option_map_or, option_or}
 use Rattle.task_ids.specs.declared.task_id.TaskId.{TaskId}
 use Rattle.task_ids.specs.declared.cluster.Cluster.{Cluster}
 use Rattle.task_ids.specs.declared.corpus.Corpus.{Corpus}
 use Rattle.task_ids.specs.declared.doc.Doc.{Doc}
-use Rattle.task_events.specs.declared.context.Context.{Context}
 use Rattle.task_events.specs.declared.request.Request.{Request}
+use Rattle.task_events.specs.declared.request.Request.TheVariants as wants
+use Rattle.task_events.specs.declared.request.SearchAsk.{SearchAsk}
+use Rattle.task_events.specs.declared.request.WriteNote.{WriteNote}
 use Rattle.task_events.specs.declared.reply.Reply.{Reply}
+use Rattle.task_events.specs.declared.reply.Reply.TheVariants.{Search}
+use Rattle.task_events.specs.declared.reply.SearchReply.{SearchReply}
 use Rattle.task_events.specs.declared.step.Asked.{Asked}
 use Rattle.task_events.specs.declared.step.Do.TheVariants.{AskNext, Turn, Finish}
+use Rattle.task_ids.specs.Placing.{shard_of}
 use Rattle.task_events.specs.Allowed.{cancellation_in, is_rejection}
-use Rattle.task_events.specs.Kinds.{kind_of}
+use Rattle.task_events.specs.Looking.{rows_per_turn}
+use Rattle.task_events.specs.Kind.{Progress}
+use Rattle.task_events.specs.Kinds.{kind_of, are_below}
 use Rattle.task_events.specs.Steps.{with_answer}
+use Rattle.task_events.specs.Tasks.{no_counts}
+use Rattle.task_events.specs.Written.{docs_of, docs_of_turn}
+use Rattle.corpus_shards.specs.Placed.{AreFew}
 use Rattle.task_work.specs.declared.work.Work.{Work}
-use Rattle.task_work.specs.Works.{IsWorkOn, next_of, with_turn, can_ask, work_with_ask, work_takes, work_with_answer, does_wait}
+use Rattle.task_work.specs.Works.{IsWorkOn, next_of, with_turn, can_ask, work_with_ask, work_takes, work_with_answer, work_notes, docs_next, counts_of, place_of, does_wait, due_in}
 use Rattle.world_moves.specs.Facts.{none_awaited}
-use Rattle.world_moves.specs.Good.{IsGoodReply, own_writes}
-use Rattle.world_moves.specs.Ties.{WorksFor, looked_at}
-
-abbrev pub stored_of : Cluster → Corpus → Stored
-stored_of cluster corpus = record { corpus = corpus; shards = cluster.shards }
+use Rattle.world_moves.specs.Good.{IsGoodReply, IsWithin, Grows, own_writes}
+use Rattle.world_moves.specs.Owning.{IsOwnSearch}
+use Rattle.world_moves.specs.Ties.{WorksFor}
+use Rattle.world_moves.proofs.SearchParts.{IsPart}
 
 -- the reply is neither cancelled nor a rejection
 abbrev pub IsPlain : Reply → Type 0
 IsPlain reply = (cancellation_in reply ≡ None) × (is_rejection reply ≡ false)
 
--- a request of one shard
-abbrev pub IsPart : Request → Type 0
-IsPart r = is_some (kind_of r).place ≡ true
-
--- the end of a request of one shard says what its shard's writes say
+-- the end of a request says what its shard's writes say
 abbrev pub IsGoodEnd : Cluster → Corpus → Option Request → Reply → Type 0
-IsGoodEnd cluster corpus None end = ⊤
-IsGoodEnd cluster corpus (Some r) end = IsPart r → IsGoodReply cluster corpus r end
+IsGoodEnd cluster corpus None end = Unit {0}
+IsGoodEnd cluster corpus (Some r) end = IsGoodReply cluster corpus r end
 
-module _ (cluster : Cluster) (corpus : Corpus) (t : TaskId) (page : Option Context) (asked : List Asked) (requests : List Request) (awaited : List (Option ℕ)) (turns : ℕ) (o : Option Request) (w : Work) where
+-- how far a task has come with one more turn, that read its shard and wrote this
+abbrev pub with_turn_of : Progress → List Doc → List WriteNote → Progress
+with_turn_of p writes notes = record p {
+  turns = 1 + p.turns;
+  version = option_or p.version (Some (length writes));
+  created = count_by (λ note. note.created) notes + p.created;
+  updated = count_by (λ note. not note.created) notes + p.updated;
+}
+
+-- A search of its own was answered with hits, and named its context.
+pub record HasOpened (t : TaskId) (asked : List Asked) (requests : List Request) (id : TaskId) : Type 0 where
+  pub place : ℕ
+  pub ask : SearchAsk
+  pub found : SearchReply
+  pub requested : slice_get requests place ≡ Some (wants.Search ask)
+  pub own : ask.owner ≡ Some t
+  pub answered : slice_get asked place ≡ Some (record { ask = place + 1; answer = Some (Search found) })
+  pub named : found.context ≡ Some id
+
+-- it asks for a context of its own, or once nothing is awaited for a page of one
+abbrev pub AsksOwn : TaskId → List Asked → List Request → List (Option ℕ) → Request → Type 0
+AsksOwn t asked requests awaited (wants.Search ask) = IsOwnSearch t ask
+AsksOwn t asked requests awaited (wants.Scroll ask) = (ask.owner ≡ Some t) × (ask.keep ≡ None) × (none_awaited awaited ≡ true) × HasOpened t asked requests ask.id
+AsksOwn t asked requests awaited _ = Unit {0}
+
+-- a query and a fetch have no context
+pub part_owns : (t : TaskId) (asked : List Asked) (requests : List Request) (awaited : List (Option ℕ)) (r : Request) → IsPart r → AsksOwn t asked requests awaited r
+part_owns t asked requests awaited (wants.Query ask) part = tt
+part_owns t asked requests awaited (wants.Fetch ask) part = tt
+part_owns t asked requests awaited (wants.Search ask) part = absurd (let f : false ≡ true = part in cc)
+part_owns t asked requests awaited (wants.Scroll ask) part = absurd (let f : false ≡ true = part in cc)
+
+-- the work of a task that has passed
+module _ (cluster : Cluster) (corpus : Corpus) (t : TaskId) (p : Progress) (requests : List Request) (awaited : List (Option ℕ)) (o : Option Request) (w : Work) where
   -- it asks for this
   pub record Asks (request : Request) : Type 0 where
     pub few : length awaited + 1 < 4294967296
     pub may : can_ask w (length awaited + 1) ≡ true
-    pub after : (n : ℕ) → WorksFor cluster corpus t page (asked ++ record { ask = length awaited + 1; answer = None } ∷ []) (requests ++ request ∷ []) (awaited ++ Some n ∷ []) turns o (work_with_ask w (length awaited + 1))
+    pub after : (n : ℕ) → WorksFor cluster corpus t false (record p { asked = p.asked ++ record { ask = length awaited + 1; answer = None } ∷ []; came = p.came ++ 0 ∷ [] }) (requests ++ request ∷ []) (awaited ++ Some n ∷ []) o (work_with_ask w (length awaited + 1))
+    pub within : IsWithin cluster corpus request
+    pub owns : AsksOwn t p.asked requests awaited request
 
-  -- it takes this answer to an ask, counted from 0
-  pub record Takes (i : ℕ) (reply : Reply) : Type 0 where
+  -- it takes this answer to an ask, counted from 0, at this moment
+  pub record Takes (i : ℕ) (reply : Reply) (now : ℕ) : Type 0 where
     pub takes : work_takes w (1 + i) reply ≡ true
-    pub after : (answer : Option Reply) → answer ≡ Some reply → WorksFor cluster corpus t page (map (with_answer (1 + i) answer) asked) requests (slice_set awaited i None) turns o (work_with_answer w (1 + i) reply)
+    pub after : (answer : Option Reply) → answer ≡ Some reply → WorksFor cluster corpus t false (record p { asked = map (with_answer (1 + i) answer) p.asked; came = slice_set p.came i now }) requests (slice_set awaited i None) o (work_with_answer w (1 + i) reply now)
 
   pub record KindLaws : Type 0 where
-    -- what it does is what the plan says
-    pub follows : option_map (λ r. (kind_of r).step cluster corpus t page asked turns) o ≡ Some (next_of w (own_writes cluster corpus o))
-    -- it is on the writes of its shard, and looks at them
+    -- what it does is what the plan says, and it has counted what the plan says
+    pub follows : (now : ℕ) → option_map (λ r. (kind_of r).step cluster corpus t p now) o ≡ Some (next_of w (own_writes cluster corpus o) now)
+    pub counts : option_map_or (λ r. (kind_of r).counts p) o no_counts ≡ counts_of w
+    pub low : option_map_or (λ r. are_below (kind_of r).limit (counts_of w)) o true ≡ true
+    -- it is on the writes of its shard, looks at them, and writes its documents to them
     pub on : IsWorkOn w (own_writes cluster corpus o)
-    pub looks : looked_at (stored_of cluster corpus) w ≡ own_writes cluster corpus o
+    pub place : place_of w ≡ option_and_then (λ r. (kind_of r).place) o
+    pub docs : docs_next w ≡ docs_of_turn (docs_of o) p.turns
+    -- all turns before one that writes were full
+    pub full : (docs_next w ≡ []) ⊎ (p.created + p.updated ≡ p.turns * rows_per_turn)
+    -- what it writes lies in its shard
+    pub in_shard : (place : List ℕ × ℕ) → place_of w ≡ Some place → AllByRecursion (λ doc. shard_of doc.id cluster.shards ≡ place.1) (docs_next w)
+    -- a turn is one over a shard
+    pub turns_there : (writes : List Doc) (now : ℕ) → next_of w writes now ≡ Turn → is_some (place_of w) ≡ true
     -- it stays as the past says after a turn, an ask and an answer
-    pub turned : next_of w (looked_at (stored_of cluster corpus) w) ≡ Turn → IsWorkOn (with_turn w (looked_at (stored_of cluster corpus) w)) (looked_at (stored_of cluster corpus) w)
-        → WorksFor cluster corpus t page asked requests awaited (1 + turns) o (with_turn w (looked_at (stored_of cluster corpus) w))
-    pub asks : (request : Request) → ((writes : List Doc) → IsWorkOn w writes → next_of w writes ≡ AskNext request) → Asks request
-    pub takes_answer : (i : ℕ) (r : Request) (reply : Reply) → slice_get requests i ≡ Some r → is_some (get_or awaited i None) ≡ true → IsGoodReply cluster corpus r reply → Takes i reply
-    -- where all its asks are answered it does not wait
-    pub moves : (writes : List Doc) → none_awaited awaited ≡ true → does_wait (next_of w writes) ≡ false
+    pub turned : (now : ℕ) (later : Corpus) → next_of w (own_writes cluster corpus o) now ≡ Turn → Grows cluster corpus later → own_writes cluster later o ≡ own_writes cluster corpus o ++ docs_next w
+        → IsWorkOn (with_turn w (own_writes cluster corpus o)) (own_writes cluster later o)
+        → WorksFor cluster later t false (with_turn_of p (own_writes cluster corpus o) (work_notes w (own_writes cluster corpus o))) requests awaited o (with_turn w (own_writes cluster corpus o))
+    pub asks : (request : Request) (now : ℕ) → ((writes : List Doc) → IsWorkOn w writes → next_of w writes now ≡ AskNext request) → Asks request
+    pub takes_answer : (i : ℕ) (r : Request) (reply : Reply) (now : ℕ) → slice_get requests i ≡ Some r → is_some (get_or awaited i None) ≡ true → IsGoodReply cluster corpus r reply → Takes i reply now
+    -- where all its asks are answered it waits for a moment at most
+    pub moves : (writes : List Doc) (now : ℕ) → none_awaited awaited ≡ true → does_wait (next_of w writes now) ≡ is_some (due_in (next_of w writes now))
     -- at its end all its asks are answered, and the reply is its own
-    pub none_left : (writes : List Doc) (end : Reply) → next_of w writes ≡ Finish end → none_awaited awaited ≡ true
-    pub plain : (writes : List Doc) (end : Reply) → next_of w writes ≡ Finish end → IsPlain end
-    pub ends_well : AreFew corpus.lines cluster.shards → (end : Reply) → next_of w (looked_at (stored_of cluster corpus) w) ≡ Finish end → IsGoodEnd cluster corpus o end
-    -- what it asks for is of one shard
-    pub asks_parts : (k : ℕ) (q : Request) → slice_get requests k ≡ Some q → (awaited ≡ [] → ⊥) → IsPart q
+    pub none_left : (writes : List Doc) (now : ℕ) (end : Reply) → next_of w writes now ≡ Finish end → none_awaited awaited ≡ true
+    pub plain : (writes : List Doc) (now : ℕ) (end : Reply) → next_of w writes now ≡ Finish end → IsPlain end
+    pub ends_well : AreFew corpus.lines cluster.shards → (now : ℕ) (end : Reply) → next_of w (own_writes cluster corpus o) now ≡ Finish end → IsGoodEnd cluster corpus o end
 
 -- where nothing is asked no answer is awaited
 pub asks_something : (awaited : List (Option ℕ)) (i : ℕ) → is_some (get_or awaited i None) ≡ true → awaited ≡ [] → ⊥

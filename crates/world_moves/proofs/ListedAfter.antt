@@ -37,6 +37,7 @@ use Rattle.world_moves.proofs.FlightAfter.{all_stay}
 use Rattle.world_moves.proofs.KeptTasks.{kept_same}
 use Rattle.world_moves.proofs.NodeTablesSame.{listed_same}
 use Rattle.world_moves.proofs.OpenListings.{is_at_listing}
+use Rattle.world_moves.specs.Good.{so_far}
 
 module _ (cluster : Cluster) (h : List Event) (n : ℕ) (p : TaskId) where
   pub after_listed : (corpus : Corpus) (script : Script) (tasks : TaskId → Option Running) (tables : List Table) (flight : List Sent)
@@ -44,11 +45,12 @@ module _ (cluster : Cluster) (h : List Event) (n : ℕ) (p : TaskId) where
       → Ties cluster corpus script (Listed n p ∷ h) tasks tables (flight ++ sent.Notice (notices.Ack p n) ∷ [])
   after_listed corpus script tasks tables flight ties awaits opened marked = record {
     lawful = (record { opened = opened; all_marked = marked }, ties.lawful, awaits);
-    kept = kept_same cluster corpus (scripted script) (Listed n p) h tasks refl ties.kept;
+    kept = kept_same cluster corpus (scripted script) (Listed n p) h tasks refl refl ties.kept;
     listed = λ place. listed_same cluster (Listed n p) h (λ m. refl) refl place _ (ties.listed place);
     sent = map-append (message_of (Listed n p ∷ h)) flight (sent.Notice (notices.Ack p n) ∷ []) ∙ ap (λ ms. ms ++ Some (Ack p n) ∷ []) (all_stay (Listed n p) h flight (in_flight h) ties.sent)
         ∙ sym (map-append Some (in_flight h) (Ack p n ∷ []));
-    good = all_push (IsGood cluster corpus (Listed n p ∷ h)) (in_flight h) (Ack p n) ties.good tt;
+    good = all_push (IsGood cluster (so_far corpus script h) (Listed n p ∷ h)) (in_flight h) (Ack p n) ties.good tt;
+    within = ties.within;
     plain = ties.plain;
   }
 

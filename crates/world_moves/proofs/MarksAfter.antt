@@ -51,7 +51,7 @@ use Rattle.world_moves.specs.Cancelling.{Cancelling, IsRowOf, HasRows, HasBansAt
 use Rattle.world_moves.specs.Facts.{facts_of}
 use Rattle.world_moves.specs.Flights.{message_of}
 use Rattle.command_roots.specs.Roots.{scripted}
-use Rattle.world_moves.specs.Ties.{Ties, Runs, IsTableAt, IsGood}
+use Rattle.world_moves.specs.Ties.{Ties, RunsAt, IsTableAt, IsGood}
 use Rattle.world_moves.proofs.AtOneTask.{at_mark as mark_at}
 use Rattle.world_moves.proofs.CountsAfter.{let_go, let_go_differ, still_waiting, others_wait, left_map}
 use Rattle.world_moves.proofs.NamedCancels.{is_in}
@@ -64,6 +64,7 @@ use Rattle.world_moves.proofs.FlightAfter.{all_stay}
 use Rattle.world_moves.proofs.KeptTasks.{kept_after}
 use Rattle.world_moves.proofs.LiveRows.{rows_live, live_counted}
 use Rattle.world_moves.proofs.StepsAfter.{kept_running}
+use Rattle.world_moves.specs.Good.{so_far}
 
 -- ---- the acts: bans, and the answer to the first waiter where there is nothing to ban
 
@@ -277,22 +278,24 @@ module _ (cluster : Cluster) (t : TaskId) (c : ℕ) (h : List Event) (lawful : L
       → Ties cluster corpus script (Mark t c ∷ h) after (slice_set tables (t.node - 1) (with_mark table t.number c)) (flight ++ queue)
   after_mark corpus script tasks after tables table flight queue r ties was here others its_table its_queue number = record {
     lawful = lawful;
-    kept = kept_after cluster corpus (scripted script) t (Mark t c) h tasks after refl ties.kept
-        (rw here (rw (at_mark (scripted script) t h c) (closed (kept_running cluster corpus script h tasks tables flight ties t lawful.0.live r was)))) others;
+    kept = kept_after cluster corpus (scripted script) t (Mark t c) h tasks after refl refl ties.kept
+        (rw here (subst (λ facts. RunsAt cluster (so_far corpus script) h t facts (record r { track = with_close r.track c })) (sym (at_mark (scripted script) t h c)) (closed (kept_running cluster corpus script h tasks tables flight ties t lawful.0.live r was)))) others;
     listed = set_at (λ place. IsTableAt cluster place h) (λ place. IsTableAt cluster place (Mark t c ∷ h)) tables (t.node - 1) table (with_mark table t.number c) its_table ties.listed
         (listed_here (subst (IsTableAt cluster (t.node - 1) h) its_table (ties.listed (t.node - 1)))) (λ place apart fits. listed_there place (slice_get tables place) fits);
     sent = map-append (message_of (Mark t c ∷ h)) flight queue ∙ ap (λ ms. ms ++ map (message_of (Mark t c ∷ h)) queue) (all_stay (Mark t c) h flight (in_flight h) ties.sent)
         ∙ ap (λ ms. map Some (in_flight h) ++ ms) its_queue ∙ sym (map-append Some (in_flight h) (map (Ban t c) (unanswered_nodes t h)));
     good = bans_good (in_flight h) ties.good (unanswered_nodes t h);
+    within = ties.within;
     plain = ties.plain;
   }
     where
-      closed : Runs cluster corpus t (facts_of (scripted script) t h) r → Runs cluster corpus t (record (facts_of (scripted script) t h) { mark = Some c }) (record r { track = with_close r.track c })
+      closed : RunsAt cluster (so_far corpus script) h t (facts_of (scripted script) t h) r → RunsAt cluster (so_far corpus script) h t (record (facts_of (scripted script) t h) { mark = Some c }) (record r { track = with_close r.track c })
       closed x = record {
         live = x.live;
         id = x.id;
         token = x.token;
         track = ap (λ track. with_close track c) x.track ∙ ap (λ o. record { task = t; asks = (facts_of (scripted script) t h).awaited; closed = Some (unwrap_or o c) }) lawful.0.unmarked;
+        page = x.page;
         new = x.new;
         headers = x.headers;
         works = x.works;
@@ -305,7 +308,7 @@ module _ (cluster : Cluster) (t : TaskId) (c : ℕ) (h : List Event) (lawful : L
       listed_there place None i = i
       listed_there place (Some other) i = record { node_is = i.node_is; slots_are = i.slots_are; last_is = i.last_is; lists = i.lists }
 
-      bans_good : (ms : List _) → AllByRecursion (IsGood cluster corpus (Mark t c ∷ h)) ms → (ns : List ℕ) → AllByRecursion (IsGood cluster corpus (Mark t c ∷ h)) (ms ++ map (Ban t c) ns)
+      bans_good : (ms : List _) → AllByRecursion (IsGood cluster (so_far corpus script h) (Mark t c ∷ h)) ms → (ns : List ℕ) → AllByRecursion (IsGood cluster (so_far corpus script h) (Mark t c ∷ h)) (ms ++ map (Ban t c) ns)
       bans_good [] good [] = tt
       bans_good [] good (n ∷ ns) = (number, bans_good [] tt ns)
       bans_good (m ∷ ms) good ns = (good.0, bans_good ms good.1 ns)

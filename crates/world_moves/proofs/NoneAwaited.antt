@@ -7,6 +7,7 @@ use Rattle.std.proofs.lemmas.List.Sums.{sum_by-cons}
 use Rattle.task_ids.specs.declared.task_id.TaskId.{TaskId}
 use Rattle.task_ids.specs.declared.cluster.Cluster.{Cluster}
 use Rattle.task_events.specs.declared.event.Event.{Event}
+use Rattle.task_events.specs.declared.reply.Counts.{Counts}
 use Rattle.task_events.specs.declared.step.Asked.{Asked}
 use Rattle.task_events.specs.Asks.{Pending, unanswered, is_unanswered}
 use Rattle.task_events.specs.Lawful.{Lawful}
@@ -51,7 +52,7 @@ no_less n = grind (arith, nat_tests)
 pub tells_some : (awaited : List (Option ℕ)) → nat_lt 0 (count_by is_some awaited) ≡ not (none_awaited awaited)
 tells_some awaited = no_less (count_by is_some awaited) ∙ ap not (tells_none awaited)
 
-none_there : (awaited : List (Option ℕ)) → none_awaited awaited ≡ true → (k : ℕ) → is_some (get_or awaited k None) ≡ false
+pub none_there : (awaited : List (Option ℕ)) → none_awaited awaited ≡ true → (k : ℕ) → is_some (get_or awaited k None) ≡ false
 none_there [] e k = refl
 none_there (None ∷ awaited) e zero = refl
 none_there (None ∷ awaited) e (suc k) = none_there awaited e k
@@ -82,17 +83,17 @@ module _ (cluster : Cluster) (t : TaskId) (h : List Event) (l : Lawful cluster h
   none_to_await e = none_from (awaited_by t h) (λ k. sym (awaited_at cluster t k h l) ∙ is_pending t (k + 1) h ∙ ap (list_any (λ a. a.ask == k + 1)) e)
 
   -- a marked task ends once none is unanswered
-  pub ends_cancelled : (c : ℕ) → is_some (cancelled_step t c (unanswered t h)) ≡ none_awaited (awaited_by t h)
-  ends_cancelled c = by_both (unanswered t h) refl (none_awaited (awaited_by t h)) refl
+  pub ends_cancelled : (c : ℕ) (counts : Counts) → is_some (cancelled_step t c counts (unanswered t h)) ≡ none_awaited (awaited_by t h)
+  ends_cancelled c counts = by_both (unanswered t h) refl (none_awaited (awaited_by t h)) refl
     where
-      by_both : (pending : List Pending) → unanswered t h ≡ pending → (b : Bool) → none_awaited (awaited_by t h) ≡ b → is_some (cancelled_step t c pending) ≡ none_awaited (awaited_by t h)
+      by_both : (pending : List Pending) → unanswered t h ≡ pending → (b : Bool) → none_awaited (awaited_by t h) ≡ b → is_some (cancelled_step t c counts pending) ≡ none_awaited (awaited_by t h)
       by_both [] e b n = sym (none_to_await e)
       by_both (a ∷ pending) e false n = sym n
       by_both (a ∷ pending) e true n = absurd (let none = sym e ∙ none_unanswered n in cc)
 
-  pub waits_cancelled : (c : ℕ) → none_awaited (awaited_by t h) ≡ false → cancelled_step t c (unanswered t h) ≡ None
-  waits_cancelled c n = by_pending (unanswered t h) refl
+  pub waits_cancelled : (c : ℕ) (counts : Counts) → none_awaited (awaited_by t h) ≡ false → cancelled_step t c counts (unanswered t h) ≡ None
+  waits_cancelled c counts n = by_pending (unanswered t h) refl
     where
-      by_pending : (pending : List Pending) → unanswered t h ≡ pending → cancelled_step t c pending ≡ None
+      by_pending : (pending : List Pending) → unanswered t h ≡ pending → cancelled_step t c counts pending ≡ None
       by_pending [] e = absurd (let none = sym n ∙ none_to_await e in cc)
       by_pending (a ∷ pending) e = refl

@@ -1,6 +1,6 @@
 -- What the end of a task makes of contexts, by its work.
-use Rattle.std.proofs.Common.{◌≡◌, ◌≢◌, ◌⊎◌, ℕ, Bool, true, false, cond, List, length, Option, Some, None, refl, sym, ap, subst, ◌∙◌, inl, inr}
-use Rattle.std.specs.Prelude.{◌&&◌, ◌==◌, IsSome}
+use Rattle.std.proofs.Common.{◌≡◌, ◌≢◌, ◌⊎◌, ℕ, Bool, true, false, cond, List, length, Option, Some, None, refl, sym, ap, subst, ◌∙◌, inl, inr, arith}
+use Rattle.std.specs.Prelude.{◌&&◌, ◌==◌, IsSome, option_map, option_and_then}
 use Rattle.task_ids.specs.declared.cluster.Cluster.{Cluster}
 use Rattle.task_ids.specs.declared.corpus.Corpus.{Corpus}
 use Rattle.task_ids.specs.declared.task_id.TaskId.{TaskId}
@@ -18,7 +18,8 @@ use Rattle.task_events.specs.declared.step.Asked.{Asked}
 use Rattle.task_events.specs.declared.step.Do.TheVariants.{Finish}
 use Rattle.task_events.specs.Contexts.{opens_context, opened, cursor_in, after_end}
 use Rattle.task_events.specs.Counts.{AreCounts}
-use Rattle.task_events.specs.Readings.{Reading, search_reading, page_reading}
+use Rattle.task_events.specs.Kind.{Progress}
+use Rattle.task_events.specs.Readings.{Reading, search_reading}
 use Rattle.task_events.specs.Same.{same_task}
 use Rattle.task_events.specs.Searches.{search_reply, failed_in, counts_in}
 use Rattle.task_laws.proofs.Same.{same_task_tells}
@@ -27,11 +28,13 @@ use Rattle.search_phase.proofs.CountsFit.{counts_fit}
 use Rattle.task_work.specs.declared.work.Work.{Work}
 use Rattle.task_work.specs.declared.work.Work.TheVariants as works
 use Rattle.task_work.specs.Works.{next_of}
-use Rattle.node_parts.specs.Opening.{FitsContext, opened_by, page_id}
+use Rattle.node_parts.specs.Opening.{FitsContext, opened_by}
+use Rattle.node_parts.specs.Starting.{page_in}
 use Rattle.world_moves.specs.Paging.{after_opening, after_return}
-use Rattle.world_moves.specs.SearchRuns.{SearchesFor}
+use Rattle.world_moves.specs.Good.{IsContextWithin}
+use Rattle.world_moves.specs.SearchRuns.{SearchesFor, RunsPage}
 use Rattle.world_moves.specs.Ties.{WorksFor}
-use Rattle.world_moves.proofs.KindLaws.{IsPart}
+use Rattle.world_moves.proofs.ContextsRead.{kept_within}
 use Rattle.world_moves.proofs.Numbered.{is_searching}
 use Rattle.world_moves.proofs.SearchLaws.{search_ends}
 
@@ -73,13 +76,6 @@ opened_id (works.Query s top) t reply now c e = absurd (cc)
 opened_id (works.Fetch s hits) t reply now c e = absurd (cc)
 opened_id (works.Scroll s) t reply now c e = absurd (cc)
 
--- and who opens one shows no page
-pub opens_shows_none : (w : Work) (t : TaskId) (reply : Reply) (now : ℕ) → IsSome (opened_by w t reply now) → page_id w ≡ None
-opens_shows_none (works.Search s) t reply now opens = refl
-opens_shows_none (works.Query s top) t reply now opens = refl
-opens_shows_none (works.Fetch s hits) t reply now opens = refl
-opens_shows_none (works.Scroll s) t reply now opens = absurd (let f : false ≡ true = opens in cc)
-
 -- a good reply keeps what was counted
 found_keeps : (r : Reading) (asked : List Asked) (found : SearchReply) → search_reply r asked ≡ Search found → found.shards ≡ counts_in r asked
 found_keeps r asked found e = of_test (length (failed_in r asked) == length r.shards) _ refl e
@@ -88,100 +84,106 @@ found_keeps r asked found e = of_test (length (failed_in r asked) == length r.sh
     of_test true x is f = absurd (cc)
     of_test false x is f = let same : x ≡ found = cc in ap (λ (y : SearchReply). y.shards) (sym same) ∙ is
 
-module _ (cluster : Cluster) (corpus : Corpus) (t : TaskId) (asked : List Asked) (requests : List Request) (awaited : List (Option ℕ)) (turns : ℕ) where
-  abbrev Works : Option Context → Option Request → Work → Type 0
-  Works page o w = WorksFor cluster corpus t page asked requests awaited turns o w
+one_search : (one other : SearchAsk) → Some (asks.Search one) ≡ Some (asks.Search other) → one ≡ other
+one_search one other is = cc
 
-  reads : (r : Reading) (s : Searching) → SearchesFor cluster corpus r asked requests awaited s → s.reading ≡ r
+module _ (cluster : Cluster) (corpus : Corpus) (t : TaskId) (p : Progress) (requests : List Request) (awaited : List (Option ℕ)) where
+  abbrev Works : Option Request → Work → Type 0
+  Works o w = WorksFor cluster corpus t false p requests awaited o w
+
+  -- the context that a task of this request uses, once it has passed
+  abbrev pub uses : Option Request → Option TaskId
+  uses o = option_map (λ page. page.id) (option_and_then page_in o)
+
+  reads : (r : Reading) (s : Searching) → SearchesFor cluster corpus r p.asked requests awaited s → s.reading ≡ r
   reads r s x = ap (λ (z : Searching). z.reading) x.state_is
 
+  -- work of a page is a page
+  page_work : (page : Option Context) (ask : ScrollAsk) (w : Work) → RunsPage cluster corpus ask.id false page p.asked requests awaited w → (s : Searching) × (w ≡ works.Scroll s)
+  page_work (Some d) ask (works.Scroll s) x = (s, refl)
+  page_work None ask w x = absurd (let f : false ≡ true = x.0 in cc)
+  page_work (Some d) ask w x = absurd x
+
   -- what the end makes of a context is what the past says
-  pub ended_alike : (now : ℕ) (reply : Reply) (page : Option Context) (o : Option Request) (w : Work) → Works page o w → (q : TaskId) (c : Option Context)
-      → after_opening (opened_by w t reply now) t q (after_return now (page_id w) (cursor_in reply) q c) ≡ after_end now t o reply q c
-  ended_alike now reply page None w x q c = absurd x
-  ended_alike now reply page (Some (asks.Search ask)) (works.Search s) x q c = search_alike now t ask s reply (ap (λ (r : Reading). r.ask) (reads (search_reading t ask cluster.shards) s x)) q c
-  ended_alike now reply page (Some (asks.Query ask)) (works.Query s top) x q c = refl
-  ended_alike now reply page (Some (asks.Fetch ask)) (works.Fetch s hits) x q c = refl
-  ended_alike now reply (Some d) (Some (asks.Scroll ask)) (works.Scroll s) (own, x) q c =
-      let is : page_id (works.Scroll s) ≡ Some ask.id = ap (λ (r : Reading). r.context) (reads (page_reading d) s x) ∙ ap Some own in
-      ap (λ id. after_return now id (cursor_in reply) q c) is
-  ended_alike now reply page (Some (asks.Search ask)) w x q c = absurd x
-  ended_alike now reply page (Some (asks.Query ask)) w x q c = absurd x
-  ended_alike now reply page (Some (asks.Fetch ask)) w x q c = absurd x
-  ended_alike now reply None (Some (asks.Scroll ask)) w x q c = absurd x
-  ended_alike now reply (Some d) (Some (asks.Scroll ask)) w x q c = absurd x
+  pub ended_alike : (now : ℕ) (reply : Reply) (o : Option Request) (w : Work) → Works o w → (q : TaskId) (c : Option Context)
+      → after_opening (opened_by w t reply now) t q (after_return now (uses o) (cursor_in reply) q c) ≡ after_end now t o reply q c
+  ended_alike now reply None w x q c = absurd x
+  ended_alike now reply (Some (asks.Search ask)) (works.Search s) x q c = search_alike now t ask s reply (ap (λ (r : Reading). r.ask) (reads (search_reading t ask cluster.shards) s x)) q c
+  ended_alike now reply (Some (asks.Query ask)) (works.Query s top) x q c = refl
+  ended_alike now reply (Some (asks.Fetch ask)) (works.Fetch s hits) x q c = refl
+  ended_alike now reply (Some (asks.Scroll ask)) w x q c = let is = page_work p.page ask w x in rw is.1 refl
+  ended_alike now reply (Some (asks.Search ask)) w x q c = absurd x
+  ended_alike now reply (Some (asks.Query ask)) w x q c = absurd x
+  ended_alike now reply (Some (asks.Fetch ask)) w x q c = absurd x
+
+  -- a task that opens a context uses none
+  pub opens_uses_none : (now : ℕ) (reply : Reply) (o : Option Request) (w : Work) → Works o w → IsSome (opened_by w t reply now) → uses o ≡ None
+  opens_uses_none now reply None w x opens = absurd x
+  opens_uses_none now reply (Some (asks.Search ask)) w x opens = refl
+  opens_uses_none now reply (Some (asks.Query ask)) w x opens = refl
+  opens_uses_none now reply (Some (asks.Fetch ask)) w x opens = refl
+  opens_uses_none now reply (Some (asks.Scroll ask)) w x opens = let is = page_work p.page ask w x in absurd (let f : false ≡ true = rw is.1 at opens in cc)
 
   -- a cancelled end opens none
-  pub cancelled_alike : (now : ℕ) (k : ℕ) (counts : Counts) (page : Option Context) (o : Option Request) (w : Work) → Works page o w → (q : TaskId) (c : Option Context)
-      → after_return now (page_id w) None q c ≡ after_end now t o (Cancelled t k counts) q c
-  cancelled_alike now k counts page None w x q c = absurd x
-  cancelled_alike now k counts page (Some (asks.Search ask)) (works.Search s) x q c = refl
-  cancelled_alike now k counts page (Some (asks.Query ask)) (works.Query s top) x q c = refl
-  cancelled_alike now k counts page (Some (asks.Fetch ask)) (works.Fetch s hits) x q c = refl
-  cancelled_alike now k counts (Some d) (Some (asks.Scroll ask)) (works.Scroll s) (own, x) q c =
-      let is : page_id (works.Scroll s) ≡ Some ask.id = ap (λ (r : Reading). r.context) (reads (page_reading d) s x) ∙ ap Some own in
-      ap (λ id. after_return now id None q c) is
-  cancelled_alike now k counts page (Some (asks.Search ask)) w x q c = absurd x
-  cancelled_alike now k counts page (Some (asks.Query ask)) w x q c = absurd x
-  cancelled_alike now k counts page (Some (asks.Fetch ask)) w x q c = absurd x
-  cancelled_alike now k counts None (Some (asks.Scroll ask)) w x q c = absurd x
-  cancelled_alike now k counts (Some d) (Some (asks.Scroll ask)) w x q c = absurd x
+  pub cancelled_alike : (now : ℕ) (k : ℕ) (counts : Counts) (o : Option Request) (q : TaskId) (c : Option Context) → after_return now (uses o) None q c ≡ after_end now t o (Cancelled t k counts) q c
+  cancelled_alike now k counts None q c = refl
+  cancelled_alike now k counts (Some (asks.Search ask)) q c = refl
+  cancelled_alike now k counts (Some (asks.Query ask)) q c = refl
+  cancelled_alike now k counts (Some (asks.Fetch ask)) q c = refl
+  cancelled_alike now k counts (Some (asks.Scroll ask)) q c = refl
 
-  -- work that shows a page is that of a page of the context
-  pub page_asked : (page : Option Context) (o : Option Request) (w : Work) → Works page o w → (id : TaskId) → page_id w ≡ Some id → (ask : ScrollAsk) × (o ≡ Some (asks.Scroll ask)) × (ask.id ≡ id)
-  page_asked page None w x id e = absurd x
-  page_asked page (Some (asks.Search ask)) (works.Search s) x id e = absurd (cc)
-  page_asked page (Some (asks.Query ask)) (works.Query s top) x id e = absurd (cc)
-  page_asked page (Some (asks.Fetch ask)) (works.Fetch s hits) x id e = absurd (cc)
-  page_asked (Some d) (Some (asks.Scroll ask)) (works.Scroll s) (own, x) id e =
-      let is : Some ask.id ≡ Some id = sym (ap (λ (r : Reading). r.context) (reads (page_reading d) s x) ∙ ap Some own) ∙ e in
-      (ask, refl, cc)
-  page_asked page (Some (asks.Search ask)) w x id e = absurd x
-  page_asked page (Some (asks.Query ask)) w x id e = absurd x
-  page_asked page (Some (asks.Fetch ask)) w x id e = absurd x
-  page_asked None (Some (asks.Scroll ask)) w x id e = absurd x
-  page_asked (Some d) (Some (asks.Scroll ask)) w x id e = absurd x
+  -- a task that uses a context is asked for its page
+  pub page_asked : (o : Option Request) (id : TaskId) → uses o ≡ Some id → (ask : ScrollAsk) × (o ≡ Some (asks.Scroll ask)) × (ask.id ≡ id)
+  page_asked None id e = absurd (cc)
+  page_asked (Some (asks.Search ask)) id e = absurd (cc)
+  page_asked (Some (asks.Query ask)) id e = absurd (cc)
+  page_asked (Some (asks.Fetch ask)) id e = absurd (cc)
+  page_asked (Some (asks.Scroll ask)) id e = (ask, refl, cc)
 
-  -- work on one shard shows none
-  pub part_shows_none : (page : Option Context) (request : Request) (w : Work) → Works page (Some request) w → IsPart request → page_id w ≡ None
-  part_shows_none page (asks.Query ask) (works.Query s top) x part = refl
-  part_shows_none page (asks.Fetch ask) (works.Fetch s hits) x part = refl
-  part_shows_none page (asks.Search ask) w x part = absurd (let f : false ≡ true = part in cc)
-  part_shows_none page (asks.Scroll ask) w x part = absurd (let f : false ≡ true = part in cc)
-  part_shows_none page (asks.Query ask) w x part = absurd x
-  part_shows_none page (asks.Fetch ask) w x part = absurd x
+  -- what a search that ends well has counted can be kept, and was written
+  abbrev Sound : Context → Type 0
+  Sound c = AreCounts c.shards × IsContextWithin cluster corpus c
 
-  -- what a search that ends well has counted can be kept
-  search_counts : (r : Reading) (s : Searching) → SearchesFor cluster corpus r asked requests awaited s → (found : SearchReply) → next_step s ≡ Finish (Search found) → AreCounts found.shards
-  search_counts r s x found e =
-      let whole = subst (SearchesFor cluster corpus r asked requests awaited) x.state_is x in
-      let sound = is_searching cluster corpus r asked requests awaited whole in
-      let ends : Search found ≡ search_reply s.reading s.asked = (search_ends _ _ _ (Search found) e).1 in
-      let kept : found.shards ≡ counts_in r asked = found_keeps s.reading s.asked found (sym ends) ∙ ap (λ (z : Searching). counts_in z.reading z.asked) x.state_is in
-      subst AreCounts (sym kept) (counts_fit (record { reading = r; asked = asked }) sound x.few)
+  module _ (r : Reading) (s : Searching) (x : SearchesFor cluster corpus r p.asked requests awaited s) (found : SearchReply) (e : next_step s ≡ Finish (Search found)) where
+    whole : SearchesFor cluster corpus r p.asked requests awaited (record { reading = r; asked = p.asked })
+    whole = subst (SearchesFor cluster corpus r p.asked requests awaited) x.state_is x
 
-  pub counts_so : (page : Option Context) (o : Option Request) (w : Work) → Works page o w → (reply : Reply) (looked : List Doc) → next_of w looked ≡ Finish reply
-      → (ask : SearchAsk) (found : SearchReply) → o ≡ Some (asks.Search ask) → reply ≡ Search found → AreCounts found.shards
-  counts_so page None w x reply looked e ask found is good = absurd x
-  counts_so page (Some (asks.Search other)) (works.Search s) x reply looked e ask found is good = search_counts (search_reading t other cluster.shards) s x found (e ∙ ap Finish good)
-  counts_so page (Some (asks.Query other)) w x reply looked e ask found is good = absurd (cc)
-  counts_so page (Some (asks.Fetch other)) w x reply looked e ask found is good = absurd (cc)
-  counts_so page (Some (asks.Scroll other)) w x reply looked e ask found is good = absurd (cc)
-  counts_so page (Some (asks.Search other)) w x reply looked e ask found is good = absurd x
+    counted_so : found.shards ≡ counts_in r p.asked
+    counted_so =
+        let ends : Search found ≡ search_reply s.reading s.asked = (search_ends _ _ _ (Search found) e).1 in
+        found_keeps s.reading s.asked found (sym ends) ∙ ap (λ (z : Searching). counts_in z.reading z.asked) x.state_is
 
-  pub fits_so : (page : Option Context) (o : Option Request) (w : Work) → Works page o w → (reply : Reply) (looked : List Doc) → next_of w looked ≡ Finish reply → FitsContext w reply
-  fits_so page None w x reply looked e = absurd x
-  fits_so page (Some (asks.Search ask)) (works.Search s) x (Search found) looked e = λ opens. search_counts (search_reading t ask cluster.shards) s x found e
-  fits_so page (Some (asks.Search ask)) (works.Search s) x (Top top) looked e = tt
-  fits_so page (Some (asks.Search ask)) (works.Search s) x (Hits hits) looked e = tt
-  fits_so page (Some (asks.Search ask)) (works.Search s) x (AllFailed failed) looked e = tt
-  fits_so page (Some (asks.Search ask)) (works.Search s) x (Cancelled task cancel counts) looked e = tt
-  fits_so page (Some (asks.Search ask)) (works.Search s) x (Rejected node) looked e = tt
-  fits_so page (Some (asks.Query ask)) (works.Query s top) x reply looked e = tt
-  fits_so page (Some (asks.Fetch ask)) (works.Fetch s hits) x reply looked e = tt
-  fits_so (Some d) (Some (asks.Scroll ask)) (works.Scroll s) x reply looked e = tt
-  fits_so page (Some (asks.Search ask)) w x reply looked e = absurd x
-  fits_so page (Some (asks.Query ask)) w x reply looked e = absurd x
-  fits_so page (Some (asks.Fetch ask)) w x reply looked e = absurd x
-  fits_so None (Some (asks.Scroll ask)) w x reply looked e = absurd x
-  fits_so (Some d) (Some (asks.Scroll ask)) w x reply looked e = absurd x
+    search_counts : AreCounts found.shards
+    search_counts =
+        let some = x.few in
+        let most = cluster.shards_in_range.1 in
+        subst AreCounts (sym counted_so) (counts_fit (record { reading = r; asked = p.asked }) (is_searching cluster corpus r p.asked requests awaited whole) (omega arith))
+
+    search_sound : (c : Context) → c.shards ≡ found.shards → c.ask ≡ r.ask → Sound c
+    search_sound c shards ask = (subst AreCounts (sym shards) search_counts, kept_within cluster corpus r p.asked requests awaited whole c (shards ∙ counted_so) ask)
+
+  pub reads_so : (o : Option Request) (w : Work) → Works o w → (reply : Reply) (looked : List Doc) (now : ℕ) → next_of w looked now ≡ Finish reply
+      → (ask : SearchAsk) (found : SearchReply) → o ≡ Some (asks.Search ask) → reply ≡ Search found → (c : Context) → c.shards ≡ found.shards → c.ask ≡ ask → Sound c
+  reads_so None w x reply looked now e ask found is good = absurd x
+  reads_so (Some (asks.Search other)) (works.Search s) x reply looked now e ask found is good =
+      let one : other ≡ ask = one_search other ask is in
+      λ c shards own. search_sound (search_reading t other cluster.shards) s x found (e ∙ ap Finish good) c shards (own ∙ sym one)
+  reads_so (Some (asks.Query other)) w x reply looked now e ask found is good = absurd (cc)
+  reads_so (Some (asks.Fetch other)) w x reply looked now e ask found is good = absurd (cc)
+  reads_so (Some (asks.Scroll other)) w x reply looked now e ask found is good = absurd (cc)
+  reads_so (Some (asks.Search other)) w x reply looked now e ask found is good = absurd x
+
+  pub fits_so : (o : Option Request) (w : Work) → Works o w → (reply : Reply) (looked : List Doc) (now : ℕ) → next_of w looked now ≡ Finish reply → FitsContext w reply
+  fits_so None w x reply looked now e = absurd x
+  fits_so (Some (asks.Search ask)) (works.Search s) x (Search found) looked now e = λ opens. search_counts (search_reading t ask cluster.shards) s x found e
+  fits_so (Some (asks.Search ask)) (works.Search s) x (Top top) looked now e = tt
+  fits_so (Some (asks.Search ask)) (works.Search s) x (Hits hits) looked now e = tt
+  fits_so (Some (asks.Search ask)) (works.Search s) x (AllFailed failed) looked now e = tt
+  fits_so (Some (asks.Search ask)) (works.Search s) x (Cancelled task cancel counts) looked now e = tt
+  fits_so (Some (asks.Search ask)) (works.Search s) x (Rejected node) looked now e = tt
+  fits_so (Some (asks.Query ask)) (works.Query s top) x reply looked now e = tt
+  fits_so (Some (asks.Fetch ask)) (works.Fetch s hits) x reply looked now e = tt
+  fits_so (Some (asks.Scroll ask)) w x reply looked now e = let is = page_work p.page ask w x in rw is.1 tt
+  fits_so (Some (asks.Search ask)) w x reply looked now e = absurd x
+  fits_so (Some (asks.Query ask)) w x reply looked now e = absurd x
+  fits_so (Some (asks.Fetch ask)) w x reply looked now e = absurd x

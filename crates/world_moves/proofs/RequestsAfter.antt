@@ -13,6 +13,7 @@ use Rattle.task_table.specs.Table.{Table}
 use Rattle.task_work.specs.Works.{IsWorkOn, new_work}
 use Rattle.script_lang.specs.declared.command.Script.{Script}
 use Rattle.task_events.specs.declared.reply.Reply.TheVariants.{Rejected}
+use Rattle.task_events.specs.declared.context.Context.{Context}
 use Rattle.task_events.specs.declared.event.Event.{Event}
 use Rattle.task_events.specs.declared.event.Event.TheVariants.{Put, Reject}
 use Rattle.task_events.specs.Same.{same_task}
@@ -39,8 +40,10 @@ use Rattle.world_moves.proofs.KeptTasks.{kept_after, kept_same}
 use Rattle.world_moves.proofs.NodeTablesSame.{listed_same}
 use Rattle.world_moves.proofs.ByPlace.{pairs_left, all_left, all_push}
 use Rattle.world_moves.proofs.FirstRuns.{started, first, runs_first}
+use Rattle.world_moves.proofs.PassedWorks.{put_works}
 use Rattle.world_moves.proofs.Tables.{IsPutOn, put_node, put_takes, put_listed}
 use Rattle.world_moves.proofs.UnbornTasks.{blank, unborn}
+use Rattle.world_moves.specs.Good.{so_far}
 
 -- the answer to a request that is rejected by an event at this place
 abbrev pub rejected : Token → ℕ → Sent
@@ -55,15 +58,16 @@ module _ (cluster : Cluster) (corpus : Corpus) (script : Script) (h : List Event
     pub delivers_put : Delivers cluster h nth (Put t token.parent token.ask ∷ h)
     delivers_put = (Request token.parent token.ask to arrives.asked, Put t token.parent token.ask, arrives.here, (put_takes cluster h tables ties.listed to arrives.low arrives.high t task after put ties.lawful, node_is, refl, refl), refl)
 
-    pub after_put : (running : Running) (kept : TaskId → Option Running) (headers : Headers) → running ≡ first t (Some token) true running.work headers → new_work t arrives.asked cluster.shards None ≡ Some running.work → headers ≡ headers_of (scripted script) token.parent h → ((writes : List Doc) → IsWorkOn running.work writes)
+    pub after_put : (running : Running) (kept : TaskId → Option Running) (headers : Headers) → running ≡ first t (Some token) true arrives.asked running.work headers → (page : Option Context) → new_work t arrives.asked cluster.shards page ≡ Some running.work → headers ≡ headers_of (scripted script) token.parent h → ((writes : List Doc) → IsWorkOn running.work writes)
         → kept t ≡ Some running → ((q : TaskId) → same_task t q ≡ false → kept q ≡ tasks q)
         → Ties cluster corpus script (Put t token.parent token.ask ∷ h) kept after (remove flight nth)
-    after_put running kept headers is work carried on here others = record {
+    after_put running kept headers is page work carried on here others = record {
       lawful = (record { requested = arrives.requested; node = arrives.node ∙ ap Some (sym node_is); takes = takes }, ties.lawful, awaits);
-      kept = kept_after cluster corpus (scripted script) t event h tasks kept refl ties.kept (rw here (runs_first cluster corpus t (Some token) true arrives.asked None headers _ running facts is work on tt)) others;
+      kept = kept_after cluster corpus (scripted script) t event h tasks kept refl refl ties.kept (rw here (runs_first cluster (so_far corpus script) h t (Some token) true arrives.asked None headers _ running facts is (put_works cluster (so_far corpus script h) t arrives.asked page running.work work on (ties.within token.parent token.ask arrives.asked arrives.request)))) others;
       listed = put_listed cluster h tables ties.listed to arrives.low arrives.high t task after put event (record { last = λ n. refl; live = refl });
       sent = all_stay event h (remove flight nth) (remove (in_flight h) nth) (pairs_left (message_of h) flight (in_flight h) nth ties.sent) ∙ ap (map Some) (sym arrives.taken);
-      good = rw arrives.taken (all_left (IsGood cluster corpus h) (in_flight h) nth ties.good);
+      good = rw arrives.taken (all_left (IsGood cluster (so_far corpus script h) h) (in_flight h) nth ties.good);
+      within = ties.within;
       plain = ties.plain;
     }
       where
@@ -91,11 +95,12 @@ module _ (cluster : Cluster) (corpus : Corpus) (script : Script) (h : List Event
     pub after_reject : Ties cluster corpus script (Reject to token.parent token.ask ∷ h) tasks tables (remove flight nth ++ rejected token (length h) ∷ [])
     after_reject = record {
       lawful = (record { requested = arrives.requested; node = arrives.node; full = full }, ties.lawful, awaits);
-      kept = kept_same cluster corpus (scripted script) event h tasks refl ties.kept;
+      kept = kept_same cluster corpus (scripted script) event h tasks refl refl ties.kept;
       listed = λ place. listed_same cluster event h (λ n. refl) refl place _ (ties.listed place);
       sent = map-append (message_of (event ∷ h)) (remove flight nth) (answer ∷ []) ∙ ap (λ ms. ms ++ message_of (event ∷ h) answer ∷ []) others ∙ ap (λ m. map Some (remove (in_flight h) nth) ++ m ∷ []) this
           ∙ sym (map-append Some (remove (in_flight h) nth) (said ∷ [])) ∙ ap (λ ms. map Some (ms ++ said ∷ [])) (sym arrives.taken);
-      good = rw arrives.taken (all_push (IsGood cluster corpus (event ∷ h)) (remove (in_flight h) nth) said (all_left (IsGood cluster corpus h) (in_flight h) nth ties.good) (λ r e. good_rejection cluster corpus to r));
+      good = rw arrives.taken (all_push (IsGood cluster (so_far corpus script h) (event ∷ h)) (remove (in_flight h) nth) said (all_left (IsGood cluster (so_far corpus script h) h) (in_flight h) nth ties.good) (λ r e. good_rejection cluster (so_far corpus script h) to r));
+      within = ties.within;
       plain = ties.plain;
     }
       where

@@ -171,6 +171,7 @@ module _ (cluster : Cluster) (corpus : Corpus) (q : Reading) (asked : List Asked
           state_is = refl;
           reading_is = x.reading_is;
           few = x.few;
+          within = x.within;
           numbered = same_numbers (1 + i) reply asked ∙ x.numbered ∙ ap (range_with_len 1) (sym as_long);
           planned =
               x.planned

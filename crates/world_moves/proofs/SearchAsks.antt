@@ -1,26 +1,37 @@
 -- What a search asks for, in the order of its plan.
 use Rattle.std.proofs.Common.{◌≡◌, ◌≤◌, ◌<◌, ℕ, zero, suc, ◌+◌, Bool, true, false, cond, List, [], ◌∷◌, ◌++◌, length, map, take, Option, Some, None, refl, sym, ap, subst, ◌∙◌, arith}
 use Rattle.std.specs.Prelude.{◌&&◌, is_some, not, nat_lt, slice_get, filter, filter_map, option_and_then}
-use Rattle.std.specs.List.{cons_option, list_all, range_with_len}
+use Rattle.std.specs.List.{AllByRecursion, cons_option, list_all, range_with_len}
 use Rattle.std.proofs.lemmas.Bool.Decides.{nat_tests}
 use Rattle.std.proofs.lemmas.List.{length-map, map-append, length-take}
 use Rattle.std.proofs.lemmas.Option.{slice_get_within}
 use Rattle.task_ids.specs.declared.cluster.Cluster.{Cluster}
 use Rattle.task_ids.specs.declared.corpus.Corpus.{Corpus}
+use Rattle.task_ids.specs.declared.task_id.TaskId.{TaskId}
+use Rattle.task_events.specs.declared.reading.ShardRead.{ShardRead}
+use Rattle.task_events.specs.declared.request.HitKey.{HitKey}
 use Rattle.task_events.specs.declared.request.Request.{Request}
+use Rattle.task_events.specs.declared.request.Request.TheVariants as asks
 use Rattle.task_events.specs.declared.reply.Reply.{Reply}
+use Rattle.task_events.specs.declared.reply.Reply.TheVariants.{Top}
+use Rattle.task_events.specs.declared.reply.ShardTop.{ShardTop}
 use Rattle.task_events.specs.declared.step.Asked.{Asked}
 use Rattle.task_events.specs.declared.step.Do.TheVariants.{AskNext}
-use Rattle.task_events.specs.Readings.{Reading}
-use Rattle.task_events.specs.Searches.{top_of, tops_in, winners_among, has_winner, won_tops, fetch_of, fetches_of, has_queried, requests_of}
+use Rattle.task_events.specs.Readings.{Reading, shard_read, version_read}
+use Rattle.task_events.specs.Searches.{query_of, top_of, tops_in, winners_among, has_winner, won_tops, fetch_of, fetches_of, has_queried, requests_of}
 use Rattle.task_events.specs.SearchTask.{ask_or_end}
 use Rattle.search_phase.specs.Searching.{Searching, wants_to_ask, next_step, is_above}
 use Rattle.search_phase.specs.Searching as searching
 use Rattle.search_phase.proofs.Asks.{requests_of-ask, EachAnswer-ask}
-use Rattle.search_phase.proofs.Requests.{length-requests_before, length-requests_after}
+use Rattle.search_phase.proofs.QueryTops.{answer_of_top}
+use Rattle.search_phase.proofs.Requests.{length-requests_before, length-requests_after, request_of_query}
+use Rattle.search_phase.proofs.Sorting.{by_test}
 use Rattle.world_moves.specs.SearchRuns.{SearchesFor}
-use Rattle.world_moves.specs.Good.{IsGoodReply}
+use Rattle.world_moves.specs.Good.{IsGoodReply, IsShardWithin, IsWithin, written}
 use Rattle.world_moves.proofs.AsksCounted.{length-grown}
+use Rattle.world_moves.proofs.KindLaws.{AsksOwn, part_owns}
+use Rattle.world_moves.proofs.SearchParts.{plan_parts}
+use Rattle.world_moves.proofs.ByPlace.{all_joined, all_mapped, all_by_place, all_here}
 
 -- ---- what a search asks for
 
@@ -69,6 +80,7 @@ module _ (cluster : Cluster) (corpus : Corpus) (r : Reading) (asked : List Asked
         state_is = ap (λ z. searching.with_ask z k) x.state_is;
         reading_is = x.reading_is;
         few = x.few;
+        within = x.within;
         numbered = numbered-grown 1 asked a x.numbered (omega arith);
         planned =
             ap (λ l. l ++ request ∷ []) x.planned
@@ -130,5 +142,61 @@ few_asks cluster corpus r asked requests awaited request s x plans =
     let next = request_next cluster corpus r asked requests awaited request s x plans in
     let below : length asked < length (requests_of r asked) = slice_get_within (requests_of r asked) (length asked) request next in
     let few = requests_few r asked in
-    let shards : length r.shards ≤ 15 = x.few in
+    let shards : length r.shards ≤ cluster.shards = x.few in
+    let most : cluster.shards ≤ 15 = cluster.shards_in_range.1 in
     omega arith
+
+-- ---- what is asked for was written
+
+module _ (cluster : Cluster) (corpus : Corpus) (r : Reading) where
+  -- the version of a top was written to its shard
+  abbrev pub IsTopWithin : ShardTop → Type 0
+  IsTopWithin top = IsShardWithin cluster corpus r.ask.index top.shard (Some top.version)
+
+  fetches_within : (won : List HitKey) (tops : List ShardTop) → AllByRecursion IsTopWithin tops → AllByRecursion (IsWithin cluster corpus) (map asks.Fetch (map (fetch_of r.ask won) (filter (has_winner won) tops)))
+  fetches_within won [] all = tt
+  fetches_within won (top ∷ tops) all = by_test (has_winner won top) (λ yes. rw yes (all.0, fetches_within won tops all.1)) (λ no. rw no (fetches_within won tops all.1))
+
+  -- the tops among the answers to the queries of some shards
+  tops_within : (reads : List ShardRead) (asked : List Asked)
+      → ((i : ℕ) (at : ShardRead) (a : Asked) (top : ShardTop) → slice_get reads i ≡ Some at → slice_get asked i ≡ Some a → option_and_then top_of a.answer ≡ Some top → IsTopWithin top)
+      → AllByRecursion IsTopWithin (tops_in (length reads) asked)
+  tops_within [] asked each = tt
+  tops_within (at ∷ reads) [] each = tt
+  tops_within (at ∷ reads) (a ∷ asked) each = by_top (option_and_then top_of a.answer) refl (tops_within reads asked (λ i at a top here there. each (suc i) at a top here there))
+    where
+      by_top : (o : Option ShardTop) → option_and_then top_of a.answer ≡ o → AllByRecursion IsTopWithin (tops_in (length reads) asked) → AllByRecursion IsTopWithin (cons_option o (tops_in (length reads) asked))
+      by_top None e rest = rest
+      by_top (Some top) e rest = (each zero at a top refl refl e, rest)
+
+  module _ (asked : List Asked) (requests : List Request) (awaited : List (Option ℕ)) (x : SearchesFor cluster corpus r asked requests awaited (record { reading = r; asked = asked })) where
+    pub top_within : (i : ℕ) (at : ShardRead) (a : Asked) (top : ShardTop) → slice_get r.shards i ≡ Some at → slice_get asked i ≡ Some a → option_and_then top_of a.answer ≡ Some top → IsTopWithin top
+    top_within i at a top here there e =
+        let says = (x.good i a (asks.Query (query_of r at)) (Top top) there (request_of_query r asked i at here) (answer_of_top a.answer top e)).1 in
+        let shard : top.shard ≡ shard_read at = ap (λ (top : ShardTop). top.shard) says.says in
+        subst (λ shard. IsShardWithin cluster corpus r.ask.index shard (Some top.version)) (sym shard)
+        ((x.within i at here).0, λ v named. let same : top.version ≡ v = cc in subst (λ v. v ≤ length (written cluster corpus r.ask.index (shard_read at))) same says.within)
+
+    later_within : (b : Bool) → AllByRecursion (IsWithin cluster corpus) (cond b (map asks.Fetch (fetches_of r.ask (tops_in (length r.shards) asked))) [])
+    later_within true = fetches_within (winners_among r.ask.body (tops_in (length r.shards) asked)) (tops_in (length r.shards) asked) (tops_within r.shards asked top_within)
+    later_within false = tt
+
+    all_within : AllByRecursion (IsWithin cluster corpus) (requests_of r asked)
+    all_within =
+        all_joined (IsWithin cluster corpus) _ _
+        (all_mapped (IsWithin cluster corpus) (λ at. asks.Query (query_of r at)) r.shards (all_by_place (λ at. IsShardWithin cluster corpus r.ask.index (shard_read at) (version_read at)) r.shards x.within))
+        (later_within (has_queried (length r.shards) asked))
+
+pub asks_within : (cluster : Cluster) (corpus : Corpus) (r : Reading) (asked : List Asked) (requests : List Request) (awaited : List (Option ℕ)) (request : Request) (s : Searching)
+    → SearchesFor cluster corpus r asked requests awaited s → next_step s ≡ AskNext request → IsWithin cluster corpus request
+asks_within cluster corpus r asked requests awaited request s x plans =
+    all_here (IsWithin cluster corpus) (requests_of r asked) (length asked) request
+    (all_within cluster corpus r asked requests awaited (subst (SearchesFor cluster corpus r asked requests awaited) x.state_is x))
+    (request_next cluster corpus r asked requests awaited request s x plans)
+
+-- ---- it is no page, and no search
+
+pub asks_own : (cluster : Cluster) (corpus : Corpus) (r : Reading) (asked : List Asked) (requests : List Request) (awaited : List (Option ℕ)) (request : Request) (s : Searching)
+    → SearchesFor cluster corpus r asked requests awaited s → next_step s ≡ AskNext request → (t : TaskId) → AsksOwn t asked requests awaited request
+asks_own cluster corpus r asked requests awaited request s x plans t =
+    part_owns t asked requests awaited request (plan_parts r asked (length asked) request (request_next cluster corpus r asked requests awaited request s x plans))

@@ -1,6 +1,6 @@
 -- What a search asks for is of one shard, and which replies that can have does not depend on the number of shards.
 use Rattle.std.proofs.Common.{◌≡◌, ℕ, zero, suc, Bool, true, false, cond, List, [], ◌∷◌, ◌++◌, length, map, Some, refl, subst}
-use Rattle.std.specs.Prelude.{slice_get}
+use Rattle.std.specs.Prelude.{slice_get, is_some}
 use Rattle.task_events.specs.declared.reading.ShardRead.{ShardRead}
 use Rattle.task_events.specs.declared.reply.Reply.{Reply}
 use Rattle.task_events.specs.declared.reply.Reply.TheVariants.{Search, Top, Hits, AllFailed, Cancelled, Rejected}
@@ -8,10 +8,13 @@ use Rattle.task_events.specs.declared.request.FetchAsk.{FetchAsk}
 use Rattle.task_events.specs.declared.request.Request.{Request}
 use Rattle.task_events.specs.declared.request.Request.TheVariants as asks
 use Rattle.task_events.specs.declared.step.Asked.{Asked}
-use Rattle.task_events.specs.Kinds.{can_have}
+use Rattle.task_events.specs.Kinds.{kind_of, can_have}
 use Rattle.task_events.specs.Readings.{Reading}
 use Rattle.task_events.specs.Searches.{requests_of, query_of, fetches_of, tops_in, has_queried}
-use Rattle.world_moves.proofs.KindLaws.{IsPart}
+
+-- a request of one shard
+abbrev pub IsPart : Request → Type 0
+IsPart r = is_some (kind_of r).place ≡ true
 
 query_parts : (r : Reading) (xs : List ShardRead) (rest : List Request) (k : ℕ) (q : Request) → ((j : ℕ) → slice_get rest j ≡ Some q → IsPart q)
     → slice_get (map (λ at. asks.Query (query_of r at)) xs ++ rest) k ≡ Some q → IsPart q

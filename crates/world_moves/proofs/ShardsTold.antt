@@ -25,7 +25,7 @@ use Rattle.task_events.specs.Readings.{Reading, shard_read}
 use Rattle.search_phase.specs.Searching.{AreApart, plain_counts}
 use Rattle.search_phase.proofs.Lookups.{slice_get-drop}
 use Rattle.search_phase.proofs.Requests.{query_requests, requests_after, length-requests_after, request_of_query, slice_get_below}
-use Rattle.task_events.specs.ShardOutcomes.{is_query_of, is_fetch_of, ask_for, answer_for, found_in, count_found, answered_shards, are_hits, fetch_failed, shard_failed, why_failed, failure_told, failed_shards}
+use Rattle.task_events.specs.ShardOutcomes.{is_query_of, is_fetch_of, ask_for, answer_for, count_found, answered_shards, are_hits, fetch_failed, shard_failed, why_failed, failure_told, failed_shards}
 use Rattle.world_moves.proofs.AsksFor.{first_at, first_found, query_at, past_queries, fetched_at}
 
 -- ---- lists over the shards
@@ -158,20 +158,17 @@ module _ (t : TaskId) (h : List Event) (r : Reading) (asked : List Asked) (told 
   first_among : (test : Request → Bool) → ask_for test t h ≡ first_at test 1 (query_requests r ++ map asks.Fetch (fetches_of r.ask (tops_in shards asked)))
   first_among test = told.first test ∙ ap (first_at test 1) (requests_after r asked told.queried)
 
-  query_told : (i : ℕ) (at : ShardRead) → slice_get r.shards i ≡ Some at → answer_for (is_query_of (shard_read at)) t h ≡ answer_of t (i + 1) h
-  query_told i at e =
+  -- the ask for the query of a shard
+  pub query_asked : (i : ℕ) (at : ShardRead) → slice_get r.shards i ≡ Some at → ask_for (is_query_of (shard_read at)) t h ≡ Some (i + 1)
+  query_asked i at e =
       let number : 1 + i ≡ i + 1 = omega arith in
-      ap (option_and_then (λ k. answer_of t k h)) (first_among (is_query_of (shard_read at)) ∙ query_at r 1 r.shards (map asks.Fetch (fetches_of r.ask (tops_in shards asked))) told.apart i at e)
-      ∙ ap (λ k. answer_of t k h) number
+      first_among (is_query_of (shard_read at)) ∙ query_at r 1 r.shards (map asks.Fetch (fetches_of r.ask (tops_in shards asked))) told.apart i at e ∙ ap Some number
+
+  query_told : (i : ℕ) (at : ShardRead) → slice_get r.shards i ≡ Some at → answer_for (is_query_of (shard_read at)) t h ≡ answer_of t (i + 1) h
+  query_told i at e = ap (option_and_then (λ k. answer_of t k h)) (query_asked i at e)
 
   query_there : (i : ℕ) (at : ShardRead) (a : Asked) → slice_get r.shards i ≡ Some at → slice_get asked i ≡ Some a → answer_for (is_query_of (shard_read at)) t h ≡ a.answer
   query_there i at a e f = query_told i at e ∙ told.answers i a f
-
-  pub found_at : (i : ℕ) (at : ShardRead) → slice_get r.shards i ≡ Some at → (a : Asked) × (slice_get asked i ≡ Some a) × (found_in t h (shard_read at) ≡ top_in a)
-  found_at i at e =
-      let low : i < length r.shards = slice_get_below r.shards i at e in
-      let here = there asked i (omega (arith, long, low)) in
-      (here.0, here.1, ap (option_and_then top_of) (query_there i at here.0 e here.1))
 
   fetch_there : (shard : ℕ) → answer_for (is_fetch_of shard) t h ≡ option_and_then (λ a. a.answer) (fetch_at r.ask shards asked shard)
   fetch_there shard =

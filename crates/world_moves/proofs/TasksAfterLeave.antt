@@ -25,26 +25,31 @@ use Rattle.task_laws.proofs.Same.{same_tests}
 use Rattle.script_lang.specs.declared.command.Script.{Script}
 use Rattle.world_moves.specs.declared.flight.Sent.{Sent}
 use Rattle.node_parts.specs.declared.running.Running.{Running}
-use Rattle.world_moves.specs.Facts.{facts_of, awaited_by, none_awaited, about}
+use Rattle.task_events.specs.Asks.{request_of_ask}
+use Rattle.world_moves.specs.Facts.{facts_of, awaited_by, none_awaited, about, is_write}
 use Rattle.world_moves.specs.Flights.{message_of, told_parent, reply_in}
 use Rattle.world_moves.specs.Plain.{AnswersPlainly}
 use Rattle.command_roots.specs.Roots.{scripted}
-use Rattle.world_moves.specs.Ties.{Ties, Runs, IsGood}
+use Rattle.world_moves.specs.Ties.{Ties, RunsAt, IsGood}
 use Rattle.world_moves.proofs.LiveRows.{row_of_task}
 use Rattle.world_moves.proofs.NoneAwaited.{none_counted}
 use Rattle.world_moves.proofs.EndsListed.{end_listed}
 use Rattle.world_moves.proofs.FlightAfter.{all_stay, event_newest}
 use Rattle.world_moves.proofs.KeptTasks.{kept_after}
-use Rattle.world_moves.proofs.PlainEnds.{all_joined}
+use Rattle.world_moves.proofs.ByPlace.{all_joined}
 use Rattle.world_moves.proofs.StepsAfter.{kept_running}
 use Rattle.world_moves.proofs.Tables.{table_of, node_has_table}
+use Rattle.world_moves.specs.Good.{so_far, IsWithin}
+use Rattle.world_moves.proofs.FactsAfter.{lines_same}
 
 -- ---- the event with which a task leaves
 
 -- the task leaves with the event, and this is what it replies
 pub record IsLeave (cluster : Cluster) (corpus : Corpus) (t : TaskId) (reply : Reply) (e : Event) (h : List Event) : Type 0 where
   pub of_task : about e ≡ Some t
+  pub no_write : is_write e ≡ false
   pub ended : is_live t (e ∷ h) ≡ false
+  pub asked_same : (p : TaskId) (k : ℕ) → request_of_ask p k (e ∷ h) ≡ request_of_ask p k h
   pub says : reply_in e ≡ Some reply
   pub sends : in_flight (e ∷ h) ≡ in_flight h ++ answer_from (parent_of t h) (ask_of t h) reply ++ unbans_from t (e ∷ h)
   pub left : live_tasks (e ∷ h) ≡ filter (λ u. not (same_task t u)) (live_tasks h)
@@ -56,10 +61,10 @@ itself t = grind (arith, same_tests)
 
 module _ (cluster : Cluster) (corpus : Corpus) (t : TaskId) (h : List Event) where
   pub ends : (reply : Reply) → IsLeave cluster corpus t reply (End t reply) h
-  ends reply = record { of_task = refl; ended = rw (itself t) refl; says = refl; sends = refl; left = refl; last = λ n. refl; as_good = λ m good. good }
+  ends reply = record { of_task = refl; no_write = refl; ended = rw (itself t) refl; asked_same = λ p k. refl; says = refl; sends = refl; left = refl; last = λ n. refl; as_good = λ m good. good }
 
   pub refuses : (c : ℕ) → IsLeave cluster corpus t (Cancelled t c no_counts) (Refuse t c) h
-  refuses c = record { of_task = refl; ended = rw (itself t) refl; says = refl; sends = refl; left = refl; last = λ n. refl; as_good = λ m good. good }
+  refuses c = record { of_task = refl; no_write = refl; ended = rw (itself t) refl; asked_same = λ p k. refl; says = refl; sends = refl; left = refl; last = λ n. refl; as_good = λ m good. good }
 
 only : (x y : Table) → Some x ≡ Some y → x ≡ y
 only x y e = cc
@@ -109,7 +114,7 @@ module _ (cluster : Cluster) (corpus : Corpus) (script : Script) (h : List Event
   table_is table e = let its = table_of cluster h tables ties.listed t.node t.node_in_range.0 in_cluster in its.1 ∙ ap Some (sym (e ∙ get_or_from_slice_get tables (t.node - 1) its.0 table its.1))
 
   module _ (r : Running) (here : tasks t ≡ Some r) where
-    pub runs : Runs cluster corpus t (facts_of (scripted script) t h) r
+    pub runs : RunsAt cluster (so_far corpus script) h t (facts_of (scripted script) t h) r
     runs = kept_running cluster corpus script h tasks tables flight ties t live r here
 
     pub own_track : r.track.task ≡ r.ticket.id
@@ -125,18 +130,21 @@ module _ (cluster : Cluster) (corpus : Corpus) (script : Script) (h : List Event
         subst (λ x. IsLive x r.ticket.id) same (subst (λ u. Any (λ row. row.id ≡ u) its.0.live) (sym runs.id) (row_of_task cluster t.node h its.0 ties.lawful its.2 t refl live))
 
     -- its row goes, the task that asked for it is told, and its unbans are sent
-    pub after_leave : (reply : Reply) (e : Event) → IsLeave cluster corpus t reply e h → Lawful cluster (e ∷ h) → AnswersPlainly cluster corpus script (e ∷ h)
-        → ((p : TaskId) → parent_of t h ≡ Some p → IsGood cluster corpus h (Answer p (ask_of t h) reply))
+    pub after_leave : (reply : Reply) (e : Event) → IsLeave cluster (so_far corpus script h) t reply e h → Lawful cluster (e ∷ h) → AnswersPlainly cluster corpus script (e ∷ h)
+        → ((p : TaskId) → parent_of t h ≡ Some p → IsGood cluster (so_far corpus script h) h (Answer p (ask_of t h) reply))
         → (table : Table) (receipt : ReceiptParts) (after : TaskId → Option Running) (unbans : List Sent) → slice_get tables (t.node - 1) ≡ Some table → receipt ≡ sealed r.track r.ticket.token
         → after t ≡ None → ((q : TaskId) → same_task t q ≡ false → after q ≡ tasks q) → map (message_of (e ∷ h)) unbans ≡ map Some (unbans_from t (e ∷ h))
         → Ties cluster corpus script (e ∷ h) after (slice_set tables (t.node - 1) (without_task table t.number)) (flight ++ told_parent receipt (length h) ++ unbans)
     after_leave reply e leaves lawful plain good table receipt after unbans its_table sealed_is gone others unbans_are = record {
+      within = λ p k r asked. subst (λ now. IsWithin cluster now r) (sym (lines_same (scripted script) corpus e h leaves.no_write)) (ties.within p k r (sym (leaves.asked_same p k) ∙ asked));
       lawful = lawful;
-      kept = kept_after cluster corpus (scripted script) t e h tasks after leaves.of_task ties.kept (rw gone leaves.ended) others;
+      kept = kept_after cluster corpus (scripted script) t e h tasks after leaves.of_task leaves.no_write ties.kept (rw gone leaves.ended) others;
       listed = end_listed t cluster e h leaves.left leaves.last tables table ties.listed t.node_in_range.0 its_table;
       sent = map-append said (flight ++ told) unbans ∙ ap (λ ms. ms ++ map said unbans) told_too ∙ ap (λ ms. map Some (in_flight h ++ answer) ++ ms) unbans_are
           ∙ sym (map-append Some (in_flight h ++ answer) (unbans_from t (e ∷ h))) ∙ ap (map Some) (sym leaves.sends);
-      good = subst (λ ms. AllByRecursion (IsGood cluster corpus (e ∷ h)) ms) (sym leaves.sends) (all_good_after cluster corpus e h leaves.as_good (in_flight h ++ answer ++ unbans_from t (e ∷ h)) all_good);
+      good = subst (λ now. AllByRecursion (IsGood cluster now (e ∷ h)) (in_flight (e ∷ h))) (sym (lines_same (scripted script) corpus e h leaves.no_write))
+          (subst (λ ms. AllByRecursion (IsGood cluster (so_far corpus script h) (e ∷ h)) ms) (sym leaves.sends)
+          (all_good_after cluster (so_far corpus script h) e h leaves.as_good (in_flight h ++ answer ++ unbans_from t (e ∷ h)) all_good));
       plain = plain;
     }
       where
@@ -154,7 +162,10 @@ module _ (cluster : Cluster) (corpus : Corpus) (script : Script) (h : List Event
             ∙ ap (λ ms. map Some (in_flight h) ++ ms) (answer_at e h reply leaves.says (parent_of t h) (ask_of t h) r.track receipt (sealed_is ∙ ap (sealed r.track) runs.token))
             ∙ sym (map-append Some (in_flight h) answer)
 
-        all_good : AllByRecursion (IsGood cluster corpus h) (in_flight h ++ answer ++ unbans_from t (e ∷ h))
-        all_good = all_joined (IsGood cluster corpus h) (in_flight h ++ answer) (unbans_from t (e ∷ h))
-            (all_joined (IsGood cluster corpus h) (in_flight h) answer ties.good (answer_good cluster corpus h (parent_of t h) (ask_of t h) reply good))
-            (unbans_good cluster corpus h t (e ∷ h) (unbans_are_sent t (e ∷ h)) refl)
+        now : Corpus
+        now = so_far corpus script h
+
+        all_good : AllByRecursion (IsGood cluster now h) (in_flight h ++ answer ++ unbans_from t (e ∷ h))
+        all_good = all_joined (IsGood cluster now h) (in_flight h ++ answer) (unbans_from t (e ∷ h))
+            (all_joined (IsGood cluster now h) (in_flight h) answer ties.good (answer_good cluster now h (parent_of t h) (ask_of t h) reply good))
+            (unbans_good cluster now h t (e ∷ h) (unbans_are_sent t (e ∷ h)) refl)

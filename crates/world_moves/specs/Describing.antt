@@ -1,5 +1,5 @@
 -- What task lists show of the live tasks, as the world's tables say it.
-use Rattle.std.specs.Prelude.{◌≡◌, ℕ, ◌*◌, ◌≤◌, List, Option, Some, None, All, slice_get, ⊤}
+use Rattle.std.specs.Prelude.{◌≡◌, ℕ, ◌*◌, ◌^◌, ◌≤◌, List, length, Option, Some, None, All, slice_get, ⊤}
 use Rattle.std.specs.List.{AllByRecursion}
 use Rattle.task_ids.specs.declared.task_info.TaskInfo.{TaskInfo}
 use Rattle.task_table.specs.Table.{Table}
@@ -15,6 +15,10 @@ use Rattle.task_events.specs.TaskRows.{started_at, headers_of}
 use Rattle.command_roots.specs.Roots.{scripted}
 use Rattle.world_moves.specs.declared.flight.Sent.{Sent}
 use Rattle.world_moves.specs.declared.flight.Sent.TheVariants as sent
+
+-- no tick takes longer, in milliseconds
+unfoldable pub longest_tick : ℕ
+longest_tick = 2 ^ 36
 
 -- A row tells of its task what it does and works on, when it started, and what its request carried.
 pub record IsDescribed (script : Script) (h : List Event) (row : TaskInfo) : Type 0 where
@@ -40,5 +44,7 @@ pub record Describing (script : Script) (h : List Event) (tables : List Table) (
   pub carried : AllByRecursion (Carries script h) flight
   pub clock_is : now ≡ clock h
   -- each command moves the clock by a day at most, and there are at most 65,535 of them and the closing drain
-  pub clock_low : now ≤ last_command h * day_ms
+  pub clock_low : last_command h ≤ length script.commands → now ≤ last_command h * day_ms
   pub few_begun : last_command h ≤ 65536
+  -- and no tick is longer than this
+  pub clock_high : now ≤ length h * longest_tick

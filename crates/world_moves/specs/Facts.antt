@@ -1,5 +1,5 @@
 -- What the past says of one task.
-use Rattle.std.specs.Prelude.{ℕ, ◌-◌, Bool, false, List, [], ◌∷◌, ◌++◌, Option, Some, None, is_some, not, option_map, slice_set, if◌then◌else◌}
+use Rattle.std.specs.Prelude.{ℕ, ◌-◌, Bool, true, false, List, [], ◌∷◌, ◌++◌, Option, Some, None, is_some, not, option_map, slice_set, if◌then◌else◌}
 use Rattle.std.specs.List.{list_all}
 use Rattle.std.specs.Option.{option_map_or}
 use Rattle.task_ids.specs.declared.task_id.TaskId.{TaskId}
@@ -10,14 +10,15 @@ use Rattle.task_events.specs.declared.context.Context.{Context}
 use Rattle.task_events.specs.declared.request.Request.{Request}
 use Rattle.task_events.specs.declared.step.Asked.{Asked}
 use Rattle.task_events.specs.declared.event.Event.{Event}
-use Rattle.task_events.specs.declared.event.Event.TheVariants.{Root, Ask, Put, Pass, Refuse, Mark, Work, Answered, End}
+use Rattle.task_events.specs.declared.event.Event.TheVariants.{Root, Ask, Put, Pass, Refuse, Mark, Work, Write, Answered, End}
 use Rattle.task_events.specs.Same.{same_task}
 use Rattle.task_events.specs.Tasks.{is_live, is_new, parent_of, ask_of}
 use Rattle.task_events.specs.Bans.{mark_of}
 use Rattle.task_events.specs.Contexts.{page_of}
 use Rattle.task_events.specs.Requests.{Scripted, request_of}
-use Rattle.task_events.specs.Steps.{asked_by, turns_of}
+use Rattle.task_events.specs.Steps.{asked_by, came_by, turns_of, before_first_turn}
 use Rattle.task_events.specs.TaskRows.{headers_of}
+use Rattle.task_events.specs.Written.{is_created, writes_by}
 
 -- of each ask of a task in order, the node that is still to answer it
 abbrev pub awaited_by : TaskId → List Event → List (Option ℕ)
@@ -49,7 +50,14 @@ pub record Facts : Type 0 where
   -- the context of which it shows a page, as that stood when it started
   pub page : Option Context
   pub asked : List Asked
+  -- the moments at which they were answered
+  pub came : List ℕ
   pub turns : ℕ
+  -- what had happened before the first of them
+  pub began : Option (List Event)
+  -- how many documents it has created, and how many it has replaced
+  pub created : ℕ
+  pub updated : ℕ
   pub headers : Headers
 
 -- what the past says of a task, given what the commands say
@@ -65,11 +73,20 @@ facts_of said t h = record {
   request = request_of said t h;
   page = page_of said t h;
   asked = asked_by t h;
+  came = came_by t h;
   turns = turns_of t h;
+  began = before_first_turn t h;
+  created = writes_by is_created t h;
+  updated = writes_by (λ outcome. not (is_created outcome)) t h;
   headers = headers_of said t h;
 }
 
--- the task that an event is about
+-- a document is written
+abbrev pub is_write : Event → Bool
+is_write (Write index shard outcome id) = true
+is_write _ = false
+
+-- The task that an event is about, where the event names it. A write does not: it belongs to the turn of work before it.
 abbrev pub about : Event → Option TaskId
 about (Root c t) = Some t
 about (Ask p k n r) = Some p

@@ -1,5 +1,5 @@
 -- What the past says of the work of a fetch.
-use Rattle.std.specs.Prelude.{◌≡◌, ℕ, List, [], Option}
+use Rattle.std.specs.Prelude.{◌≡◌, ℕ, ◌≤◌, List, [], length, Option}
 use Rattle.task_ids.specs.declared.cluster.Cluster.{Cluster}
 use Rattle.task_ids.specs.declared.corpus.Corpus.{Corpus}
 use Rattle.task_ids.specs.declared.doc.Doc.{Doc}
@@ -16,6 +16,8 @@ pub record FetchesFor (ask : FetchAsk) (turns : ℕ) (awaited : List (Option ℕ
   pub ask_is : f.ask ≡ ask
   pub turns_are : f.turns ≡ turns
   pub asks_nothing : awaited ≡ []
+  -- the version that it names was written
+  pub within : ask.version ≤ length writes
   pub on : IsWorkOn (works.Fetch f hits) writes
 
 abbrev pub RunsFetch : Cluster → Corpus → ℕ → List (Option ℕ) → FetchAsk → Work → Type 0

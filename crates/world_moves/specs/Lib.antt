@@ -9,6 +9,7 @@ pub mod Good
 pub mod Left
 pub mod Listings
 pub mod Moves
+pub mod Owning
 pub mod Paging
 pub mod Plain
 pub mod QueryRuns

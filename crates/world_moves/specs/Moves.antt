@@ -8,7 +8,8 @@ use Rattle.task_events.specs.declared.event.Event.{Event}
 use Rattle.task_events.specs.declared.event.Event.TheVariants.{Root, RootRejected, Put, Reject, Refuse, Answered, End, BanPut, Acked, BanGone}
 use Rattle.task_ids.specs.declared.task_id.TaskId.{TaskId}
 use Rattle.task_events.specs.declared.reply.Reply.TheVariants.{Cancelled}
-use Rattle.task_events.specs.Tasks.{no_counts, live_on, last_number}
+use Rattle.task_events.specs.declared.reply.Counts.{Counts}
+use Rattle.task_events.specs.Tasks.{live_on, last_number}
 use Rattle.task_events.specs.Allowed.{TakesSlot, RefuseAllowed, EndAllowed}
 use Rattle.task_events.specs.Messages.{Message, in_flight}
 use Rattle.task_events.specs.Messages.Message.{Request, Answer, Ban, Ack, Unban}
@@ -80,8 +81,8 @@ StopsDelivery cluster h nth new stop = Stops (IsPartly (λ x y. Delivers cluster
 abbrev pub StopsMove : (List Event → List Event → Type 0) → List Event → List Event → Stop → Type 0
 StopsMove Moves h new stop = Stops (IsPartly Moves h) ⊥ new stop
 
--- The event with which a task leaves that a cancellation has stopped: a child that has not passed is refused, and a marked task ends once its asks are answered.
-abbrev pub MayLeave : TaskId → Event → List Event → Type 0
-MayLeave t (Refuse u c) h = (u ≡ t) × RefuseAllowed t c h
-MayLeave t (End u reply) h = (u ≡ t) × ((c : ℕ) × (reply ≡ Cancelled t c no_counts) × EndAllowed t reply h)
-MayLeave t _ h = ⊥
+-- The event with which a task leaves that a cancellation has stopped, having counted so much: a child that has not passed is refused, and a marked task ends once its asks are answered.
+abbrev pub MayLeave : Counts → TaskId → Event → List Event → Type 0
+MayLeave counts t (Refuse u c) h = (u ≡ t) × RefuseAllowed t c h
+MayLeave counts t (End u reply) h = (u ≡ t) × ((c : ℕ) × (reply ≡ Cancelled t c counts) × EndAllowed t reply h)
+MayLeave counts t _ h = ⊥

@@ -1,5 +1,5 @@
 -- What the world's tables say of the past.
-use Rattle.std.specs.Prelude.{◌≡◌, ℕ, ◌+◌, ◌≤◌, true, false, List, [], map, slice_get, Option, Some, None, ⊤}
+use Rattle.std.specs.Prelude.{◌≡◌, ℕ, ◌+◌, ◌≤◌, true, false, Bool, List, length, map, slice_get, Option, Some, None, option_map, option_and_then, ⊤}
 use Rattle.std.specs.List.{AllByRecursion}
 use Rattle.std.specs.BTreeMap.{BTreeMap, get}
 use Rattle.std.specs.Ordering.{nat_cmp}
@@ -8,31 +8,32 @@ use Rattle.task_ids.specs.declared.cluster.Cluster.{Cluster}
 use Rattle.task_ids.specs.Limits.{IsCancel}
 use Rattle.task_ids.specs.TaskIdOrder.{task_id_cmp}
 use Rattle.task_ids.specs.declared.corpus.Corpus.{Corpus}
-use Rattle.task_ids.specs.declared.doc.Doc.{Doc}
 use Rattle.task_table.specs.Table.{Table}
 use Rattle.task_work.specs.declared.work.Work.{Work}
-use Rattle.task_work.specs.Works.{place_of}
-use Rattle.corpus_shards.specs.Stored.{Stored, AreFew}
+use Rattle.corpus_shards.specs.declared.Shards.{Shards}
+use Rattle.corpus_shards.specs.Placed.{has_index}
+use Rattle.corpus_shards.specs.Stored.{HasWritten, is_of_corpus}
 use Rattle.script_lang.specs.declared.command.Script.{Script}
-use Rattle.task_events.specs.declared.context.Context.{Context}
 use Rattle.task_events.specs.declared.request.Request.{Request}
 use Rattle.task_events.specs.declared.request.Request.TheVariants.{Search, Query, Fetch, Scroll}
-use Rattle.task_events.specs.Documents.{writes_of}
-use Rattle.task_events.specs.declared.step.Asked.{Asked}
+use Rattle.task_events.specs.Kind.{Progress}
 use Rattle.task_events.specs.declared.event.Event.{Event}
 use Rattle.task_events.specs.TaskRows.{living_on}
 use Rattle.task_events.specs.Readings.{search_reading}
+use Rattle.task_events.specs.Steps.{after_turn, counted}
+use Rattle.task_events.specs.declared.reply.Counts.{Counts}
 use Rattle.task_events.specs.Tasks.{last_number}
 use Rattle.task_events.specs.Asks.{request_of_ask}
 use Rattle.task_events.specs.Messages.{Message, in_flight}
 use Rattle.task_events.specs.Messages.Message.{Answer, Ban}
 use Rattle.task_events.specs.Lawful.{AwaitsNoMark, Lawful}
 use Rattle.node_parts.specs.declared.running.Running.{Running}
+use Rattle.node_parts.specs.Starting.{page_in}
 use Rattle.world_moves.specs.declared.state.State.{State}
 use Rattle.command_roots.specs.Roots.{scripted}
 use Rattle.world_moves.specs.declared.flight.Sent.{Sent}
 use Rattle.world_moves.specs.FetchRuns.{RunsFetch}
-use Rattle.world_moves.specs.Good.{IsGoodReply}
+use Rattle.world_moves.specs.Good.{IsGoodReply, IsWithin, own_writes, so_far}
 use Rattle.world_moves.specs.QueryRuns.{RunsQuery}
 use Rattle.world_moves.specs.SearchRuns.{RunsSearch, RunsPage}
 use Rattle.world_moves.specs.Facts.{Facts, facts_of, token_from, track_from}
@@ -45,27 +46,48 @@ use Rattle.world_moves.specs.Left.{HasLeft, left_in}
 use Rattle.world_moves.specs.Paging.{Paging}
 
 -- the work of a task is as far as the past says, for what it was asked to do
-abbrev pub WorksFor : Cluster → Corpus → TaskId → Option Context → List Asked → List Request → List (Option ℕ) → ℕ → Option Request → Work → Type 0
-WorksFor cluster corpus t page asked requests awaited turns None work = ⊥
-WorksFor cluster corpus t page asked requests awaited turns (Some (Search ask)) work = RunsSearch cluster corpus (search_reading t ask cluster.shards) asked requests awaited work
-WorksFor cluster corpus t page asked requests awaited turns (Some (Query ask)) work = RunsQuery cluster corpus turns awaited ask work
-WorksFor cluster corpus t page asked requests awaited turns (Some (Fetch ask)) work = RunsFetch cluster corpus turns awaited ask work
-WorksFor cluster corpus t page asked requests awaited turns (Some (Scroll ask)) work = RunsPage cluster corpus ask.id page asked requests awaited work
+abbrev pub WorksFor : Cluster → Corpus → TaskId → Bool → Progress → List Request → List (Option ℕ) → Option Request → Work → Type 0
+WorksFor cluster corpus t new p requests awaited None work = ⊥
+WorksFor cluster corpus t new p requests awaited (Some (Search ask)) work = RunsSearch cluster corpus (search_reading t ask cluster.shards) p.asked requests awaited work
+WorksFor cluster corpus t new p requests awaited (Some (Query ask)) work = RunsQuery cluster corpus p.version p.turns awaited ask work
+WorksFor cluster corpus t new p requests awaited (Some (Fetch ask)) work = RunsFetch cluster corpus p.turns awaited ask work
+WorksFor cluster corpus t new p requests awaited (Some (Scroll ask)) work = RunsPage cluster corpus ask.id new p.page p.asked requests awaited work
+
+-- how many writes the shard of a request had at a moment of the past, by what was written so far
+abbrev pub version_from : Cluster → (List Event → Corpus) → Option Request → Option (List Event) → Option ℕ
+version_from cluster look o began = option_map (λ past. length (own_writes cluster (look past) o)) began
+
+-- how far a task has come
+abbrev pub progress_from : Cluster → (List Event → Corpus) → Facts → Progress
+progress_from cluster look facts = record {
+  page = facts.page;
+  asked = facts.asked;
+  came = facts.came;
+  turns = facts.turns;
+  version = version_from cluster look facts.request facts.began;
+  created = facts.created;
+  updated = facts.updated;
+}
 
 -- what is kept of a live task is what the past says of it
-pub record Runs (cluster : Cluster) (corpus : Corpus) (t : TaskId) (facts : Facts) (running : Running) : Type 0 where
+pub record Runs (cluster : Cluster) (corpus : Corpus) (p : Progress) (t : TaskId) (facts : Facts) (running : Running) : Type 0 where
   pub live : facts.live ≡ true
   pub id : running.ticket.id ≡ t
   pub token : running.ticket.token ≡ token_from facts
   pub track : running.track ≡ track_from t facts
   pub new : running.is_new ≡ facts.new
+  pub page : running.page ≡ option_and_then page_in facts.request
   pub headers : running.headers ≡ facts.headers
-  pub works : WorksFor cluster corpus t facts.page facts.asked facts.requests facts.awaited facts.turns facts.request running.work
+  pub works : WorksFor cluster corpus t facts.new p facts.requests facts.awaited facts.request running.work
+
+-- at a moment, by what was written at each
+abbrev pub RunsAt : Cluster → (List Event → Corpus) → List Event → TaskId → Facts → Running → Type 0
+RunsAt cluster look h t facts running = Runs cluster (look h) (progress_from cluster look facts) t facts running
 
 -- a task is kept exactly where it is live
-abbrev pub IsKept : Cluster → Corpus → TaskId → Facts → Option Running → Type 0
-IsKept cluster corpus t facts None = facts.live ≡ false
-IsKept cluster corpus t facts (Some running) = Runs cluster corpus t facts running
+abbrev pub IsKept : Cluster → (List Event → Corpus) → List Event → TaskId → Facts → Option Running → Type 0
+IsKept cluster look h t facts None = facts.live ≡ false
+IsKept cluster look h t facts (Some running) = RunsAt cluster look h t facts running
 
 -- a node's table lists its live tasks, and knows the last number
 pub record IsTableOf (cluster : Cluster) (node : ℕ) (h : List Event) (table : Table) : Type 0 where
@@ -87,10 +109,12 @@ IsGood cluster corpus h _ = ⊤
 
 pub record Ties (cluster : Cluster) (corpus : Corpus) (script : Script) (h : List Event) (tasks : TaskId → Option Running) (tables : List Table) (flight : List Sent) : Type 0 where
   pub lawful : Lawful cluster h
-  pub kept : (t : TaskId) → IsKept cluster corpus t (facts_of (scripted script) t h) (tasks t)
+  pub kept : (t : TaskId) → IsKept cluster (so_far corpus script) h t (facts_of (scripted script) t h) (tasks t)
   pub listed : (place : ℕ) → IsTableAt cluster place h (slice_get tables place)
   pub sent : map (message_of h) flight ≡ map Some (in_flight h)
-  pub good : AllByRecursion (IsGood cluster corpus h) (in_flight h)
+  pub good : AllByRecursion (IsGood cluster (so_far corpus script h) h) (in_flight h)
+  -- what was asked for names versions that were written
+  pub within : (p : TaskId) (k : ℕ) (r : Request) → request_of_ask p k h ≡ Some r → IsWithin cluster (so_far corpus script h) r
   pub plain : AnswersPlainly cluster corpus script h
 
 -- the kept task of an id
@@ -111,7 +135,16 @@ HasDescriptions s = Describing s.script.now s.history s.tables.items s.flight s.
 
 -- and the tables of contexts
 abbrev pub HasContexts : State → Type 0
-HasContexts s = Paging s.cluster s.script.now s.history s.contexts.items
+HasContexts s = Paging s.cluster s.corpus.now s.script.now s.history s.contexts.items
+
+-- the shards have what is written, and tell which indices are those of the corpus
+pub record HoldsShards (written corpus : Corpus) (count : ℕ) (shards : Shards) : Type 0 where
+  pub has : HasWritten written count shards
+  pub of_corpus : (index : List ℕ) → is_of_corpus shards index ≡ has_index corpus.lines index
+
+-- and the shards
+abbrev pub HasShards : State → Type 0
+HasShards s = HoldsShards (so_far s.corpus.now s.script.now s.history) s.corpus.now s.cluster.shards s.shards
 
 -- All tables say of the past what they should, while one cancel, perhaps, is still naming tasks.
 pub record IsTiedWhile (naming : Option ℕ) (s : State) : Type 0 where
@@ -120,6 +153,7 @@ pub record IsTiedWhile (naming : Option ℕ) (s : State) : Type 0 where
   pub counts : HasLeft naming s.history (left_in s.left)
   pub tells : HasDescriptions s
   pub pages : HasContexts s
+  pub shards : HasShards s
   pub awaits : AwaitsNoMark s.history
 
 -- and while none is
@@ -130,21 +164,15 @@ IsTied s = IsTiedWhile None s
 pub record Keeps (old new : State) : Type 0 where
   pub cluster : new.cluster ≡ old.cluster
   pub corpus : new.corpus.now ≡ old.corpus.now
-  pub shards : new.shards ≡ old.shards
   pub script : new.script.now ≡ old.script.now
 
--- The shards are those of the corpus.
-pub record HasShards (s : State) : Type 0 where
-  pub shards_are : s.shards ≡ record { corpus = s.corpus.now; shards = s.cluster.shards }
-  pub few : AreFew s.corpus.now.lines s.cluster.shards
+-- what a task has counted so far
+abbrev pub counts_in : State → TaskId → Counts
+counts_in s t = counted s.cluster s.corpus.now (scripted s.script.now) t s.history
 
--- the writes of the shard that a task works on, where it works on one
-abbrev pub writes_of_place : Stored → Option (List ℕ × ℕ) → List Doc
-writes_of_place stored None = []
-writes_of_place stored (Some place) = writes_of stored.corpus stored.shards place.0 place.1
-
-abbrev pub looked_at : Stored → Work → List Doc
-looked_at stored work = writes_of_place stored (place_of work)
+-- the past after a turn of work
+abbrev pub turned_in : State → TaskId → List Event
+turned_in s t = after_turn s.cluster s.corpus.now (scripted s.script.now) t s.history
 
 -- The past is lawful, and each search that has ended replied with the plain answer, unless it was cancelled.
 pub record KeepsLaws (s : State) : Type 0 where

@@ -86,7 +86,7 @@ pub fn deliver_answer(state: &mut State<'_>, nth: usize) -> Result<(), Stop>
     let Some(running) = state.tasks.get_mut(&parent) else {
         unreachable!()
     };
-    running.take_reply(receipt, reply)?;
+    running.take_reply(receipt, reply, state.clock)?;
     append(
         &mut state.history,
         Event::Answered {

@@ -26,7 +26,7 @@ pub fn ask(state: &mut State<'_>, task: TaskId, request: Request) -> Result<(), 
     requires live { is_live task state.old.history ≡ true }
     requires passed { is_new task state.old.history ≡ false }
     requires unmarked { mark_of task state.old.history ≡ None }
-    requires planned { PlansToAsk (task_at state.old.tasks task) request }
+    requires planned { PlansToAsk (task_at state.old.tasks task) state.old.clock request }
     ensures happened { OnOk result (state.new.history
         ≡ Event.Ask task (last_ask task state.old.history + 1) (node_for state.old.cluster task request) request ∷ state.old.history) }
     ensures tied { OnOk result (IsTied state.new) }
@@ -45,7 +45,7 @@ pub fn ask(state: &mut State<'_>, task: TaskId, request: Request) -> Result<(), 
         drop(request);
         return Err(Stop::Memory);
     };
-    let token = match running.ask(to) {
+    let token = match running.ask(to, state.clock) {
         Ok(token) => token,
         Err(stop) => {
             drop(headers);

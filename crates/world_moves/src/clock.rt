@@ -5,6 +5,7 @@ ghost use Rattle.task_events.specs.declared.history.TheConstants.{MAX_EVENTS};
 ghost use Rattle.task_events.specs.Cancels.{last_command};
 ghost use Rattle.task_events.specs.Clock.{clock};
 ghost use Rattle.script_lang.specs.KeepAlives.{day_ms};
+ghost use Rattle.world_moves.specs.Describing.{longest_tick};
 ghost use Rattle.world_moves.specs.Ties.{IsTied, Keeps};
 
 use crate::append::append;
@@ -18,7 +19,8 @@ use task_events::{Event, Stop};
 /// was appended.
 pub fn tick(state: &mut State<'_>, ms: u64) -> Result<(), Stop>
     requires tied { IsTied state.old }
-    requires low { clock state.old.history + ms ≤ last_command state.old.history * day_ms }
+    requires low { last_command state.old.history ≤ length state.old.script.now.commands → clock state.old.history + ms ≤ last_command state.old.history * day_ms }
+    requires high { ms ≤ longest_tick }
     ensures happened { OnOk result (state.new.history ≡ Event.Tick ms ∷ state.old.history) }
     ensures tied { OnOk result (IsTied state.new) }
     ensures keeps { Keeps state.old state.new }

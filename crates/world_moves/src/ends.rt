@@ -7,26 +7,26 @@ ghost use Rattle.task_events.specs.declared.history.TheConstants.{MAX_EVENTS};
 ghost use Rattle.task_events.specs.Allowed.{RefuseAllowed};
 ghost use Rattle.task_events.specs.Asks as events;
 ghost use Rattle.task_events.specs.Bans.{mark_of};
-ghost use Rattle.task_events.specs.Tasks.{is_live, is_new, no_counts};
+ghost use Rattle.task_events.specs.Tasks.{is_live, is_new};
 ghost use Rattle.task_events.specs.declared.reply.Reply.TheVariants.{Cancelled};
 ghost use Rattle.world_moves.specs.Cancels.{with_answers, with_due};
 ghost use Rattle.world_moves.specs.Flights.{told_parent};
 ghost use Rattle.world_moves.specs.Moves.{IsPartOf, IsCutShort, MayLeave};
-ghost use Rattle.world_moves.specs.Ties.{IsTied, Keeps, HasShards, task_at, KeepsLaws};
-ghost use Rattle.node_parts.specs.Opening.{FitsContext, opened_by, page_id};
+ghost use Rattle.world_moves.specs.Ties.{IsTied, Keeps, task_at, KeepsLaws, counts_in};
+ghost use Rattle.node_parts.specs.Opening.{FitsContext, opened_by, used_by};
 ghost use Rattle.node_parts.specs.Running.{DoesNext};
 ghost use Rattle.world_moves.specs.Paging.{context_in, after_opening, after_return};
-ghost use Rattle.task_events.specs.Contexts.{cursor_in};
+ghost use Rattle.task_events.specs.Contexts.{cursor_in, without_owned};
 ghost use Rattle.task_ids.specs.declared.task_id.TaskId.{TaskId};
 
 use crate::append::append;
 use crate::flight::{Flight, Sent};
-use crate::pages::{give_back, open};
+use crate::pages::{clear_owned, give_back, open};
 use crate::performing::perform;
 use crate::sending::send;
 use crate::state::State;
 use child_track::Receipt;
-use node_parts::contexts::{cursor_of, opened_by, page_id};
+use node_parts::contexts::{cursor_of, opened_by, used_by};
 use node_parts::running::Running;
 use scroll_table::ScrollTable;
 use std::alloc::Global;
@@ -59,34 +59,53 @@ fn tell_parent(flight: &mut Flight, receipt: Receipt, at: usize) -> Result<(), S
     send(flight, Sent::Answer { receipt, at })
 }
 
-/// Notes what the end of a task makes of contexts: a page gives its own back, and a search with hits opens one. It fails only for want
-/// of memory (`Memory`).
+/// Notes what the end of a task makes of contexts: a page gives its own back, a search with hits opens one, and those go that belong to
+/// the task. It fails only for want of memory (`Memory`).
 fn note_end(
     alloc: Global,
     contexts: &mut Vec<ScrollTable>,
-    work: &Work,
+    running: &Running,
     task: TaskId,
     reply: &Reply,
     now: u64,
 ) -> Result<(), Stop>
-    requires used { (id : TaskId) → page_id work.now ≡ Some id → IsSomeAnd (context_in contexts.old.items id) (λ c. IsSome c.busy) }
+    requires used { (id : TaskId) → used_by running.now ≡ Some id → IsSomeAnd (context_in contexts.old.items id) (λ c. IsSome c.busy) }
     requires there { task.node ≤ length contexts.old.items }
-    requires fits { FitsContext work.now reply.now }
-    requires fresh { IsSome (opened_by work.now task reply.now now) → context_in contexts.old.items task ≡ None }
+    requires fits { FitsContext running.now.work reply.now }
+    requires one { IsSome (opened_by running.now.work task reply.now now) → used_by running.now ≡ None }
+    requires fresh { IsSome (opened_by running.now.work task reply.now now) → context_in contexts.old.items task ≡ None }
     ensures ended { OnOk result ((q : TaskId) → context_in contexts.new.items q
-        ≡ after_opening (opened_by work.now task reply.now now) task q
-        (after_return now (page_id work.now) (cursor_in reply.now) q (context_in contexts.old.items q))) }
+        ≡ without_owned task (after_opening (opened_by running.now.work task reply.now now) task q
+        (after_return now (used_by running.now) (cursor_in reply.now) q (context_in contexts.old.items q)))) }
     ensures as_many { OnOk result (length contexts.new.items ≡ length contexts.old.items) }
     ensures memory { IfErr result (λ stop. stop ≡ Stop.Memory) }
 {
     let Ok(after) = cursor_of(reply) else {
         return Err(Stop::Memory);
     };
-    give_back(contexts, page_id(work), after, now);
-    match opened_by(alloc, work, task, reply, now) {
-        Ok(opened) => open(contexts, task, opened),
-        Err(_) => Err(Stop::Memory),
+    give_back(contexts, used_by(running), after, now);
+    let Ok(opened) = opened_by(alloc, &running.work, task, reply, now) else {
+        return Err(Stop::Memory);
+    };
+    open(contexts, task, opened)?;
+    clear_owned(contexts, task);
+    Ok(())
+}
+
+/// Notes what it makes of contexts that a cancelled task leaves: the one that it uses is given back, and those go that belong to it. A
+/// child that has not passed has none.
+fn note_leave(contexts: &mut Vec<ScrollTable>, running: &Running, task: TaskId, now: u64)
+    requires used { (id : TaskId) → used_by running.now ≡ Some id → IsSomeAnd (context_in contexts.old.items id) (λ c. IsSome c.busy) }
+    ensures left { running.now.is_new ≡ false → (q : TaskId) → context_in contexts.new.items q
+        ≡ without_owned task (after_return now (used_by running.now) None q (context_in contexts.old.items q)) }
+    ensures refused { running.now.is_new ≡ true → contexts.new.items ≡ contexts.old.items }
+    ensures as_many { length contexts.new.items ≡ length contexts.old.items }
+{
+    if running.is_new {
+        return;
     }
+    give_back(contexts, used_by(running), None, now);
+    clear_owned(contexts, task);
 }
 
 /// A task that has passed and whose work ends next ends with its reply. The task that asked for it is told.
@@ -95,11 +114,10 @@ fn note_end(
 /// was appended.
 pub fn finish(state: &mut State<'_>, task: TaskId, reply: Reply) -> Result<(), Stop>
     requires tied { IsTied state.old }
-    requires shards { HasShards state.old }
     requires live { is_live task state.old.history ≡ true }
     requires passed { is_new task state.old.history ≡ false }
     requires unmarked { mark_of task state.old.history ≡ None }
-    requires next { DoesNext (task_at state.old.tasks task) (Do.Finish reply) }
+    requires next { DoesNext (task_at state.old.tasks task) state.old.clock (Do.Finish reply) }
     ensures happened { OnOk result (state.new.history ≡ Event.End task reply ∷ state.old.history) }
     ensures tied { OnOk result (IsTied state.new) }
     ensures keeps { Keeps state.old state.new }
@@ -114,7 +132,7 @@ pub fn finish(state: &mut State<'_>, task: TaskId, reply: Reply) -> Result<(), S
     match note_end(
         state.alloc,
         &mut state.contexts,
-        &running.work,
+        &running,
         task,
         &reply,
         state.clock,
@@ -144,7 +162,7 @@ pub fn finish(state: &mut State<'_>, task: TaskId, reply: Reply) -> Result<(), S
 /// Where it fails, the event may have come.
 fn leave(state: &mut State<'_>, task: TaskId, event: Event) -> Result<(), Stop>
     requires tied { IsTied state.old }
-    requires leaves { MayLeave task event state.old.history }
+    requires leaves { MayLeave (counts_in state.old task) task event state.old.history }
     ensures happened { OnOk result (state.new.history ≡ with_answers task (event ∷ state.old.history)) }
     ensures tied { OnOk result (IsTied state.new) }
     ensures keeps { Keeps state.old state.new }
@@ -158,12 +176,7 @@ fn leave(state: &mut State<'_>, task: TaskId, event: Event) -> Result<(), Stop>
     let Some(running) = state.tasks.remove(&task) else {
         unreachable!()
     };
-    give_back(
-        &mut state.contexts,
-        page_id(&running.work),
-        None,
-        state.clock,
-    );
+    note_leave(&mut state.contexts, &running, task, state.clock);
     let receipt = end_in(&mut state.tables[place], running);
     let at = state.history.len();
     match tell_parent(&mut state.flight, receipt, at) {
@@ -219,15 +232,18 @@ pub fn finish_cancelled(state: &mut State<'_>, task: TaskId, cancel: u32) -> Res
     requires passed { is_new task state.old.history ≡ false }
     requires marked { mark_of task state.old.history ≡ Some cancel }
     requires answered { events.unanswered task state.old.history ≡ [] }
-    ensures happened { OnOk result (state.new.history ≡ with_due (Event.End task (Cancelled task cancel no_counts)) state.old.history) }
+    ensures happened { OnOk result (state.new.history ≡ with_due (Event.End task (Cancelled task cancel (counts_in state.old task))) state.old.history) }
     ensures tied { OnOk result (IsTied state.new) }
     ensures keeps { Keeps state.old state.new }
     ensures room { OnOk result (length state.new.history ≤ MAX_EVENTS) }
-    ensures part { OnErr result (IsPartOf state.old.history state.new.history (with_due (Event.End task (Cancelled task cancel no_counts)) state.old.history)) }
+    ensures part { OnErr result (IsPartOf state.old.history state.new.history (with_due (Event.End task (Cancelled task cancel (counts_in state.old task))) state.old.history)) }
     ensures laws { OnErr result (KeepsLaws state.new) }
-    ensures full { result ≡ Err Stop.HistoryFull → IsCutShort (λ past. IsPartOf state.old.history past (with_due (Event.End task (Cancelled task cancel no_counts)) state.old.history)) state.new.history }
+    ensures full { result ≡ Err Stop.HistoryFull → IsCutShort (λ past. IsPartOf state.old.history past (with_due (Event.End task (Cancelled task cancel (counts_in state.old task))) state.old.history)) state.new.history }
     ensures numbers { result ≡ Err Stop.NumbersSpent → ⊥ }
 {
-    let reply = Reply::cancelled(task, cancel);
+    let Some(running) = state.tasks.get(&task) else {
+        unreachable!()
+    };
+    let reply = running.work.cancelled(task, cancel);
     leave(state, task, Event::End { task, reply })
 }

@@ -3,7 +3,7 @@
 ghost use Rattle.std.specs.Prelude.{◌≡◌, ◌≤◌, Some, None, length, IsSomeAnd, IsSome, IfErr, OnOk, option_copied};
 ghost use Rattle.scroll_table.specs.Contexts.{answer_for, lent};
 ghost use Rattle.task_ids.specs.declared.task_id.TaskId.{TaskId};
-ghost use Rattle.task_events.specs.Contexts.{after_begin, after_root, asked_page, unexpired};
+ghost use Rattle.task_events.specs.Contexts.{after_begin, after_taking, asked_page, unexpired, without_owned};
 ghost use Rattle.world_moves.specs.Paging.{context_in, after_opening, after_return, CanTake};
 
 use scroll_table::{PageError, ScrollTable};
@@ -57,7 +57,7 @@ pub fn clear(contexts: &mut Vec<ScrollTable>, id: Option<TaskId>)
 /// A task takes the context of which it is asked to show a page, where it is asked for one.
 pub fn take(contexts: &mut Vec<ScrollTable>, request: &Request, now: u64, user: TaskId)
     requires usable { CanTake now contexts.old.items request.now }
-    ensures taken { (q : TaskId) → context_in contexts.new.items q ≡ after_root now user (Some request.now) q (context_in contexts.old.items q) }
+    ensures taken { (q : TaskId) → context_in contexts.new.items q ≡ after_taking now user (Some request.now) q (context_in contexts.old.items q) }
     ensures as_many { length contexts.new.items ≡ length contexts.old.items }
 {
     let Request::Scroll(ask) = request else {
@@ -117,5 +117,15 @@ pub fn expire(contexts: &mut Vec<ScrollTable>, now: u64)
 {
     for table in contexts.iter_mut() {
         table.expire(now);
+    }
+}
+
+/// Takes away each context that belongs to a task, unless a task uses it.
+pub fn clear_owned(contexts: &mut Vec<ScrollTable>, owner: TaskId)
+    ensures left { (q : TaskId) → context_in contexts.new.items q ≡ without_owned owner (context_in contexts.old.items q) }
+    ensures as_many { length contexts.new.items ≡ length contexts.old.items }
+{
+    for table in contexts.iter_mut() {
+        table.clear_owned(owner);
     }
 }

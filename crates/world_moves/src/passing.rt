@@ -1,17 +1,89 @@
-//! The steps of a live task.
+//! The first step of a child that goes on.
 
-ghost use Rattle.std.specs.Prelude.{◌≡◌, ◌∷◌, ◌↔◌, ◌≤◌, true, length, Err, None, OnOk, OnErr};
+ghost use Rattle.std.specs.Prelude.{◌≡◌, ◌∷◌, ◌↔◌, ◌≤◌, ℕ, true, length, Err, None, Some, IsSome, IfOk, IfErr, OnOk, OnErr, cond, option_map, option_and_then};
+ghost use Rattle.std.specs.BTreeMap.{is_at};
+ghost use Rattle.task_ids.specs.TaskIdOrder.{task_id_cmp};
+ghost use Rattle.task_ids.specs.declared.task_id.TaskId.{TaskId};
 ghost use Rattle.task_events.specs.declared.history.TheConstants.{MAX_EVENTS};
+ghost use Rattle.task_events.specs.declared.request.ScrollAsk.{ScrollAsk};
 ghost use Rattle.task_events.specs.Bans.{ban_over};
+ghost use Rattle.task_events.specs.Contexts.{after_taking};
 ghost use Rattle.task_events.specs.Tasks.{is_live, is_new};
-ghost use Rattle.world_moves.specs.Ties.{IsTied, Keeps};
+ghost use Rattle.task_work.specs.Works.{new_work};
+ghost use Rattle.world_moves.specs.Paging.{context_in, passed, CanTake};
+ghost use Rattle.world_moves.specs.Ties.{IsTied, Keeps, task_at};
 
 use crate::append::append;
+use crate::pages::{context_at, take};
 use crate::state::State;
-use task_events::{Event, Stop};
+use node_parts::running::Running;
+use scroll_table::ScrollTable;
+use std::collections::BTreeMap;
+use task_events::{Event, MAX_EVENTS, Request, ScrollAsk, Stop};
 use task_ids::TaskId;
+use task_work::Work;
 
-/// A child goes on that finds no ban of its parent on its node.
+/// The page that a live task is asked for, where it is asked for one.
+fn page_of(tasks: &BTreeMap<TaskId, Running>, task: TaskId) -> Option<ScrollAsk>
+    ensures { result ≡ option_and_then (λ running. running.page) (task_at tasks.now task) }
+{
+    match tasks.get(&task) {
+        Some(running) => running.page,
+        None => None,
+    }
+}
+
+/// The work of a page over its context, as that stands. It fails only for want of memory (`Memory`).
+fn page_work(state: &State<'_>, task: TaskId, page: Option<ScrollAsk>) -> Result<Option<Work>, Stop>
+    requires there { (ask : ScrollAsk) → page ≡ Some ask → IsSome (context_in state.now.contexts.items ask.id) }
+    ensures work { IfOk result (λ work. work
+        ≡ option_and_then (λ ask. new_work task (Request.Scroll ask) state.now.cluster.shards (context_in state.now.contexts.items ask.id)) page) }
+    ensures memory { IfErr result (λ stop. stop ≡ Stop.Memory) }
+{
+    let Some(ask) = page else {
+        return Ok(None);
+    };
+    let context = context_at(state.contexts.as_slice(), ask.id);
+    match Work::new(
+        state.alloc,
+        task,
+        &Request::Scroll(ask),
+        &state.cluster,
+        context,
+    ) {
+        Ok(work) => Ok(Some(work)),
+        Err(_) => Err(Stop::Memory),
+    }
+}
+
+/// A task passes, and goes on with other work where this is given.
+fn let_pass(tasks: &mut BTreeMap<TaskId, Running>, task: TaskId, work: Option<Work>)
+    ensures { (q : TaskId) → task_at tasks.new q
+        ≡ cond (is_at (task_id_cmp task) q) (option_map (passed work) (task_at tasks.old q)) (task_at tasks.old q) }
+{
+    let Some(running) = tasks.get_mut(&task) else {
+        drop(work);
+        return;
+    };
+    running.is_new = false;
+    if let Some(work) = work {
+        running.work = work;
+    }
+}
+
+/// A task takes the context of its page, where it is asked for one.
+fn take_page(contexts: &mut Vec<ScrollTable>, page: Option<ScrollAsk>, now: u64, user: TaskId)
+    requires usable { (ask : ScrollAsk) → page ≡ Some ask → CanTake now contexts.old.items (Request.Scroll ask) }
+    ensures taken { (q : TaskId) → context_in contexts.new.items q
+        ≡ after_taking now user (option_map Request.Scroll page) q (context_in contexts.old.items q) }
+    ensures as_many { length contexts.new.items ≡ length contexts.old.items }
+{
+    if let Some(ask) = page {
+        take(contexts, &Request::Scroll(ask), now, user);
+    }
+}
+
+/// A child goes on that finds no ban of its parent on its node. One that is to show a page takes its context, and goes through that as it stands.
 ///
 /// It fails where the history is full (`HistoryFull`, at 4,000,000 events) or memory runs out (`Memory`); then nothing
 /// was appended.
@@ -28,10 +100,19 @@ pub fn pass(state: &mut State<'_>, task: TaskId) -> Result<(), Stop>
     ensures numbers { result ≡ Err Stop.NumbersSpent → ⊥ }
     ensures room { OnOk result (length state.new.history ≤ MAX_EVENTS) }
 {
-    append(&mut state.history, Event::Pass { task })?;
-    let Some(running) = state.tasks.get_mut(&task) else {
-        unreachable!()
-    };
-    running.is_new = false;
+    if state.history.len() == MAX_EVENTS {
+        return Err(Stop::HistoryFull);
+    }
+    let page = page_of(&state.tasks, task);
+    let work = page_work(state, task, page)?;
+    match append(&mut state.history, Event::Pass { task }) {
+        Ok(()) => {}
+        Err(stop) => {
+            drop(work);
+            return Err(stop);
+        }
+    }
+    let_pass(&mut state.tasks, task, work);
+    take_page(&mut state.contexts, page, state.clock, task);
     Ok(())
 }

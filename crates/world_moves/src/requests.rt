@@ -10,6 +10,7 @@ ghost use Rattle.world_moves.specs.Ties.{IsTied, Keeps};
 
 use crate::append::append;
 use crate::flight::{Flight, Sent};
+use crate::pages::page_asked;
 use crate::sending::send;
 use crate::starting::{keep_started, put_on, spend};
 use crate::state::State;
@@ -122,12 +123,13 @@ pub fn deliver_request(state: &mut State<'_>, nth: usize) -> Result<(), Stop>
         Ok(ticket) => {
             let task = ticket.id();
             let request = request_at(&state.history, at);
+            let page = page_asked(state.contexts.as_slice(), request);
             let running = with_work(
                 state.alloc,
                 ticket,
                 request,
                 &state.cluster,
-                None,
+                page,
                 true,
                 headers,
             )?;

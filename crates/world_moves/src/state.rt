@@ -18,10 +18,10 @@ pub struct State<'a> {
     pub alloc: Global,
     /// How many nodes there are, shards an index has, and slots a node.
     pub cluster: Cluster,
-    /// The documents.
+    /// The documents that were there at first.
     pub corpus: &'a Corpus,
-    /// The shards of the corpus.
-    pub shards: Shards<'a>,
+    /// The shards, with all that is written so far.
+    pub shards: Shards,
     /// The commands.
     pub script: &'a Script,
     /// What has happened.

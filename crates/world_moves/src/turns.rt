@@ -1,56 +1,93 @@
 //! A turn of work of a live task.
 
-ghost use Rattle.std.specs.Prelude.{◌≡◌, ◌∷◌, ◌≤◌, true, false, length, Err, None, OnOk, OnErr};
+ghost use Rattle.std.specs.Prelude.{◌≡◌, ◌∷◌, ◌≤◌, true, false, length, Err, None, IfOk, IfErr, OnOk, OnErr};
 ghost use Rattle.task_events.specs.declared.history.TheConstants.{MAX_EVENTS};
 ghost use Rattle.task_events.specs.Bans.{mark_of};
 ghost use Rattle.task_events.specs.Tasks.{is_live, is_new};
-ghost use Rattle.world_moves.specs.Ties.{IsTied, Keeps, HasShards, task_at, looked_at};
+ghost use Rattle.task_events.specs.Written.{write_of, with_notes};
+ghost use Rattle.world_moves.specs.Moves.{IsPartOf, IsCutShort};
+ghost use Rattle.world_moves.specs.Ties.{IsTied, Keeps, KeepsLaws, task_at, turned_in};
 ghost use Rattle.node_parts.specs.Running.{DoesNext};
 
 use crate::append::append;
 use crate::state::State;
-use corpus_shards::Shards;
-use shard_docs::Shard;
-use task_events::{Do, Event, Stop};
+use task_events::{Do, Event, History, Outcome, Stop, WriteNote};
 use task_ids::TaskId;
-use task_work::Work;
 
-/// The shard that the work looks at. For work that looks at none it is empty.
-fn shard_of_work<'s>(shards: &'s Shards<'_>, work: &Work) -> &'s Shard
-    ensures { result.now ≡ looked_at shards.now work.now }
+/// The event of a write that is noted. It takes no memory, and fails only where a text of it has too many owners (`Memory`).
+fn write_of(note: &WriteNote) -> Result<Event, Stop>
+    ensures event { IfOk result (λ event. event ≡ write_of note.now) }
+    ensures memory { IfErr result (λ stop. stop ≡ Stop.Memory) }
 {
-    match work.place() {
-        Some((index, shard)) => shards.get(index, shard),
-        None => shards.empty(),
-    }
+    let (Ok(index), Ok(id)) = (note.index.copy(), note.id.copy()) else {
+        return Err(Stop::Memory);
+    };
+    let outcome = if note.created {
+        Outcome::Created
+    } else {
+        Outcome::Updated
+    };
+    Ok(Event::Write {
+        index,
+        shard: note.shard,
+        outcome,
+        id,
+    })
 }
 
-/// A task that has passed and whose work takes a turn next takes it, over its shard.
+/// Notes a turn of work of a task, and what was written with it. Where it fails, a first part of the events may have come.
+fn note_turn(history: &mut History, task: TaskId, notes: &[WriteNote]) -> Result<(), Stop>
+    ensures happened { OnOk result (history.new ≡ with_notes notes.now (Event.Work task ∷ history.old)) }
+    ensures room { OnOk result (length history.new ≤ MAX_EVENTS) }
+    ensures part { OnErr result (IsPartOf history.old history.new (with_notes notes.now (Event.Work task ∷ history.old))) }
+    ensures full { result ≡ Err Stop.HistoryFull → IsCutShort (λ past. IsPartOf history.old past (with_notes notes.now (Event.Work task ∷ history.old))) history.new }
+    ensures numbers { result ≡ Err Stop.NumbersSpent → ⊥ }
+{
+    append(history, Event::Work { task })?;
+    for note in notes {
+        append(history, write_of(note)?)?;
+    }
+    Ok(())
+}
+
+/// A task that has passed and whose work takes a turn next takes it, over its shard. What it writes is noted, a document at a time. An
+/// index that has no shards yet gets them.
 ///
-/// It fails where the history is full (`HistoryFull`, at 4,000,000 events) or memory runs out (`Memory`); then nothing
-/// was appended.
+/// It fails where the history is full (`HistoryFull`, at 4,000,000 events) or memory runs out (`Memory`); the first of
+/// its events may stand then.
 pub fn turn(state: &mut State<'_>, task: TaskId) -> Result<(), Stop>
     requires tied { IsTied state.old }
-    requires shards { HasShards state.old }
     requires live { is_live task state.old.history ≡ true }
     requires passed { is_new task state.old.history ≡ false }
     requires unmarked { mark_of task state.old.history ≡ None }
-    requires next { DoesNext (task_at state.old.tasks task) Do.Turn }
-    ensures happened { OnOk result (state.new.history ≡ Event.Work task ∷ state.old.history) }
+    requires next { DoesNext (task_at state.old.tasks task) state.old.clock Do.Turn }
+    ensures happened { OnOk result (state.new.history ≡ turned_in state.old task) }
     ensures tied { OnOk result (IsTied state.new) }
     ensures keeps { Keeps state.old state.new }
     ensures room { OnOk result (length state.new.history ≤ MAX_EVENTS) }
-    ensures err { OnErr result (state.new.history ≡ state.old.history) }
-    ensures full { result ≡ Err Stop.HistoryFull → length state.old.history ≡ MAX_EVENTS }
+    ensures part { OnErr result (IsPartOf state.old.history state.new.history (turned_in state.old task)) }
+    ensures laws { OnErr result (KeepsLaws state.new) }
+    ensures full { result ≡ Err Stop.HistoryFull → IsCutShort (λ past. IsPartOf state.old.history past (turned_in state.old task)) state.new.history }
     ensures numbers { result ≡ Err Stop.NumbersSpent → ⊥ }
 {
     let Some(running) = state.tasks.get_mut(&task) else {
         unreachable!()
     };
-    let shard = shard_of_work(&state.shards, &running.work);
-    let Ok(()) = running.work.turn(shard) else {
+    let Some((index, number)) = running.work.place() else {
+        unreachable!()
+    };
+    let Ok(index) = index.copy() else {
         return Err(Stop::Memory);
     };
-    append(&mut state.history, Event::Work { task })?;
-    Ok(())
+    let Ok(()) = state.shards.make(state.alloc, index.get().as_str()) else {
+        return Err(Stop::Memory);
+    };
+    let Some(shard) = state.shards.get_mut(index.get().as_str(), number) else {
+        unreachable!()
+    };
+    let Ok(notes) = running.work.turn(shard) else {
+        return Err(Stop::Memory);
+    };
+    let _version = shard.version();
+    note_turn(&mut state.history, task, notes.as_slice())
 }

@@ -3,6 +3,7 @@ use Rattle.std.specs.Option.{option_copied_mut}
 use Rattle.task_events.specs.declared.event.Event.TheVariants.{Answered}
 use Rattle.task_events.specs.Lawful.{AwaitsNoMark}
 use Rattle.world_moves.specs.Cancels.{waiting_for}
+use Rattle.node_parts.specs.Running.{running_with_answer}
 use Rattle.world_moves.specs.Moves.{Delivers}
 use Rattle.world_moves.specs.Ties.{task_at}
 use Rattle.world_moves.proofs.KeptTasks.{at_changed, off_changed}
@@ -58,7 +59,7 @@ returns-clause-tied c =
     let was = sym c.get_mut.ensures.value ∙ ap option_copied_mut c.in-Some-get_mut.is in
     let w = c.take_reply.new.self in
     let changed = ((c.get_mut.follows.holds w).3 (some_of _ _ was)).0 in
-    let here = at_changed c.in-Some.parent (Some w) (task_at s.tasks) _ changed ∙ ap Some c.in_ok-take_reply.ensures.taken in
+    let here = at_changed c.in-Some.parent (Some w) (task_at s.tasks) _ changed ∙ ap Some (c.in_ok-take_reply.ensures.taken ∙ ap (running_with_answer c.in-Some-get_mut.running.now c.take_answer-receipt.result.0.ask c.in_ok-reply.reply) c.requires.tied.tells.clock_is) in
     let others = off_changed c.in-Some.parent (Some w) (task_at s.tasks) _ changed in
     then_ok c.append.result _ _ c.append.ensures.ok (λ came. (let happened = came ∙ ap (λ k. Answered c.in-Some.parent k ∷ s.history) c.ask.ensures in record {
       ties = same_ties s.cluster s.corpus.now s.script.now _ _ _ _ _ _ _ happened refl c.take_answer-receipt.ensures.rest
@@ -67,7 +68,8 @@ returns-clause-tied c =
           (noted s.cluster (λ t. waiting_for t s.history) s.history _ _ _ _ _ c.requires.tied.cancels (Answered c.in-Some.parent c.take_answer-receipt.result.0.ask) refl refl);
       counts = rw happened (still_counts None (Answered c.in-Some.parent c.take_answer-receipt.result.0.ask) s.history _ refl c.requires.tied.counts);
       tells = rw (happened, c.take_answer-receipt.ensures.rest) (quiet_sent s.script.now s.history _ s.flight _ (Answered c.in-Some.parent c.take_answer-receipt.result.0.ask) _ refl (carry_taken s.script.now s.history s.flight c.args.nth c.requires.tied.tells.carried) c.requires.tied.tells);
-      pages = rw happened (quiet_pages s.cluster s.script.now s.history s.contexts.items c.requires.tied.pages (Answered c.in-Some.parent c.take_answer-receipt.result.0.ask) refl);
+      pages = rw happened (quiet_pages s.cluster s.corpus.now s.script.now s.history s.contexts.items c.requires.tied.pages (Answered c.in-Some.parent c.take_answer-receipt.result.0.ask) refl);
+      shards = rw happened c.requires.tied.shards;
       awaits = subst AwaitsNoMark (sym happened) tt;
     }))
 

@@ -11,7 +11,7 @@ use Rattle.world_moves.specs.Cancels.{waiting_for, answer_to, due_for}
 use Rattle.world_moves.specs.Left.{left_in}
 use Rattle.world_moves.specs.Moves.{Delivers, IsPartOf, IsPartly}
 use Rattle.world_moves.proofs.AcksAfter.{ack_high, ack_core, ack_entry, ack_awaited, tied_after, noted_after, ack_happened, ack_counted, delivers_ack, partly_ack, part_laws}
-use Rattle.world_moves.proofs.CancelAnswersAfter.{answers_await, answers_described}
+use Rattle.world_moves.proofs.CancelAnswersAfter.{shards_answered, answers_await, answers_described}
 use Rattle.world_moves.proofs.DescriptionsAfter.{quiet_sent, carry_both, carry_taken, acts_carry}
 use Rattle.world_moves.proofs.CoresAfter.{has_core}
 use Rattle.corpus_shards.proofs.Cases.{then_ok, then_err}
@@ -100,7 +100,8 @@ returns-clause-tied c =
       tells = rw (happened, queued ∙ ap (λ queue. queue ++ messages_in p.node c.as_slice.result.now) rest) (answers_described s.cluster p (Acked p n ∷ s.history) s.script.now _ _ _
           (quiet_sent s.script.now s.history _ s.flight _ (Acked p n) _ refl
           (carry_both s.script.now s.history _ _ (carry_taken s.script.now s.history s.flight c.args.nth c.requires.tied.tells.carried) (acts_carry s.script.now s.history p.node c.as_slice.result.now)) c.requires.tied.tells));
-      pages = rw happened (answered_pages s.cluster s.script.now (Acked p n ∷ s.history) s.contexts.items p (quiet_pages s.cluster s.script.now s.history s.contexts.items c.requires.tied.pages (Acked p n) refl));
+      pages = rw happened (answered_pages s.cluster s.corpus.now s.script.now (Acked p n ∷ s.history) s.contexts.items p (quiet_pages s.cluster s.corpus.now s.script.now s.history s.contexts.items c.requires.tied.pages (Acked p n) refl));
+      shards = rw happened (record { has = shards_answered s.cluster p (Acked p n ∷ s.history) s.corpus.now s.script.now s.shards c.requires.tied.shards.has; of_corpus = c.requires.tied.shards.of_corpus });
       awaits = rw happened (answers_await s.cluster p (Acked p n ∷ s.history) tt);
     }))
 

@@ -61,7 +61,8 @@ returns-clause-tied c =
       cancels = rw (happened, put) (noted_put s.cluster s.history _ _ s.bans.items _ _ c.requires.tied.cancels c.args.node node.0 node.1 c.args.parent c.index_mut.result.now here c.args.cancel c.insert.new.self c.in-Ok.ensures.updates.0);
       counts = rw happened (still_counts None (BanPut c.args.node c.args.parent c.args.cancel) s.history _ refl c.requires.tied.counts);
       tells = rw (happened, rest) (quiet_sent s.script.now s.history _ s.flight _ (BanPut c.args.node c.args.parent c.args.cancel) _ refl (carry_taken s.script.now s.history s.flight c.args.nth c.requires.tied.tells.carried) c.requires.tied.tells);
-      pages = rw happened (quiet_pages s.cluster s.script.now s.history s.contexts.items c.requires.tied.pages (BanPut c.args.node c.args.parent c.args.cancel) refl);
+      pages = rw happened (quiet_pages s.cluster s.corpus.now s.script.now s.history s.contexts.items c.requires.tied.pages (BanPut c.args.node c.args.parent c.args.cancel) refl);
+      shards = rw happened c.requires.tied.shards;
       awaits = rw happened tt;
     })
 

@@ -43,7 +43,8 @@ returns-clause-tied c =
       cancels = rw (happened, c.remove-stood.ensures.removed) (noted_gone s.cluster s.history _ _ s.bans.items _ _ c.requires.tied.cancels c.args.node node.0 node.1 c.args.parent c.index_mut.result.now here);
       counts = rw happened (still_counts None (BanGone c.args.node c.args.parent) s.history _ refl c.requires.tied.counts);
       tells = rw (happened, rest) (quiet_sent s.script.now s.history _ s.flight _ (BanGone c.args.node c.args.parent) _ refl (carry_taken s.script.now s.history s.flight c.args.nth c.requires.tied.tells.carried) c.requires.tied.tells);
-      pages = rw happened (quiet_pages s.cluster s.script.now s.history s.contexts.items c.requires.tied.pages (BanGone c.args.node c.args.parent) refl);
+      pages = rw happened (quiet_pages s.cluster s.corpus.now s.script.now s.history s.contexts.items c.requires.tied.pages (BanGone c.args.node c.args.parent) refl);
+      shards = rw happened c.requires.tied.shards;
       awaits = rw happened tt;
     })
 

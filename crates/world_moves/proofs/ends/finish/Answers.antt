@@ -12,7 +12,7 @@ use Rattle.task_laws.proofs.Reach.{reach_facts}
 use Rattle.world_moves.proofs.CancelsAfterLeave.{noted_unmarked, counts_unmarked}
 use Rattle.world_moves.proofs.DescriptionsAfter.{described_with, rows_left, carry_both, told_carries}
 use Rattle.world_moves.proofs.NodeTables.{nobody_waits}
-use Rattle.world_moves.proofs.PagesLeft.{in_use, there, none_yet, fits, finished_pages}
+use Rattle.world_moves.proofs.PagesLeft.{in_use, there, none_yet, opens_alone, fits, finished_pages}
 use Rattle.world_moves.proofs.TasksAfterLeave.{nothing_open, own_track, has_table, table_is, stands, runs}
 use Rattle.corpus_shards.proofs.Cases.{then_ok}
 use Rattle.world_moves.proofs.ends.finish.Goals as goal
@@ -40,8 +40,14 @@ note_end-requires-clause-fits c =
     let r = c.in-Some.running in
     let was = sym c.remove.ensures.value ∙ c.in-Some.is in
     let next = rw was at c.requires.next in
-    fits s.cluster s.corpus.now s.script.now s.history _ _ _ c.requires.tied.ties s.contexts.items c.requires.tied.pages c.args.task c.requires.live r was c.args.reply _
-    (step s.cluster s.corpus.now s.script.now s.history _ _ _ c.requires.tied.ties c.requires.shards.few c.args.task r c.args.reply c.requires.live c.requires.passed c.requires.unmarked was next)
+    fits s.cluster s.corpus.now s.script.now s.history _ _ _ c.requires.tied.ties s.contexts.items c.requires.tied.pages c.args.task c.requires.live r was c.requires.passed s.clock c.args.reply _
+    (step s.cluster s.corpus.now s.script.now s.history _ _ _ c.requires.tied.ties c.requires.tied.shards.has.few c.args.task s.clock r c.args.reply c.requires.live c.requires.passed c.requires.unmarked was next)
+
+pub note_end-requires-clause-one : goal.note_end-requires-clause-one
+note_end-requires-clause-one c = λ opens.
+    let s = c.args.state.now in
+    let was = sym c.remove.ensures.value ∙ c.in-Some.is in
+    opens_alone s.cluster s.corpus.now s.script.now s.history _ _ _ c.requires.tied.ties s.contexts.items c.requires.tied.pages c.args.task c.requires.live c.in-Some.running was c.requires.passed s.clock c.args.reply opens
 
 pub note_end-requires-clause-fresh : goal.note_end-requires-clause-fresh
 note_end-requires-clause-fresh c = λ opens.
@@ -76,7 +82,7 @@ end_in-receipt-requires-clause-answered c =
     let was = sym c.remove.ensures.value ∙ c.in-Some.is in
     let next = rw was at c.requires.next in
     nothing_open s.cluster s.corpus.now s.script.now s.history _ _ _ c.requires.tied.ties c.args.task c.requires.live r was
-    (all_come s.cluster s.corpus.now s.script.now s.history _ _ _ c.requires.tied.ties c.requires.shards.few c.args.task r c.args.reply c.requires.live c.requires.passed c.requires.unmarked was next)
+    (all_come s.cluster s.corpus.now s.script.now s.history _ _ _ c.requires.tied.ties c.requires.tied.shards.has.few c.args.task s.clock r c.args.reply c.requires.live c.requires.passed c.requires.unmarked was next)
 
 pub returns-clause-tied : goal.returns-clause-tied
 returns-clause-tied c =
@@ -89,12 +95,13 @@ returns-clause-tied c =
     let row = c.end_in-receipt.ensures.row ∙ ap (λ id. without_task c.index_mut.result.now id.number) (runs s.cluster s.corpus.now s.script.now s.history _ _ _ c.requires.tied.ties c.args.task c.requires.live r was).id in
     let sent = c.in-Ok-tell_parent.ensures.ok ∙ ap (λ at. s.flight ++ told_parent c.end_in-receipt.result at) c.len-at.ensures in
     let high = (reach_facts s.cluster s.history c.requires.tied.ties.lawful).live_in c.args.task c.requires.live in
+    let ended = after_finish s.cluster s.corpus.now s.script.now s.history _ _ _ c.requires.tied.ties c.requires.tied.shards.has.few c.args.task s.clock r c.args.reply c.requires.live c.requires.passed c.requires.unmarked was next c.requires.tied.awaits
+    c.index_mut.result.now c.end_in-receipt.result _ its c.end_in-receipt.ensures.receipt (at_changed c.args.task None (task_at s.tasks) _ changed) (off_changed c.args.task None (task_at s.tasks) _ changed) in
     then_ok c.append.result _ _ c.append.ensures.ok (λ happened. record {
       ties =
           same_ties s.cluster s.corpus.now s.script.now _ _ _ _ _ _ _ happened (ap (slice_set s.tables.items (c.args.task.node - 1)) row)
           (c.in-Ok-tell_parent.ensures.ok ∙ ap (λ at. s.flight ++ told_parent c.end_in-receipt.result at) c.len-at.ensures)
-          (after_finish s.cluster s.corpus.now s.script.now s.history _ _ _ c.requires.tied.ties c.requires.shards.few c.args.task r c.args.reply c.requires.live c.requires.passed c.requires.unmarked was next c.requires.tied.awaits
-          c.index_mut.result.now c.end_in-receipt.result _ its c.end_in-receipt.ensures.receipt (at_changed c.args.task None (task_at s.tasks) _ changed) (off_changed c.args.task None (task_at s.tasks) _ changed));
+          ended;
       cancels =
           rw (happened, row) (noted_unmarked c.args.task s.history (End c.args.task c.args.reply) refl c.requires.unmarked s.cluster c.requires.tied.ties.lawful s.tables.items _ s.bans.items s.cores.items s.listings
           c.index_mut.result.now its c.requires.tied.cancels);
@@ -106,8 +113,9 @@ returns-clause-tied c =
           (rows_left s.script.now s.history s.tables.items (c.args.task.node - 1) c.args.task.number c.index_mut.result.now its c.requires.tied.tells.rows_are)
           (carry_both s.script.now s.history s.flight _ c.requires.tied.tells.carried (told_carries s.script.now s.history c.end_in-receipt.result _)) c.requires.tied.tells);
       pages =
-          rw happened (finished_pages s.cluster s.corpus.now s.script.now s.history _ _ _ c.requires.tied.ties s.contexts.items c.requires.tied.pages c.args.task c.requires.live r was c.args.reply _
-          (step s.cluster s.corpus.now s.script.now s.history _ _ _ c.requires.tied.ties c.requires.shards.few c.args.task r c.args.reply c.requires.live c.requires.passed c.requires.unmarked was next)
-          s.clock c.requires.tied.tells.clock_is c.note_end.new.contexts.items c.in-Ok.ensures.as_many c.in-Ok.ensures.ended);
+          rw happened (finished_pages s.cluster s.corpus.now s.script.now s.history _ _ _ c.requires.tied.ties s.contexts.items c.requires.tied.pages c.args.task c.requires.live r was c.requires.passed s.clock c.args.reply _
+          (step s.cluster s.corpus.now s.script.now s.history _ _ _ c.requires.tied.ties c.requires.tied.shards.has.few c.args.task s.clock r c.args.reply c.requires.live c.requires.passed c.requires.unmarked was next)
+          c.requires.tied.tells.clock_is ended.lawful.0 c.note_end.new.contexts.items c.in-Ok.ensures.as_many c.in-Ok.ensures.ended);
+      shards = rw happened c.requires.tied.shards;
       awaits = rw happened tt;
     })

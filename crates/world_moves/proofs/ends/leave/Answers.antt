@@ -10,15 +10,14 @@ use Rattle.world_moves.specs.Left.{left_in}
 use Rattle.world_moves.specs.Flights.{told_parent}
 use Rattle.task_events.specs.Lawful.{Lawful}
 use Rattle.world_moves.specs.Moves.{IsPartOf}
-use Rattle.world_moves.specs.Paging.{context_in, after_return}
 use Rattle.world_moves.specs.Plain.{AnswersPlainly}
 use Rattle.world_moves.specs.Ties.{task_at}
 use Rattle.world_moves.proofs.KeptTasks.{at_changed, off_changed}
 use Rattle.world_moves.proofs.SameTies.{same_ties}
 use Rattle.world_moves.proofs.StepsAfter.{is_kept}
-use Rattle.world_moves.proofs.CancelAnswersAfter.{answers_lawful, answers_await, answers_tied, answers_noted, answers_described}
+use Rattle.world_moves.proofs.CancelAnswersAfter.{shards_answered, answers_lawful, answers_await, answers_tied, answers_noted, answers_described}
 use Rattle.world_moves.proofs.DescriptionsAfter.{described_with, rows_left, carry_both, told_carries, acts_carry}
-use Rattle.world_moves.proofs.CancelledEnds.{leaves_so, leaver_lives, awaits_none, left_lawful, left_plain, none_part, first_part, leaver_open, after_cancelled, after_unmarked}
+use Rattle.world_moves.proofs.CancelledEnds.{leaves_so, shards_left, leaver_lives, awaits_none, left_lawful, left_plain, none_part, first_part, leaver_open, after_cancelled, after_unmarked}
 use Rattle.world_moves.proofs.CoresAfterLeave.{core_is, known_there, no_receipt, unmarked_there, nobody_there, answered_then, counted_then, sent_then, part_then, answers_plain, set_again}
 use Rattle.task_laws.proofs.Reach.{reach_facts}
 use Rattle.world_moves.proofs.CancelsAfterLeave.{noted_unmarked, noted_ended, nothing_due, core_there, counts_unmarked, starts_none}
@@ -34,25 +33,25 @@ use Rattle.world_moves.proofs.ends.leave.Goals as goal
 pub unreachable-requires : goal.unreachable-requires
 unreachable-requires c =
     let s = c.args.state.now in
-    is_kept s.cluster s.corpus.now s.script.now s.history _ _ _ c.requires.tied.ties c.args.task (leaver_lives c.args.task s.history c.args.event c.requires.leaves) (sym c.remove.ensures.value ∙ c.in_default.is)
+    is_kept s.cluster s.corpus.now s.script.now s.history _ _ _ c.requires.tied.ties c.args.task (leaver_lives _ c.args.task s.history c.args.event c.requires.leaves) (sym c.remove.ensures.value ∙ c.in_default.is)
 
 pub index_mut-requires : goal.index_mut-requires
 index_mut-requires c =
     let s = c.args.state.now in
     let low = c.args.task.node_in_range.0 in
-    let many = has_table s.cluster s.corpus.now s.script.now s.history _ _ _ c.requires.tied.ties c.args.task (leaver_lives c.args.task s.history c.args.event c.requires.leaves) in
+    let many = has_table s.cluster s.corpus.now s.script.now s.history _ _ _ c.requires.tied.ties c.args.task (leaver_lives _ c.args.task s.history c.args.event c.requires.leaves) in
     omega (arith, low, many)
 
-pub give_back-requires : goal.give_back-requires
-give_back-requires c =
+pub note_leave-requires : goal.note_leave-requires
+note_leave-requires c =
     let s = c.args.state.now in
     let was = sym c.remove.ensures.value ∙ c.in-Some.is in
-    record { used = λ id shown. in_use s.cluster s.corpus.now s.script.now s.history _ _ _ c.requires.tied.ties s.contexts.items c.requires.tied.pages c.args.task (leaver_lives c.args.task s.history c.args.event c.requires.leaves) c.in-Some.running was id (sym c.page_id.ensures ∙ shown) }
+    record { used = λ id shown. in_use s.cluster s.corpus.now s.script.now s.history _ _ _ c.requires.tied.ties s.contexts.items c.requires.tied.pages c.args.task (leaver_lives _ c.args.task s.history c.args.event c.requires.leaves) c.in-Some.running was id shown }
 
 pub end_in-receipt-requires-clause-live : goal.end_in-receipt-requires-clause-live
 end_in-receipt-requires-clause-live c =
     let s = c.args.state.now in
-    let live = leaver_lives c.args.task s.history c.args.event c.requires.leaves in
+    let live = leaver_lives _ c.args.task s.history c.args.event c.requires.leaves in
     let was = sym c.remove.ensures.value ∙ c.in-Some.is in
     let its = table_is s.cluster s.corpus.now s.script.now s.history _ _ _ c.requires.tied.ties c.args.task live c.index_mut.result.now c.index_mut.ensures.value in
     stands s.cluster s.corpus.now s.script.now s.history _ _ _ c.requires.tied.ties c.args.task live c.in-Some.running was c.index_mut.result.now its
@@ -61,7 +60,7 @@ pub end_in-receipt-requires-clause-track : goal.end_in-receipt-requires-clause-t
 end_in-receipt-requires-clause-track c =
     let s = c.args.state.now in
     let was = sym c.remove.ensures.value ∙ c.in-Some.is in
-    own_track s.cluster s.corpus.now s.script.now s.history _ _ _ c.requires.tied.ties c.args.task (leaver_lives c.args.task s.history c.args.event c.requires.leaves) c.in-Some.running was
+    own_track s.cluster s.corpus.now s.script.now s.history _ _ _ c.requires.tied.ties c.args.task (leaver_lives _ c.args.task s.history c.args.event c.requires.leaves) c.in-Some.running was
 
 pub end_in-receipt-requires-clause-answered : goal.end_in-receipt-requires-clause-answered
 end_in-receipt-requires-clause-answered c =
@@ -85,26 +84,26 @@ index_mut-core-requires c =
     let s = c.args.state.now in
     let low = c.args.task.node_in_range.0 in
     let there = core_there c.args.task s.history s.cluster s.tables.items _ s.bans.items s.cores.items s.listings c.requires.tied.cancels
-    (in_cluster s.cluster s.corpus.now s.script.now s.history _ _ _ c.requires.tied.ties c.args.task (leaver_lives c.args.task s.history c.args.event c.requires.leaves)) in
+    (in_cluster s.cluster s.corpus.now s.script.now s.history _ _ _ c.requires.tied.ties c.args.task (leaver_lives _ c.args.task s.history c.args.event c.requires.leaves)) in
     let within = slice_get_within s.cores.items (c.args.task.node - 1) there.0 there.1 in
     omega (arith, within)
 
 pub returns-then-not-has-clause-happened : goal.returns-then-not-has-clause-happened
 returns-then-not-has-clause-happened c =
     let s = c.args.state.now in
-    let live = leaver_lives c.args.task s.history c.args.event c.requires.leaves in
+    let live = leaver_lives _ c.args.task s.history c.args.event c.requires.leaves in
     let core = c.index_mut-core.result.now in
     let none = nobody_there s.cluster s.history s.tables.items _ s.bans.items s.cores.items s.listings c.requires.tied.cancels c.requires.tied.ties.lawful c.args.task live core c.index_mut-core.ensures.value
     (sym c.has.ensures ∙ c.if-not-has.true) in
-    c.in_ok-append.ensures.ok ∙ sym (nothing_due c.args.task s.history c.args.event (leaves_so c.args.task s.history c.args.event c.requires.leaves) s.cluster c.requires.tied.ties.lawful _ c.requires.tied.counts none)
+    c.in_ok-append.ensures.ok ∙ sym (nothing_due c.args.task s.history c.args.event (leaves_so _ c.args.task s.history c.args.event c.requires.leaves) s.cluster c.requires.tied.ties.lawful _ c.requires.tied.counts none)
 
 pub returns-then-not-has-clause-tied : goal.returns-then-not-has-clause-tied
 returns-then-not-has-clause-tied c =
     let s = c.args.state.now in
     let e = c.args.event in
     let r = c.in-Some.running in
-    let live = leaver_lives c.args.task s.history e c.requires.leaves in
-    let leaves = leaves_so c.args.task s.history e c.requires.leaves in
+    let live = leaver_lives _ c.args.task s.history e c.requires.leaves in
+    let leaves = leaves_so _ c.args.task s.history e c.requires.leaves in
     let was = sym c.remove.ensures.value ∙ c.in-Some.is in
     let its = table_is s.cluster s.corpus.now s.script.now s.history _ _ _ c.requires.tied.ties c.args.task live c.index_mut.result.now c.index_mut.ensures.value in
     let changed = c.remove.ensures.updates.0 in
@@ -130,14 +129,15 @@ returns-then-not-has-clause-tied c =
           rw (c.in_ok-append.ensures.ok, row, sent) (described_with s.script.now s.history s.tables.items s.flight _ e _ _ (starts_none c.args.task s.history e leaves)
           (rows_left s.script.now s.history s.tables.items (c.args.task.node - 1) c.args.task.number c.index_mut.result.now its c.requires.tied.tells.rows_are)
           (carry_both s.script.now s.history s.flight _ c.requires.tied.tells.carried (told_carries s.script.now s.history c.end_in-receipt.result _)) c.requires.tied.tells);
-      pages = rw c.in_ok-append.ensures.ok (left_pages s.cluster s.corpus.now s.script.now s.history _ _ _ c.requires.tied.ties s.contexts.items c.requires.tied.pages c.args.task live r was s.clock c.requires.tied.tells.clock_is e c.requires.leaves c.give_back.new.contexts.items c.give_back.ensures.as_many (λ q. c.give_back.ensures.returned q ∙ ap (λ o. after_return s.clock o None q (context_in s.contexts.items q)) c.page_id.ensures));
-      awaits = rw c.in_ok-append.ensures.ok (awaits_none c.args.task s.history e c.requires.leaves);
+      pages = rw c.in_ok-append.ensures.ok (left_pages s.cluster s.corpus.now s.script.now s.history _ _ _ c.requires.tied.ties s.contexts.items c.requires.tied.pages c.args.task live r was s.clock c.requires.tied.tells.clock_is _ e c.requires.leaves c.note_leave.new.contexts.items c.note_leave.ensures.as_many c.note_leave.ensures.left c.note_leave.ensures.refused);
+      shards = rw c.in_ok-append.ensures.ok (record { has = shards_left _ c.args.task s.history s.corpus.now s.script.now s.cluster s.shards e c.requires.leaves c.requires.tied.shards.has; of_corpus = c.requires.tied.shards.of_corpus });
+      awaits = rw c.in_ok-append.ensures.ok (awaits_none _ c.args.task s.history e c.requires.leaves);
     }
 
 pub ended-requires-clause-open_task : goal.ended-requires-clause-open_task
 ended-requires-clause-open_task c =
     let s = c.args.state.now in
-    let live = leaver_lives c.args.task s.history c.args.event c.requires.leaves in
+    let live = leaver_lives _ c.args.task s.history c.args.event c.requires.leaves in
     let core = c.index_mut-core.result.now in
     no_receipt s.cluster s.history s.tables.items _ s.bans.items s.cores.items s.listings c.requires.tied.cancels c.requires.tied.ties.lawful c.args.task live core c.index_mut-core.ensures.value
     (sym c.has.ensures ∙ c.if-not-has.false)
@@ -146,7 +146,7 @@ pub ended-requires-clause-own : goal.ended-requires-clause-own
 ended-requires-clause-own c =
     let s = c.args.state.now in
     let was = sym c.remove.ensures.value ∙ c.in-Some.is in
-    let x = runs s.cluster s.corpus.now s.script.now s.history _ _ _ c.requires.tied.ties c.args.task (leaver_lives c.args.task s.history c.args.event c.requires.leaves) c.in-Some.running was in
+    let x = runs s.cluster s.corpus.now s.script.now s.history _ _ _ c.requires.tied.ties c.args.task (leaver_lives _ c.args.task s.history c.args.event c.requires.leaves) c.in-Some.running was in
     ap (λ receipt. receipt.task) c.end_in-receipt.ensures.receipt ∙ ap (λ track. Some track.task) x.track
 
 pub returns-in_default-ended-clause-part : goal.returns-in_default-ended-clause-part
@@ -157,11 +157,11 @@ returns-in_default-ended-clause-part c =
 pub returns-clause-part : goal.returns-clause-part
 returns-clause-part c =
     let s = c.args.state.now in
-    let live = leaver_lives c.args.task s.history c.args.event c.requires.leaves in
+    let live = leaver_lives _ c.args.task s.history c.args.event c.requires.leaves in
     let core = c.index_mut-core.result.now in
     let known = known_there s.cluster s.history s.tables.items _ s.bans.items s.cores.items s.listings c.requires.tied.cancels c.requires.tied.ties.lawful c.args.task live core c.index_mut-core.ensures.value
     (sym c.has.ensures ∙ c.if-not-has.false) in
-    then_err c.perform.result _ _ c.perform.ensures.part (λ performed. (let part = part_then s.cluster c.args.task c.args.event s.history (leaves_so c.args.task s.history c.args.event c.requires.leaves) c.requires.tied.ties.lawful _ c.requires.tied.counts (entry_of core c.args.task) c.end_in-receipt.result known c.as_slice.result.now
+    then_err c.perform.result _ _ c.perform.ensures.part (λ performed. (let part = part_then s.cluster c.args.task c.args.event s.history (leaves_so _ c.args.task s.history c.args.event c.requires.leaves) c.requires.tied.ties.lawful _ c.requires.tied.counts (entry_of core c.args.task) c.end_in-receipt.result known c.as_slice.result.now
     (c.as_slice.ensures.value ∙ c.in-Ok-ended.ensures.acts) c.append.new.history c.perform.new.history c.in_ok-append.ensures.ok performed in
     later_part c.args.event s.history c.perform.new.history _ part))
 
@@ -170,29 +170,29 @@ returns-clause-laws c =
     let s = c.args.state.now in
     let e = c.args.event in
     let m = c.requires.leaves in
-    let live = leaver_lives c.args.task s.history e m in
+    let live = leaver_lives _ c.args.task s.history e m in
     let core = c.index_mut-core.result.now in
-    let leaves = leaves_so c.args.task s.history e m in
+    let leaves = leaves_so _ c.args.task s.history e m in
     let known = known_there s.cluster s.history s.tables.items _ s.bans.items s.cores.items s.listings c.requires.tied.cancels c.requires.tied.ties.lawful c.args.task live core c.index_mut-core.ensures.value
     (sym c.has.ensures ∙ c.if-not-has.false) in
     then_err c.perform.result _ _ c.perform.ensures.part (λ performed. (let part = part_then s.cluster c.args.task e s.history leaves c.requires.tied.ties.lawful _ c.requires.tied.counts (entry_of core c.args.task) c.end_in-receipt.result known c.as_slice.result.now
     (c.as_slice.ensures.value ∙ c.in-Ok-ended.ensures.acts) c.append.new.history c.perform.new.history c.in_ok-append.ensures.ok performed in
     record {
       lawful = part_lawful s.cluster s.corpus.now s.script.now (e ∷ s.history) c.perform.new.history _ part
-          (answers_lawful s.cluster c.args.task (e ∷ s.history) (left_lawful c.args.task s.history s.cluster c.requires.tied.ties.lawful c.requires.tied.awaits e m) (awaits_none c.args.task s.history e m));
+          (answers_lawful s.cluster c.args.task (e ∷ s.history) (left_lawful _ c.args.task s.history s.cluster c.requires.tied.ties.lawful c.requires.tied.awaits e m) (awaits_none _ c.args.task s.history e m));
       plain = part_plain s.cluster s.corpus.now s.script.now (e ∷ s.history) c.perform.new.history _ part
-          (answers_plain s.cluster s.corpus.now s.script.now c.args.task (e ∷ s.history) (left_plain c.args.task s.history s.cluster s.corpus.now s.script.now e m c.requires.tied.ties.plain));
+          (answers_plain s.cluster s.corpus.now s.script.now c.args.task (e ∷ s.history) (left_plain s.cluster s.corpus.now s.script.now c.args.task s.history e m c.requires.tied.ties.plain));
     }))
 
 pub returns-clause-happened : goal.returns-clause-happened
 returns-clause-happened c =
     let s = c.args.state.now in
-    let live = leaver_lives c.args.task s.history c.args.event c.requires.leaves in
+    let live = leaver_lives _ c.args.task s.history c.args.event c.requires.leaves in
     let core = c.index_mut-core.result.now in
     let known = known_there s.cluster s.history s.tables.items _ s.bans.items s.cores.items s.listings c.requires.tied.cancels c.requires.tied.ties.lawful c.args.task live core c.index_mut-core.ensures.value
     (sym c.has.ensures ∙ c.if-not-has.false) in
     then_ok c.perform.result _ _ c.perform.ensures.answered (λ answered. answered ∙ ap (λ past. answers_in c.as_slice.result.now (left_in s.left) ++ past) c.in_ok-append.ensures.ok
-    ∙ answered_then s.cluster c.args.task c.args.event s.history (leaves_so c.args.task s.history c.args.event c.requires.leaves) c.requires.tied.ties.lawful _ c.requires.tied.counts (entry_of core c.args.task) c.end_in-receipt.result known c.as_slice.result.now
+    ∙ answered_then s.cluster c.args.task c.args.event s.history (leaves_so _ c.args.task s.history c.args.event c.requires.leaves) c.requires.tied.ties.lawful _ c.requires.tied.counts (entry_of core c.args.task) c.end_in-receipt.result known c.as_slice.result.now
     (c.as_slice.ensures.value ∙ c.in-Ok-ended.ensures.acts))
 
 pub returns-clause-tied : goal.returns-clause-tied
@@ -201,9 +201,9 @@ returns-clause-tied c =
     let e = c.args.event in
     let m = c.requires.leaves in
     let r = c.in-Some.running in
-    let live = leaver_lives c.args.task s.history e m in
-    let leaves = leaves_so c.args.task s.history e m in
-    let awaits = awaits_none c.args.task s.history e m in
+    let live = leaver_lives _ c.args.task s.history e m in
+    let leaves = leaves_so _ c.args.task s.history e m in
+    let awaits = awaits_none _ c.args.task s.history e m in
     let was = sym c.remove.ensures.value ∙ c.in-Some.is in
     let its = table_is s.cluster s.corpus.now s.script.now s.history _ _ _ c.requires.tied.ties c.args.task live c.index_mut.result.now c.index_mut.ensures.value in
     let changed = c.remove.ensures.updates.0 in
@@ -234,24 +234,25 @@ returns-clause-tied c =
           (described_with s.script.now s.history s.tables.items s.flight _ e _ _ (starts_none c.args.task s.history e leaves)
           (rows_left s.script.now s.history s.tables.items (c.args.task.node - 1) c.args.task.number c.index_mut.result.now its c.requires.tied.tells.rows_are)
           (carry_both s.script.now s.history _ _ (carry_both s.script.now s.history s.flight _ c.requires.tied.tells.carried (told_carries s.script.now s.history receipt _)) (acts_carry s.script.now s.history c.args.task.node acts)) c.requires.tied.tells));
-      pages = rw happened (answered_pages s.cluster s.script.now (e ∷ s.history) c.give_back.new.contexts.items c.args.task (left_pages s.cluster s.corpus.now s.script.now s.history _ _ _ c.requires.tied.ties s.contexts.items c.requires.tied.pages c.args.task live r was s.clock c.requires.tied.tells.clock_is e m c.give_back.new.contexts.items c.give_back.ensures.as_many (λ q. c.give_back.ensures.returned q ∙ ap (λ o. after_return s.clock o None q (context_in s.contexts.items q)) c.page_id.ensures)));
+      pages = rw happened (answered_pages s.cluster s.corpus.now s.script.now (e ∷ s.history) c.note_leave.new.contexts.items c.args.task (left_pages s.cluster s.corpus.now s.script.now s.history _ _ _ c.requires.tied.ties s.contexts.items c.requires.tied.pages c.args.task live r was s.clock c.requires.tied.tells.clock_is _ e m c.note_leave.new.contexts.items c.note_leave.ensures.as_many c.note_leave.ensures.left c.note_leave.ensures.refused));
+      shards = rw happened (record { has = shards_answered s.cluster c.args.task (e ∷ s.history) s.corpus.now s.script.now s.shards (shards_left _ c.args.task s.history s.corpus.now s.script.now s.cluster s.shards e m c.requires.tied.shards.has); of_corpus = c.requires.tied.shards.of_corpus });
       awaits = rw happened (answers_await s.cluster c.args.task (e ∷ s.history) awaits);
     })
 
 pub returns-clause-keeps : goal.returns-clause-keeps
-returns-clause-keeps c = record { cluster = refl; corpus = refl; shards = refl; script = refl }
+returns-clause-keeps c = record { cluster = refl; corpus = refl; script = refl }
 
 pub returns-then-not-has-clause-keeps : goal.returns-then-not-has-clause-keeps
-returns-then-not-has-clause-keeps c = record { cluster = refl; corpus = refl; shards = refl; script = refl }
+returns-then-not-has-clause-keeps c = record { cluster = refl; corpus = refl; script = refl }
 
 pub returns-in_default-ended-clause-keeps : goal.returns-in_default-ended-clause-keeps
-returns-in_default-ended-clause-keeps c = record { cluster = refl; corpus = refl; shards = refl; script = refl }
+returns-in_default-ended-clause-keeps c = record { cluster = refl; corpus = refl; script = refl }
 
 pub returns-in_err-append-clause-keeps : goal.returns-in_err-append-clause-keeps
-returns-in_err-append-clause-keeps c = record { cluster = refl; corpus = refl; shards = refl; script = refl }
+returns-in_err-append-clause-keeps c = record { cluster = refl; corpus = refl; script = refl }
 
 pub returns-in-Err-clause-keeps : goal.returns-in-Err-clause-keeps
-returns-in-Err-clause-keeps c = record { cluster = refl; corpus = refl; shards = refl; script = refl }
+returns-in-Err-clause-keeps c = record { cluster = refl; corpus = refl; script = refl }
 
 pub returns-in_default-ended-clause-laws : goal.returns-in_default-ended-clause-laws
 returns-in_default-ended-clause-laws c =
@@ -259,19 +260,19 @@ returns-in_default-ended-clause-laws c =
     let e = c.args.event in
     let m = c.requires.leaves in
     record {
-      lawful = subst (Lawful s.cluster) (sym c.in_ok-append.ensures.ok) (left_lawful c.args.task s.history s.cluster c.requires.tied.ties.lawful c.requires.tied.awaits e m);
-      plain = subst (AnswersPlainly s.cluster s.corpus.now s.script.now) (sym c.in_ok-append.ensures.ok) (left_plain c.args.task s.history s.cluster s.corpus.now s.script.now e m c.requires.tied.ties.plain);
+      lawful = subst (Lawful s.cluster) (sym c.in_ok-append.ensures.ok) (left_lawful _ c.args.task s.history s.cluster c.requires.tied.ties.lawful c.requires.tied.awaits e m);
+      plain = subst (AnswersPlainly s.cluster s.corpus.now s.script.now) (sym c.in_ok-append.ensures.ok) (left_plain s.cluster s.corpus.now s.script.now c.args.task s.history e m c.requires.tied.ties.plain);
     }
 
 pub returns-clause-full : goal.returns-clause-full
 returns-clause-full c = λ failed.
     let s = c.args.state.now in
-    let live = leaver_lives c.args.task s.history c.args.event c.requires.leaves in
+    let live = leaver_lives _ c.args.task s.history c.args.event c.requires.leaves in
     let core = c.index_mut-core.result.now in
     let known = known_there s.cluster s.history s.tables.items _ s.bans.items s.cores.items s.listings c.requires.tied.cancels c.requires.tied.ties.lawful c.args.task live core c.index_mut-core.ensures.value
     (sym c.has.ensures ∙ c.if-not-has.false) in
     cut_as (λ past. IsPartOf c.append.new.history past (answers_in c.as_slice.result.now (left_in s.left) ++ c.append.new.history)) (λ past. IsPartOf s.history past (with_answers c.args.task (c.args.event ∷ s.history))) c.perform.new.history
-    (λ past performed. later_part c.args.event s.history past _ (part_then s.cluster c.args.task c.args.event s.history (leaves_so c.args.task s.history c.args.event c.requires.leaves) c.requires.tied.ties.lawful _ c.requires.tied.counts (entry_of core c.args.task) c.end_in-receipt.result known c.as_slice.result.now
+    (λ past performed. later_part c.args.event s.history past _ (part_then s.cluster c.args.task c.args.event s.history (leaves_so _ c.args.task s.history c.args.event c.requires.leaves) c.requires.tied.ties.lawful _ c.requires.tied.counts (entry_of core c.args.task) c.end_in-receipt.result known c.as_slice.result.now
     (c.as_slice.ensures.value ∙ c.in-Ok-ended.ensures.acts) c.append.new.history past c.in_ok-append.ensures.ok performed)) (c.perform.ensures.full failed)
 
 pub returns-in_err-append-clause-full : goal.returns-in_err-append-clause-full

@@ -46,6 +46,7 @@ returns-clause-tied c =
       cancels = same_cancels s.cluster _ _ _ _ _ _ _ _ _ happened refl cores (cancels_after_listed s.cluster s.history n p _ _ s.bans.items s.cores.items s.listings c.index_mut.result.now _ c.requires.tied.cancels here c.remove-was_open.ensures.updates.0);
       counts = rw happened (still_counts None (Listed n p) s.history _ refl c.requires.tied.counts);
       tells = rw (happened, flight) (quiet_sent s.script.now s.history _ s.flight _ (Listed n p) _ refl (carry_both s.script.now s.history s.flight _ c.requires.tied.tells.carried (tt, tt)) c.requires.tied.tells);
-      pages = rw happened (quiet_pages s.cluster s.script.now s.history s.contexts.items c.requires.tied.pages (Listed n p) refl);
+      pages = rw happened (quiet_pages s.cluster s.corpus.now s.script.now s.history s.contexts.items c.requires.tied.pages (Listed n p) refl);
+      shards = rw happened c.requires.tied.shards;
       awaits = rw happened tt;
     }))

@@ -120,6 +120,7 @@ returns-clause-tied c =
       tells = rw (past, tables, sent) (described_with s.script.now s.history s.tables.items s.flight _ (Mark t c.args.cancel) _ _ refl
           (rows_marked s.script.now s.history s.tables.items (t.node - 1) t.number c.args.cancel c.index_mut.result.now row c.requires.tells.rows_are)
           (carry_both s.script.now s.history s.flight _ c.requires.tells.carried (acts_carry s.script.now s.history t.node done)) c.requires.tells);
-      pages = rw past (quiet_pages s.cluster s.script.now s.history s.contexts.items c.requires.pages (Mark t c.args.cancel) refl);
+      pages = rw past (quiet_pages s.cluster s.corpus.now s.script.now s.history s.contexts.items c.requires.pages (Mark t c.args.cancel) refl);
+      shards = rw past c.requires.shards;
       awaits = subst AwaitsNoMark (sym past) tt;
     }

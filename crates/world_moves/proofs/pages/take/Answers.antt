@@ -2,7 +2,7 @@ use Rattle.std.proofs.Common.{◌≡◌, ◌∙◌, ◌-◌, ap, sym, Some}
 use Rattle.std.specs.Prelude.{Ok, Err}
 use Rattle.std.specs.FinMap.{get}
 use Rattle.task_events.specs.declared.request.Request.TheVariants.{Scroll}
-use Rattle.task_events.specs.Contexts.{after_root, with_use}
+use Rattle.task_events.specs.Contexts.{after_taking, with_use}
 use Rattle.scroll_table.specs.Contexts.{answer_for}
 use Rattle.world_moves.specs.Paging.{context_in}
 use Rattle.world_moves.proofs.ContextTables.{read_at, own, called, found_ok, stands_for, takes_another, changed_one, within}
@@ -32,5 +32,5 @@ returns-clause-taken c q =
     let answers = ap (answer_for ask.owner c.args.now) (sym (own tables ask.id table table there)) ∙ found.1 in
     let stands = stands_for ask.owner c.args.now (get table ask.id) found.0 answers in
     let used = c.page.ensures.used found.0 answers in
-    called tables ask.id table c.page.new.self there (after_root c.args.now user (Some (Scroll ask))) (λ q. ap (λ t. get t q) used ∙ changed_one table ask.id (with_use c.args.now ask.keep user) found.0 stands q) (takes_another c.args.now user ask) q
-    ∙ ap (λ r. after_root c.args.now user (Some r) q (context_in tables q)) (sym c.in-Scroll.is)
+    called tables ask.id table c.page.new.self there (after_taking c.args.now user (Some (Scroll ask))) (λ q. ap (λ t. get t q) used ∙ changed_one table ask.id (with_use c.args.now ask.keep user) found.0 stands q) (takes_another c.args.now user ask) q
+    ∙ ap (λ r. after_taking c.args.now user (Some r) q (context_in tables q)) (sym c.in-Scroll.is)

@@ -1,5 +1,6 @@
-use Rattle.std.proofs.Common.{◌≡◌, ◌∙◌, ◌∷◌, [], ◌++◌, List, Option, Some, None, Err, length, refl, ap, sym, subst, cond, true}
-use Rattle.std.specs.Prelude.{remove}
+use Rattle.std.proofs.Common.{◌≡◌, ◌∙◌, ◌∷◌, [], ◌++◌, List, Some, None, Err, length, refl, ap, sym, subst, cond, true, arith}
+use Rattle.std.specs.Prelude.{remove, is_some}
+use Rattle.std.specs.Option.{option_copied}
 use Rattle.std.specs.BTreeMap.{is_at}
 use Rattle.task_ids.specs.declared.task_id.TaskId.{TaskId}
 use Rattle.task_ids.specs.TaskIdOrder.{task_id_cmp}
@@ -11,7 +12,9 @@ use Rattle.task_events.specs.declared.request.Request.{Request}
 use Rattle.world_moves.specs.declared.flight.Sent.{Sent}
 use Rattle.node_parts.specs.declared.running.Running.{Running}
 use Rattle.world_moves.specs.Moves.{Delivers}
+use Rattle.task_events.specs.Contexts.{asked_page}
 use Rattle.task_events.specs.Lawful.{AwaitsNoMark}
+use Rattle.world_moves.specs.Paging.{context_in}
 use Rattle.world_moves.specs.Cancels.{waiting_for}
 use Rattle.world_moves.specs.Describing.{Carries}
 use Rattle.node_parts.specs.Starting.{task_for}
@@ -33,8 +36,11 @@ use Rattle.world_moves.proofs.DescriptionsStart.{new_number, rows_put, carried_p
 use Rattle.world_moves.proofs.QuietCounts.{still_counts}
 use Rattle.world_moves.proofs.CutShort.{cut_only}
 use Rattle.task_work.specs.Works.{is_page, new_work}
-use Rattle.world_moves.proofs.ChildParts.{part_no_page, sent_part}
+use Rattle.world_moves.proofs.AskedOwn.{sent_there}
+use Rattle.world_moves.proofs.Lent.{copied_alike}
 use Rattle.world_moves.proofs.PagesAfter.{quiet_pages, put_pages}
+use Rattle.world_moves.specs.Describing.{longest_tick}
+use Rattle.world_moves.proofs.DescriptionsAfter.{longer}
 use Rattle.world_moves.proofs.requests.deliver_request.Goals as goal
 
 pub child_of-requires : goal.child_of-requires
@@ -72,8 +78,9 @@ with_work-requires c =
     let token = c.take_request-token.result.0 in
     let a = arrives s.cluster s.corpus.now s.script.now s.history _ _ s.flight c.requires.tied.ties c.args.nth _ _ _ _ c.take_request-token.ensures.taken in
     let asked : c.request_at-request.result.now ≡ a.asked = cc (c.request_at-request.ensures, a.stands) in
-    let part = sent_part s.cluster s.corpus.now s.script.now s.history _ _ s.flight c.requires.tied.ties token.parent token.ask a.asked a.requested a.request in
-    record { given = sym (ap is_page asked ∙ part_no_page a.asked part) }
+    let shows = c.page_asked-page.ensures ∙ (λ i. asked_page (λ id. context_in (c.as_slice.ensures.value i) id) (Some (asked i))) in
+    let there = sent_there s.cluster s.corpus.now s.script.now s.history c.requires.tied.ties.lawful s.contexts.items c.requires.tied.pages token.parent token.ask a.asked a.requested a.request in
+    record { given = sym (copied_alike c.page_asked-page.result) ∙ ap is_some shows ∙ there ∙ sym (ap is_page asked) }
 
 pub returns-in_ok-running-in-Ok-put_on-clause-delivered : goal.returns-in_ok-running-in-Ok-put_on-clause-delivered
 returns-in_ok-running-in-Ok-put_on-clause-delivered c =
@@ -96,18 +103,19 @@ returns-in_ok-running-in-Ok-put_on-clause-tied c =
     let put : IsPutOn s.tables.items c.take_request-token.result.1 t c.in-Ok.child c.put_on.new.tables.items = record { id = c.in-Ok-put_on.ensures.id; row = c.in-Ok-put_on.ensures.row; free = c.in-Ok-put_on.ensures.free } in
     let asked : c.request_at-request.result.now ≡ a.asked = cc (c.request_at-request.ensures, a.stands) in
     let headers = c.take_request-token.result.3 in
-    let is : running ≡ first t (Some token) true running.work headers = c.in_ok-running-in-Ok-put_on.ensures.running
-    ∙ ap (λ (o : Option Token). first t o true running.work headers) c.in-Ok-put_on.ensures.token in
-    let work : new_work t a.asked s.cluster.shards None ≡ Some running.work = ap (λ (r : Request). new_work t r s.cluster.shards None) (sym asked) ∙ c.in_ok-running-in-Ok-put_on.ensures.work in
-    let part = sent_part s.cluster s.corpus.now s.script.now s.history _ _ s.flight c.requires.tied.ties token.parent token.ask a.asked a.requested a.request in
+    let is : running ≡ first t (Some token) true a.asked running.work headers = c.in_ok-running-in-Ok-put_on.ensures.running
+    ∙ (λ i. first t (c.in-Ok-put_on.ensures.token i) true (asked i) running.work headers) in
+    let page = option_copied c.page_asked-page.result in
+    let work : new_work t a.asked s.cluster.shards page ≡ Some running.work = ap (λ (r : Request). new_work t r s.cluster.shards page) (sym asked) ∙ c.in_ok-running-in-Ok-put_on.ensures.work in
     let carried : headers ≡ headers_of (scripted s.script.now) token.parent s.history = all_here (Carries s.script.now s.history) s.flight c.args.nth _ c.requires.tied.tells.carried c.take_request-token.ensures.taken in
     let child = c.in-Ok.ensures a.asked a.stands ∙ ap (λ q. task_for a.asked (Some q) s.clock headers) c.parent-parent.ensures in
     both_ok c.keep_started.result _ _ _ c.keep_started.ensures.happened c.keep_started.ensures.kept (λ event kept. (let happened : c.keep_started.new.history ≡ Put t token.parent token.ask ∷ s.history = cc (event, c.id-task.ensures, c.parent-parent.ensures, c.ask-ask.ensures) in
     let changed = subst (λ (k : TaskId). (q : TaskId) → task_at c.keep_started.new.tasks q ≡ cond (is_at (task_id_cmp k) q) (Some running) (task_at s.tasks q)) (ap (λ (r : Running). r.ticket.id) is) kept in
+    let ties = after_put s.cluster s.corpus.now s.script.now s.history (task_at s.tasks) s.tables.items s.flight c.requires.tied.ties c.requires.tied.awaits c.args.nth token c.take_request-token.result.1 _ a t _ _ put running (task_at c.keep_started.new.tasks) headers is page work carried
+    c.in_ok-running-in-Ok-put_on.ensures.begun (at_changed t (Some running) (task_at s.tasks) _ changed) (off_changed t (Some running) (task_at s.tasks) _ changed) in
     record {
       ties = same_ties s.cluster s.corpus.now s.script.now (task_at c.keep_started.new.tasks) _ _ _ _ _ _ happened refl c.take_request-token.ensures.rest
-          (after_put s.cluster s.corpus.now s.script.now s.history (task_at s.tasks) s.tables.items s.flight c.requires.tied.ties c.requires.tied.awaits c.args.nth token c.take_request-token.result.1 _ a t _ _ put running (task_at c.keep_started.new.tasks) headers is work carried
-          c.in_ok-running-in-Ok-put_on.ensures.begun (at_changed t (Some running) (task_at s.tasks) _ changed) (off_changed t (Some running) (task_at s.tasks) _ changed));
+          ties;
       cancels = same_cancels s.cluster _ _ _ _ _ _ _ _ happened refl
           (noted_put s.cluster s.history s.tables.items c.requires.tied.ties.listed c.take_request-token.result.1 a.low a.high t _ _ put c.requires.tied.ties.lawful (λ t. waiting_for t s.history) _ _ _ _ c.requires.tied.cancels token.parent token.ask (ap (λ x. x.parent) child));
       counts = rw happened (still_counts None (Put t token.parent token.ask) s.history _ refl c.requires.tied.counts);
@@ -119,9 +127,11 @@ returns-in_ok-running-in-Ok-put_on-clause-tied c =
             (new_number s.cluster s.script.now s.history s.tables.items c.requires.tied.ties.listed c.take_request-token.result.1 a.low a.high t _ _ put c.requires.tied.ties.lawful) c.requires.tied.tells.carried token.parent token.ask);
         clock_is = c.requires.tied.tells.clock_is;
         clock_low = c.requires.tied.tells.clock_low;
+        clock_high = longer longest_tick s.clock (length s.history) (length (Put t token.parent token.ask ∷ s.history)) (omega arith) c.requires.tied.tells.clock_high;
         few_begun = c.requires.tied.tells.few_begun;
       });
-      pages = rw happened (put_pages s.cluster s.script.now s.history s.contexts.items c.requires.tied.pages t token.parent token.ask a.asked a.request part);
+      pages = rw happened (put_pages s.cluster s.corpus.now s.script.now s.history s.contexts.items c.requires.tied.pages c.requires.tied.ties.lawful t token.parent token.ask ties.lawful.0);
+      shards = rw happened c.requires.tied.shards;
       awaits = subst AwaitsNoMark (sym happened) tt;
     }))
 
@@ -157,7 +167,8 @@ returns-in-Some-clause-tied c =
       counts = rw happened (still_counts None (Reject to token.parent token.ask) s.history _ refl c.requires.tied.counts);
       tells = rw (happened, c.in-Err-Full.ensures.err, answered) (quiet_sent s.script.now s.history s.tables.items s.flight _ (Reject to token.parent token.ask) _ refl
           (carry_both s.script.now s.history (remove s.flight c.args.nth) (rejected token (length s.history) ∷ []) (carry_taken s.script.now s.history s.flight c.args.nth c.requires.tied.tells.carried) (tt, tt)) c.requires.tied.tells);
-      pages = rw happened (quiet_pages s.cluster s.script.now s.history s.contexts.items c.requires.tied.pages (Reject to token.parent token.ask) refl);
+      pages = rw happened (quiet_pages s.cluster s.corpus.now s.script.now s.history s.contexts.items c.requires.tied.pages (Reject to token.parent token.ask) refl);
+      shards = rw happened c.requires.tied.shards;
       awaits = subst AwaitsNoMark (sym happened) tt;
     }))
 

@@ -1,52 +1,90 @@
-use Rattle.std.proofs.Common.{◌∙◌, Some, refl, ap, sym, subst, None}
-use Rattle.std.specs.Option.{option_copied_mut}
-use Rattle.task_work.specs.Works.{IsWorkOn, with_turn}
+use Rattle.std.proofs.Common.{rules, ◌≡◌, ◌∙◌, ◌∷◌, Some, ap, sym, subst}
+use Rattle.std.specs.Prelude.{OnSome, OnErr}
+use Rattle.task_work.specs.Works.{place_of}
 use Rattle.task_events.specs.declared.event.Event.TheVariants.{Work}
-use Rattle.world_moves.specs.Cancels.{waiting_for}
-use Rattle.world_moves.specs.Ties.{task_at, looked_at}
-use Rattle.corpus_shards.proofs.Cases.{some_of}
+use Rattle.task_events.specs.Written.{with_notes}
+use Rattle.corpus_shards.specs.Stored.{Replaces}
+use Rattle.corpus_shards.proofs.Cases.{some_of, then_ok, then_err}
+use Rattle.world_moves.specs.Good.{so_far}
+use Rattle.world_moves.specs.Moves.{IsPartOf, IsCutShort}
+use Rattle.world_moves.specs.Ties.{IsTied, task_at, turned_in}
 use Rattle.world_moves.proofs.KeptTasks.{at_changed, off_changed}
-use Rattle.world_moves.proofs.StepsAfter.{is_kept, kept_running}
-use Rattle.world_moves.proofs.TurnsAfter.{is_on, after_turn}
-use Rattle.world_moves.proofs.CancelsUntouched.{noted}
-use Rattle.world_moves.proofs.DescriptionsAfter.{quiet}
-use Rattle.world_moves.proofs.QuietCounts.{still_counts}
-use Rattle.world_moves.proofs.PagesAfter.{quiet_pages}
+use Rattle.world_moves.proofs.Parts.{part_lawful, part_plain}
+use Rattle.world_moves.proofs.TurnTies.{placed, nothing_yet, shard_there, works_on, noted_is, turn_tied}
 use Rattle.world_moves.proofs.turns.turn.Goals as goal
 
-pub unreachable-requires : goal.unreachable-requires
-unreachable-requires c =
-    let s = c.args.state.now in
-    is_kept s.cluster s.corpus.now s.script.now s.history _ _ _ c.requires.tied.ties c.args.task c.requires.live (sym c.get_mut.ensures.value ∙ ap option_copied_mut c.in_default.is)
+pub unreachable-requires-in_default-place : goal.unreachable-requires-in_default-place
+unreachable-requires-in_default-place c =
+    placed c.args.state.now c.requires.tied c.args.task c.in-Some.running.now c.requires.live c.requires.passed c.requires.unmarked (sym c.in-Some.ensures.value) c.requires.next (sym c.in_default-place.ensures)
 
-pub turn-requires : goal.turn-requires
-turn-requires c =
+-- nothing has come yet
+pub returns-in_default-copy-clause-part : goal.returns-in_default-copy-clause-part
+returns-in_default-copy-clause-part c = nothing_yet c.args.state.now c.requires.tied c.args.task c.in-Some.running.now c.requires.live c.requires.passed c.requires.unmarked (sym c.in-Some.ensures.value) c.requires.next
+
+pub returns-in_default-make-clause-part : goal.returns-in_default-make-clause-part
+returns-in_default-make-clause-part c = nothing_yet c.args.state.now c.requires.tied c.args.task c.in-Some.running.now c.requires.live c.requires.passed c.requires.unmarked (sym c.in-Some.ensures.value) c.requires.next
+
+pub returns-in_default-turn-clause-part : goal.returns-in_default-turn-clause-part
+returns-in_default-turn-clause-part c = nothing_yet c.args.state.now c.requires.tied c.args.task c.in-Some.running.now c.requires.live c.requires.passed c.requires.unmarked (sym c.in-Some.ensures.value) c.requires.next
+
+pub get_mut-requires-2 : goal.get_mut-requires-2
+get_mut-requires-2 c =
     let s = c.args.state.now in
-    let r = c.in-Some.running.now in
-    let was = sym c.get_mut.ensures.value ∙ ap option_copied_mut c.in-Some.is in
-    let runs = kept_running s.cluster s.corpus.now s.script.now s.history _ _ _ c.requires.tied.ties c.args.task c.requires.live r was in
-    let next = rw was at c.requires.next in
-    rw (c.shard_of_work-shard.ensures, c.requires.shards.shards_are) (next _ (is_on s.cluster s.corpus.now c.args.task _ _ _ _ _ _ r.work runs.works))
+    let name : c.as_str-2.result.now ≡ c.in-Some-place.index.now = c.as_str-2.ensures ∙ c.get-2.ensures ∙ c.in-Ok.ensures in
+    let place : place_of c.in-Some.running.now.work ≡ Some (c.as_str-2.result.now, c.in-Some-place.number) = sym c.in-Some-place.ensures ∙ ap (λ index. Some (index, c.in-Some-place.number)) (sym name) in
+    let has = c.in-Ok-make.ensures.written (so_far s.corpus.now s.script.now s.history) s.cluster.shards c.requires.tied.shards.has in
+    shard_there c.args.state.now c.requires.tied c.args.task c.in-Some.running.now c.requires.live c.requires.passed c.requires.unmarked (sym c.in-Some.ensures.value) c.requires.next c.as_str-2.result.now c.in-Some-place.number place c.make.new.self c.make.new.self has
+
+-- the notes are those of the turn
+noted : (c : goal.After-drop-index-inside-2) → turned_in c.args.state.now c.args.task ≡ with_notes c.as_slice.result.now (Work c.args.task ∷ c.args.state.now.history)
+noted c =
+    let s = c.args.state.now in
+    let name : c.as_str-2.result.now ≡ c.in-Some-place.index.now = c.as_str-2.ensures ∙ c.get-2.ensures ∙ c.in-Ok.ensures in
+    let place : place_of c.in-Some.running.now.work ≡ Some (c.as_str-2.result.now, c.in-Some-place.number) = sym c.in-Some-place.ensures ∙ ap (λ index. Some (index, c.in-Some-place.number)) (sym name) in
+    let has = c.in-Ok-make.ensures.written (so_far s.corpus.now s.script.now s.history) s.cluster.shards c.requires.tied.shards.has in
+    noted_is c.args.state.now c.requires.tied c.args.task c.in-Some.running.now c.requires.live c.requires.passed c.requires.unmarked (sym c.in-Some.ensures.value) c.requires.next c.as_str-2.result.now c.in-Some-place.number place c.make.new.self c.make.new.self has c.in-Some-get_mut.shard.now c.in-Some-get_mut.ensures.writes
+    c.as_slice.result.now (c.as_slice.ensures.value ∙ c.in-Ok-turn.ensures.notes)
+
+-- and the tables fit the past after all of it
+tied_then : (c : goal.After-drop-index-inside-2) → IsTied (record c.args.state.now {
+  shards = c.get_mut-2.follows.lender c.turn.new.shard;
+  history = turned_in c.args.state.now c.args.task;
+  tasks = c.get_mut.follows.lender (record c.in-Some.running.now { work = c.turn.new.self });
+})
+tied_then c =
+    let s = c.args.state.now in
+    let w = record c.in-Some.running.now { work = c.turn.new.self } in
+    let changed = ((c.get_mut.follows.holds w).3 (some_of _ _ (sym c.in-Some.ensures.value))).0 in
+    let name : c.as_str-2.result.now ≡ c.in-Some-place.index.now = c.as_str-2.ensures ∙ c.get-2.ensures ∙ c.in-Ok.ensures in
+    let place : place_of c.in-Some.running.now.work ≡ Some (c.as_str-2.result.now, c.in-Some-place.number) = sym c.in-Some-place.ensures ∙ ap (λ index. Some (index, c.in-Some-place.number)) (sym name) in
+    let has = c.in-Ok-make.ensures.written (so_far s.corpus.now s.script.now s.history) s.cluster.shards c.requires.tied.shards.has in
+    let was_on = works_on c.args.state.now c.requires.tied c.args.task c.in-Some.running.now c.requires.live c.requires.passed c.requires.unmarked (sym c.in-Some.ensures.value) c.requires.next c.as_str-2.result.now c.in-Some-place.number place c.make.new.self c.make.new.self has c.in-Some-get_mut.shard.now c.in-Some-get_mut.ensures.writes in
+    turn_tied c.args.state.now c.requires.tied c.args.task c.in-Some.running.now c.requires.live c.requires.passed c.requires.unmarked (sym c.in-Some.ensures.value) c.requires.next c.as_str-2.result.now c.in-Some-place.number place c.make.new.self (c.get_mut-2.follows.lender c.turn.new.shard) has c.in-Some-get_mut.shard.now c.in-Some-get_mut.ensures.writes
+    c.turn.new.self c.turn.new.shard (c.in-Ok-turn.ensures.ok was_on) (c.in-Ok-turn.ensures.holds_on was_on) c.in-Ok-turn.ensures.written (search rules) (subst (λ o. OnSome o (Replaces c.as_str-2.result.now c.in-Some-place.number c.turn.new.shard c.make.new.self (c.get_mut-2.follows.lender c.turn.new.shard))) c.in-Some-get_mut.is (c.get_mut-2.follows.holds c.turn.new.shard)) c.make.ensures.of_corpus (c.get_mut.follows.lender w)
+    (at_changed c.args.task (Some w) (task_at s.tasks) _ changed) (off_changed c.args.task (Some w) (task_at s.tasks) _ changed)
 
 pub returns-clause-tied : goal.returns-clause-tied
 returns-clause-tied c =
     let s = c.args.state.now in
-    let r = c.in-Some.running.now in
-    let w = record r { work = c.turn.new.self } in
-    let was = sym c.get_mut.ensures.value ∙ ap option_copied_mut c.in-Some.is in
-    let changed = ((c.get_mut.follows.holds w).3 (some_of _ _ was)).0 in
-    let runs = kept_running s.cluster s.corpus.now s.script.now s.history _ _ _ c.requires.tied.ties c.args.task c.requires.live r was in
-    let next = rw was at c.requires.next in
-    let shard = c.shard_of_work-shard.ensures ∙ ap (λ stored. looked_at stored r.work) c.requires.shards.shards_are in
-    let on = is_on s.cluster s.corpus.now c.args.task _ _ _ _ _ _ r.work runs.works in
-    let was_on = subst (λ writes. IsWorkOn r.work writes) (sym shard) on in
-    rw c.in_ok-append.ensures.ok (record {
-      ties = after_turn s.cluster s.corpus.now s.script.now s.history _ _ _ c.requires.tied.ties c.args.task r c.turn.new.self _ c.requires.tied.awaits c.requires.live c.requires.passed c.requires.unmarked was
-          (next _ on) (c.in-Ok.ensures.ok was_on ∙ ap (with_turn r.work) shard) (subst (λ writes. IsWorkOn c.turn.new.self writes) shard (c.in-Ok.ensures.holds_on was_on))
-          (at_changed c.args.task (Some w) (task_at s.tasks) _ changed) (off_changed c.args.task (Some w) (task_at s.tasks) _ changed);
-      cancels = noted s.cluster (λ t. waiting_for t s.history) s.history _ _ _ _ _ c.requires.tied.cancels (Work c.args.task) refl refl;
-      counts = still_counts None (Work c.args.task) s.history _ refl c.requires.tied.counts;
-      tells = quiet s.script.now s.history _ _ _ (Work c.args.task) refl c.requires.tied.tells;
-      pages = quiet_pages s.cluster s.script.now s.history s.contexts.items c.requires.tied.pages (Work c.args.task) refl;
-      awaits = tt;
+    then_ok c.note_turn.result _ _ c.note_turn.ensures.happened (λ happened. subst (λ past. IsTied (record s {
+      shards = c.get_mut-2.follows.lender c.turn.new.shard;
+      history = past;
+      tasks = c.get_mut.follows.lender (record c.in-Some.running.now { work = c.turn.new.self });
+    })) (noted c ∙ sym happened) (tied_then c))
+
+pub returns-clause-part : goal.returns-clause-part
+returns-clause-part c = subst (λ past. OnErr c.note_turn.result (IsPartOf c.args.state.now.history c.note_turn.new.history past)) (sym (noted c)) c.note_turn.ensures.part
+
+pub returns-clause-laws : goal.returns-clause-laws
+returns-clause-laws c =
+    let s = c.args.state.now in
+    let after = tied_then c in
+    then_err c.note_turn.result _ _ c.note_turn.ensures.part (λ part.
+    let first = subst (IsPartOf s.history c.note_turn.new.history) (sym (noted c)) part in
+    record {
+      lawful = part_lawful s.cluster s.corpus.now s.script.now s.history c.note_turn.new.history (turned_in s c.args.task) first after.ties.lawful;
+      plain = part_plain s.cluster s.corpus.now s.script.now s.history c.note_turn.new.history (turned_in s c.args.task) first after.ties.plain;
     })
+
+pub returns-clause-full : goal.returns-clause-full
+returns-clause-full c = λ failed. subst (λ past. IsCutShort (λ new. IsPartOf c.args.state.now.history new past) c.note_turn.new.history) (sym (noted c)) (c.note_turn.ensures.full failed)

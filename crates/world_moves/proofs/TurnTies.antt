@@ -1,0 +1,118 @@
+-- All tables of the world fit the past after a turn of work, with what it has written.
+use Rattle.std.proofs.Common.{◌≡◌, ◌<◌, ◌^◌, ℕ, true, false, List, ◌∷◌, ◌++◌, length, Option, Some, None, refl, sym, ap, subst, ◌∙◌}
+use Rattle.std.specs.Prelude.{IfSome}
+use Rattle.std.specs.BTreeMap.{BTreeMap, get}
+use Rattle.std.specs.Ordering.{nat_cmp}
+use Rattle.std.specs.HashMap.{get_by_text}
+use Rattle.std.specs.Global.{Vec}
+use Rattle.task_ids.specs.declared.task_id.TaskId.{TaskId}
+use Rattle.task_ids.specs.declared.doc.Doc.{Doc}
+use Rattle.task_events.specs.declared.event.Event.TheVariants.{Work as worked, Write}
+use Rattle.task_events.specs.declared.request.WriteNote.{WriteNote}
+use Rattle.task_events.specs.declared.step.Do.TheVariants.{Turn}
+use Rattle.task_events.specs.Bans.{mark_of}
+use Rattle.task_events.specs.Lawful.{AwaitsNoMark}
+use Rattle.task_events.specs.Requests.{request_of}
+use Rattle.task_events.specs.Same.{same_task}
+use Rattle.task_events.specs.Tasks.{is_live, is_new}
+use Rattle.task_events.specs.Written.{with_notes}
+use Rattle.task_work.specs.declared.work.Work.{Work}
+use Rattle.task_work.specs.Works.{IsWorkOn, next_of, place_of, docs_next, with_turn, work_notes}
+use Rattle.command_roots.specs.Roots.{scripted}
+use Rattle.corpus_shards.specs.declared.Shards.{Shards}
+use Rattle.corpus_shards.specs.Stored.{HasWritten, Replaces, is_of_corpus, writes_in}
+use Rattle.corpus_shards.proofs.Appended.{appended}
+use Rattle.node_parts.specs.declared.running.Running.{Running}
+use Rattle.node_parts.specs.Running.{DoesNext}
+use Rattle.world_moves.specs.declared.state.State.{State}
+use Rattle.world_moves.specs.Cancelling.{Cancelling}
+use Rattle.world_moves.specs.Cancels.{waiting_for}
+use Rattle.world_moves.specs.Describing.{Describing}
+use Rattle.world_moves.specs.Good.{own_writes, so_far}
+use Rattle.world_moves.specs.Left.{HasLeft, left_in}
+use Rattle.world_moves.specs.Moves.{IsPartOf}
+use Rattle.world_moves.specs.Paging.{Paging}
+use Rattle.world_moves.specs.Ties.{IsTied, task_at, turned_in}
+use Rattle.world_moves.proofs.CancelsUntouched.{noted}
+use Rattle.world_moves.proofs.DescriptionsAfter.{quiet}
+use Rattle.world_moves.proofs.NoteParts.{none_yet}
+use Rattle.world_moves.proofs.PagesAfter.{quiet_pages}
+use Rattle.world_moves.proofs.QuietCounts.{still_counts}
+use Rattle.world_moves.proofs.TurnsAfter as turns
+use Rattle.world_moves.proofs.WritesAfter.{notes_keep}
+
+module _ (s : State) (tied : IsTied s) (t : TaskId) (r : Running) (live : is_live t s.history ≡ true) (passed : is_new t s.history ≡ false) (unmarked : mark_of t s.history ≡ None) (here : task_at s.tasks t ≡ Some r)
+    (does : DoesNext (task_at s.tasks t) s.clock Turn) where
+  -- what its shard has before it
+  abbrev own : List Doc
+  own = turns.own s.cluster s.corpus.now s.script.now s.history (task_at s.tasks) s.tables.items s.flight tied.ties t s.clock r live passed unmarked here
+
+  pub next : next_of r.work own s.clock ≡ Turn
+  next = let laws = turns.laws s.cluster s.corpus.now s.script.now s.history (task_at s.tasks) s.tables.items s.flight tied.ties t s.clock r live passed unmarked here in subst (λ o. DoesNext o s.clock Turn) here does own laws.on
+
+  pub placed : place_of r.work ≡ None → ⊥
+  placed none = turns.has_place s.cluster s.corpus.now s.script.now s.history (task_at s.tasks) s.tables.items s.flight tied.ties t s.clock r live passed unmarked here next none
+
+  pub past_is : turned_in s t ≡ with_notes (work_notes r.work own) (worked t ∷ s.history)
+  past_is = turns.past_is s.cluster s.corpus.now s.script.now s.history (task_at s.tasks) s.tables.items s.flight tied.ties t s.clock r live passed unmarked here
+
+  -- nothing of it has come yet
+  pub nothing_yet : IsPartOf s.history s.history (turned_in s t)
+  nothing_yet = subst (IsPartOf s.history s.history) (sym past_is) (none_yet (worked t) (work_notes r.work own) s.history s.history refl)
+
+  -- it is the turn over a shard, as it was found
+  module _ (index : List ℕ) (number : ℕ) (place : place_of r.work ≡ Some (index, number)) (old new : Shards) (has : HasWritten (so_far s.corpus.now s.script.now s.history) s.cluster.shards old) where
+    pub shard_there : IfSome (get_by_text old.by_index index) (λ list. number < length list.items)
+    shard_there = of_list (get_by_text old.by_index index) (has.as_many index)
+      where
+        low : number < s.cluster.shards
+        low = turns.shard_there s.cluster s.corpus.now s.script.now s.history (task_at s.tasks) s.tables.items s.flight tied.ties t s.clock r live passed unmarked here index number place
+
+        of_list : (o : Option (Vec (List Doc))) → IfSome o (λ list. length list.items ≡ s.cluster.shards) → IfSome o (λ list. number < length list.items)
+        of_list None many = tt
+        of_list (Some list) many = subst (λ n. number < n) (sym many) low
+
+    module _ (found : List Doc) (there : found ≡ writes_in old index number) where
+      pub is_own : found ≡ own
+      is_own = there ∙ has.each index number ∙ sym (turns.own_at s.cluster s.corpus.now s.script.now s.history (task_at s.tasks) s.tables.items s.flight tied.ties t s.clock r live passed unmarked here index number place)
+
+      pub works_on : IsWorkOn r.work found
+      works_on = let laws = turns.laws s.cluster s.corpus.now s.script.now s.history (task_at s.tasks) s.tables.items s.flight tied.ties t s.clock r live passed unmarked here in subst (IsWorkOn r.work) (sym is_own) laws.on
+
+      pub noted_is : (notes : List WriteNote) → notes ≡ work_notes r.work found → turned_in s t ≡ with_notes notes (worked t ∷ s.history)
+      noted_is notes are = past_is ∙ ap (λ those. with_notes those (worked t ∷ s.history)) (sym (are ∙ ap (work_notes r.work) is_own))
+
+      module _ (w : Work) (left : List Doc) (turned : w ≡ with_turn r.work found) (on : IsWorkOn w left) (written : left ≡ found ++ docs_next r.work) (few : length left < 2 ^ 32)
+          (replaces : Replaces index number left old new) (of_corpus : (q : List ℕ) → is_of_corpus old q ≡ is_of_corpus s.shards q) (after : BTreeMap TaskId Running) (now_here : task_at after t ≡ Some (record r { work = w })) (others : (q : TaskId) → same_task t q ≡ false → task_at after q ≡ task_at s.tasks q) where
+        has_later : HasWritten (so_far s.corpus.now s.script.now (with_notes (work_notes r.work own) (worked t ∷ s.history))) s.cluster.shards new
+        has_later = subst (λ now. HasWritten now s.cluster.shards new) (sym (turns.later_is s.cluster s.corpus.now s.script.now s.history (task_at s.tasks) s.tables.items s.flight tied.ties t s.clock r live passed unmarked here index number place))
+            (appended (so_far s.corpus.now s.script.now s.history) s.cluster.shards old new index number (docs_next r.work) has
+            (subst (λ those. Replaces index number those old new) (written ∙ ap (λ those. those ++ docs_next r.work) there) replaces)
+            (turns.in_its_shard s.cluster s.corpus.now s.script.now s.history (task_at s.tasks) s.tables.items s.flight tied.ties t s.clock r live passed unmarked here index number place)
+            (subst (λ those. length those < 2 ^ 32) (sym replaces.here) few))
+
+        shard_later : own_writes s.cluster (so_far s.corpus.now s.script.now (with_notes (work_notes r.work own) (worked t ∷ s.history))) (request_of (scripted s.script.now) t s.history) ≡ left
+        shard_later = turns.own_later s.cluster s.corpus.now s.script.now s.history (task_at s.tasks) s.tables.items s.flight tied.ties t s.clock r live passed unmarked here index number place ∙ sym (has_later.each index number) ∙ replaces.here
+
+        tied_so : IsTied (record s { shards = new; history = with_notes (work_notes r.work own) (worked t ∷ s.history); tasks = after })
+        tied_so = record {
+          ties = turns.after_work s.cluster s.corpus.now s.script.now s.history (task_at s.tasks) s.tables.items s.flight tied.ties t s.clock r live passed unmarked here
+              (turns.grows_so s.cluster s.corpus.now s.script.now s.history (task_at s.tasks) s.tables.items s.flight tied.ties t s.clock r live passed unmarked here index number place)
+              w next (turned ∙ ap (with_turn r.work) is_own) (shard_later ∙ written ∙ ap (λ those. those ++ docs_next r.work) is_own) (subst (IsWorkOn w) (sym shard_later) on)
+              tied.awaits (task_at after) now_here others;
+          cancels = notes_keep (λ g. Cancelling s.cluster (λ u. waiting_for u g) g s.tables.items (get nat_cmp s.roots) s.bans.items s.cores.items s.listings)
+              (λ i k outcome id g known. noted s.cluster (λ u. waiting_for u g) g _ _ _ _ _ known (Write i k outcome id) refl refl) (work_notes r.work own) (worked t ∷ s.history)
+              (noted s.cluster (λ u. waiting_for u s.history) s.history _ _ _ _ _ tied.cancels (worked t) refl refl);
+          counts = notes_keep (λ g. HasLeft None g (left_in s.left)) (λ i k outcome id g counts. still_counts None (Write i k outcome id) g _ refl counts) (work_notes r.work own) (worked t ∷ s.history)
+              (still_counts None (worked t) s.history _ refl tied.counts);
+          tells = notes_keep (λ g. Describing s.script.now g s.tables.items s.flight s.clock) (λ i k outcome id g tells. quiet s.script.now g _ _ _ (Write i k outcome id) refl tells) (work_notes r.work own) (worked t ∷ s.history)
+              (quiet s.script.now s.history _ _ _ (worked t) refl tied.tells);
+          pages = notes_keep (λ g. Paging s.cluster s.corpus.now s.script.now g s.contexts.items)
+              (λ i k outcome id g pages. quiet_pages s.cluster s.corpus.now s.script.now g s.contexts.items pages (Write i k outcome id) refl) (work_notes r.work own) (worked t ∷ s.history)
+              (quiet_pages s.cluster s.corpus.now s.script.now s.history s.contexts.items tied.pages (worked t) refl);
+          shards = record { has = has_later; of_corpus = λ q. replaces.of_corpus q ∙ of_corpus q ∙ tied.shards.of_corpus q };
+          awaits = notes_keep AwaitsNoMark (λ i k outcome id g awaits. tt) (work_notes r.work own) (worked t ∷ s.history) tt;
+        }
+
+        pub turn_tied : IsTied (record s { shards = new; history = turned_in s t; tasks = after })
+        turn_tied = subst (λ past. IsTied (record s { shards = new; history = past; tasks = after })) (sym past_is) tied_so

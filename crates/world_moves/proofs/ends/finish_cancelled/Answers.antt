@@ -1,0 +1,29 @@
+use Rattle.std.proofs.Common.{◌∙◌, refl, ap, sym, subst}
+use Rattle.std.specs.Prelude.{option_map}
+use Rattle.std.specs.Option.{option_copied}
+use Rattle.task_events.specs.declared.reply.Reply.TheVariants.{Cancelled}
+use Rattle.task_events.specs.Allowed.{EndAllowed}
+use Rattle.world_moves.specs.Ties.{counts_in}
+use Rattle.world_moves.proofs.CountsKept.{counted_so}
+use Rattle.world_moves.proofs.StepsAfter.{is_kept}
+use Rattle.world_moves.proofs.ends.finish_cancelled.Goals as goal
+
+pub unreachable-requires : goal.unreachable-requires
+unreachable-requires c =
+    let s = c.args.state.now in
+    is_kept s.cluster s.corpus.now s.script.now s.history _ _ _ c.requires.tied.ties c.args.task c.requires.live (sym c.get.ensures.value ∙ ap option_copied c.in_default.is)
+
+pub leave-requires-clause-leaves : goal.leave-requires-clause-leaves
+leave-requires-clause-leaves c =
+    let s = c.args.state.now in
+    let t = c.args.task in
+    let was = sym c.get.ensures.value ∙ ap option_copied c.in-Some.is in
+    let counts = counted_so s.cluster s.corpus.now s.script.now s.history _ _ _ c.requires.tied.ties t c.requires.live c.requires.passed _ was in
+    let says = c.cancelled-reply.ensures ∙ ap (Cancelled t c.args.cancel) (sym counts) in
+    let allowed : EndAllowed t (Cancelled t c.args.cancel (counts_in s t)) s.history = record {
+      goes_on = record { live = c.requires.live; passed = c.requires.passed };
+      answered = c.requires.answered;
+      cancelled = sym (ap (option_map (λ d. (t, d))) c.requires.marked);
+      no_rejection = refl;
+    } in
+    (refl, (c.args.cancel, says, subst (λ reply. EndAllowed t reply s.history) (sym says) allowed))
