@@ -21,9 +21,11 @@ use Rattle.script_lang.specs.declared.command.Script.{Script}
 use Rattle.script_lang.specs.KeepAlives.{day_ms}
 use Rattle.world_moves.specs.Moves.{Delivers, IsPartly, Starts}
 use Rattle.world_moves.specs.declared.state.State.{State}
-use Rattle.corpus_shards.specs.Stored.{has_index}
+use Rattle.world_moves.specs.Describing.{longest_tick}
+use Rattle.corpus_shards.specs.Placed.{has_index}
+use Rattle.corpus_shards.specs.Stored.{is_of_corpus}
 use Rattle.command_roots.specs.Roots.{body_or_none, command_at, context_named, least_size, request_in, root_request}
-use Rattle.world_moves.specs.Ties.{Keeps}
+use Rattle.world_moves.specs.Ties.{IsTied, Keeps}
 use Rattle.world_steps.specs.Runs.{AnswersStep, FirstMoves, Steps}
 use Rattle.world_steps.specs.declared.acting.Stepped.{Stepped}
 use Rattle.world_steps.specs.declared.acting.Stepped.TheVariants.{Done}
@@ -108,7 +110,7 @@ part_of_drain cluster corpus script h new part = begun (part_of_begin (closing s
   where
     begun : (new ≡ h) ⊎ (new ≡ Begin (closing script) ∷ h) → PartlyDrains cluster corpus script h new
     begun (inl same) = inl same
-    begun (inr same) = inr ([], Begin (closing script) ∷ h, refl, inl same)
+    begun (inr same) = inr ([], Begin (closing script) ∷ h, refl, ([], Begin (closing script) ∷ h, refl, inl same))
 
 -- ---- a root that comes where it can
 
@@ -152,6 +154,10 @@ module _ (cluster : Cluster) (corpus : Corpus) (index : List ℕ) (scroll : Opti
       → IsPartly (λ x y. (started : Bool) × Starts cluster x k node started y) h new → IsPartly Where h new
   partly_comes found h new good known part = partly_comes_where cluster (can_start corpus index scroll body) k node (can_come found good known) h new part
 
+-- the shards tell whether an index is of the corpus
+pub index_known : (s : State) → IsTied s → (index name : List ℕ) (found : Bool) → name ≡ index → found ≡ is_of_corpus s.shards name → has_index s.corpus.now.lines index ≡ found
+index_known s tied index name found same is = sym (tied.shards.of_corpus index) ∙ sym (ap (is_of_corpus s.shards) same) ∙ sym is
+
 -- ---- a page
 
 -- there is a page or a reason why there is none
@@ -174,6 +180,11 @@ asks_page script k h target keep opaque_id there id named = ap (option_and_then 
 pub day_more : (n k now : ℕ) → n + 1 ≡ k → now ≤ n * day_ms → now + day_ms ≤ k * day_ms
 day_more n k now next low = omega (arith, next, low)
 
+-- a day is not too long for a tick
+pub day_ticks : (ms : ℕ) → ms ≤ day_ms → ms ≤ longest_tick
+unfolding longest_tick
+day_ticks ms low = omega (arith, low)
+
 -- so far it has gone no further than a script has commands
 pub clock_low : (n now : ℕ) → n ≤ 65536 → now ≤ n * day_ms → now < 2 ^ 43
 clock_low n now few low = omega (arith, few, low)
@@ -193,6 +204,5 @@ pub keeps_on : {old now new : State} → Keeps old now → Keeps now new → Kee
 keeps_on first then = record {
   cluster = then.cluster ∙ first.cluster;
   corpus = then.corpus ∙ first.corpus;
-  shards = then.shards ∙ first.shards;
   script = then.script ∙ first.script;
 }

@@ -29,7 +29,8 @@ use Rattle.world_moves.specs.Listings.{IsNextChild, IsListStep, ListSteps}
 use Rattle.world_moves.specs.Moves.{IsDelivery, Delivers, IsStart, Starts}
 use Rattle.world_steps.proofs.ListingKeys.{one_listing}
 use Rattle.command_roots.specs.Roots.{command_at}
-use Rattle.world_steps.specs.Runs.{Steps, AnswersStep, FirstMoves, IsSettled, Passes, Settles}
+use Rattle.world_steps.specs.Draining.{IsNextDue, NoneLive, StartsAgain, Empties, ticked_to}
+use Rattle.world_steps.specs.Runs.{after_step, Steps, AnswersStep, FirstMoves, IsSettled, Passes, Settles}
 use Rattle.world_steps.specs.Scripts.{can_start, can_page, page_node, StartsWhere, DeliversWhere, ListsWhere, Does, Commands, HasRun, IsRun}
 
 some_one : {A : Type 0} (o : Option A) (x y : A) → o ≡ Some x → o ≡ Some y → x ≡ y
@@ -172,7 +173,7 @@ module _ (cluster : Cluster) (h : List Event) where
 
 module _ (cluster : Cluster) (corpus : Corpus) (script : Script) where
   steps_one : (t : TaskId) (h new other : List Event) → Steps cluster corpus script t h new → Steps cluster corpus script t h other → new ≡ other
-  steps_one t h new other (e, live, next, same) (f, live_too, next_too, same_too) = one_with_due h new other e f same same_too (some_one _ e f next next_too)
+  steps_one t h new other (e, live, next, same) (f, live_too, next_too, same_too) = same ∙ ap (λ x. after_step cluster corpus script x h) (some_one _ e f next next_too) ∙ sym same_too
 
   answers_one : (t : TaskId) (h new other : List Event) (a b : Stepped) → AnswersStep cluster corpus script t h a new → AnswersStep cluster corpus script t h b other → new ≡ other
   answers_one t h new other Done Done a b = steps_one t h new other a b
@@ -222,6 +223,39 @@ module _ (cluster : Cluster) (corpus : Corpus) (script : Script) where
   settles_one : (h new other : List Event) → Settles cluster corpus script h new → Settles cluster corpus script h other → new ≡ other
   settles_one h new other (s, (between, p)) (t, (others, q)) = passes_one h between new others other p s q t
 
+  -- ---- draining
+
+  -- the soonest moment is one
+  one_due : (h : List Event) (due other : ℕ) → IsNextDue cluster corpus script due h → IsNextDue cluster corpus script other h → due ≡ other
+  one_due h due other (there, least) (there_too, least_too) =
+      let low = least there_too.0 other there_too.1 in
+      let high = least_too there.0 due there.1 in
+      omega (arith, low, high)
+
+  -- who waits for a moment is live
+  none_due : (h : List Event) (due : ℕ) → NoneLive h → IsNextDue cluster corpus script due h → ⊥
+  none_due h due none ((t, e), least) = let gone = none t in let it = rw gone at e in cc
+
+  starts_one_way : (h : List Event) (between : List (List Event)) (start new : List Event) (others : List (List Event)) (begun other : List Event)
+      → StartsAgain cluster corpus script h between start → Settles cluster corpus script start new → NoneLive new
+      → StartsAgain cluster corpus script h others begun → Settles cluster corpus script begun other → NoneLive other → new ≡ other
+  starts_one_way h [] start new [] begun other same s none same_too t none_too =
+      settles_one h new other (subst (λ x. Settles cluster corpus script x new) same s) (subst (λ x. Settles cluster corpus script x other) same_too t)
+  starts_one_way h [] start new (rested ∷ more) begun other same s none (first, (due, next, rest)) t none_too =
+      let one : new ≡ rested = settles_one h new rested (subst (λ x. Settles cluster corpus script x new) same s) first in
+      absurd (none_due rested due (subst NoneLive one none) next)
+  starts_one_way h (rested ∷ later) start new [] begun other (first, (due, next, rest)) s none same t none_too =
+      let one : other ≡ rested = settles_one h other rested (subst (λ x. Settles cluster corpus script x other) same t) first in
+      absurd (none_due rested due (subst NoneLive one none_too) next)
+  starts_one_way h (rested ∷ later) start new (resting ∷ more) begun other (first, (due, next, rest)) s none (first_too, (moment, next_too, rest_too)) t none_too =
+      let one : resting ≡ rested = settles_one h resting rested first_too first in
+      let soonest : moment ≡ due = one_due rested moment due (subst (λ x. IsNextDue cluster corpus script moment x) one next_too) next in
+      starts_one_way (ticked_to due rested) later start new more begun other rest s none
+      (subst (λ x. StartsAgain cluster corpus script (ticked_to x rested) more begun) soonest (subst (λ x. StartsAgain cluster corpus script (ticked_to moment x) more begun) one rest_too)) t none_too
+
+  empties_one : (h new other : List Event) → Empties cluster corpus script h new → Empties cluster corpus script h other → new ≡ other
+  empties_one h new other (none, (between, start, starts, s)) (none_too, (others, begun, starts_too, t)) = starts_one_way h between start new others begun other starts s none starts_too t none_too
+
   -- ---- commands
 
   where_one : (b : Bool) (k node : ℕ) (h new other : List Event) → StartsWhere cluster b k node h new → StartsWhere cluster b k node h other → new ≡ other
@@ -261,4 +295,4 @@ module _ (cluster : Cluster) (corpus : Corpus) (script : Script) where
   pub run_one : (h g : List Event) → IsRun cluster corpus script h → IsRun cluster corpus script g → h ≡ g
   run_one h g (before, ran, a) (earlier, ran_too, b) =
       let one : before ≡ earlier = has_run_one (length script.commands) before earlier ran ran_too in
-      settles_one (Begin (length script.commands + 1) ∷ earlier) h g (subst (λ x. Settles cluster corpus script (Begin (length script.commands + 1) ∷ x) h) one a) b
+      empties_one (Begin (length script.commands + 1) ∷ earlier) h g (subst (λ x. Empties cluster corpus script (Begin (length script.commands + 1) ∷ x) h) one a) b

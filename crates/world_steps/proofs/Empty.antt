@@ -22,6 +22,8 @@ use Rattle.world_moves.specs.Cancels.{waiting_for}
 use Rattle.world_moves.specs.Cancelling.{Cancelling, IsEntryOf, IsRowOf, HasRows, HasBansAt, HasCoreAt}
 use Rattle.world_moves.specs.Describing.{Describing, DescribesAll, IsDescribed}
 use Rattle.world_moves.specs.Left.{HasLeft}
+use Rattle.world_moves.specs.Owning.{Owning}
+use Rattle.command_roots.specs.Roots.{scripted}
 use Rattle.world_moves.specs.Listings.{listing_cmp}
 use Rattle.world_steps.specs.World.{tables_from, cores_from, no_bans, no_contexts}
 
@@ -42,6 +44,7 @@ nothing_yet cluster corpus script tasks tables none are = record {
   listed = λ place. subst (λ ts. IsTableAt cluster place [] (slice_get ts place)) (sym are) (subst (λ p. IsTableAt cluster p [] (slice_get (tables_from 0 cluster.nodes cluster.slots) place)) (from_zero place) (table_at cluster 0 cluster.nodes place (from_zero cluster.nodes)));
   sent = refl;
   good = tt;
+  within = λ p k r asked. absurd (cc);
   plain = tt;
 }
 
@@ -82,7 +85,8 @@ nothing_told cluster script tables are = record {
   rows_are = each_node cluster (λ p o. DescribesAll script [] o) (λ p. new_table (p + 1) cluster.slots) tables are (λ p. All-nil (IsDescribed script [])) (λ p l. tt);
   carried = tt;
   clock_is = refl;
-  clock_low = omega arith;
+  clock_low = λ low. omega arith;
+  clock_high = omega arith;
   few_begun = omega arith;
 }
 
@@ -91,12 +95,24 @@ nothing_told cluster script tables are = record {
 none_in : (cluster : Cluster) (tables : List (FinMap task_id_cmp Context)) → tables ≡ no_contexts cluster.nodes → (id : TaskId) → context_in tables id ≡ None
 none_in cluster tables are id = each_node cluster (λ p o. option_and_then (λ table. get table id) o ≡ None) (λ p. empty) tables are (λ p. get-empty task_id_cmp id) (λ p l. refl) (id.node - 1)
 
-pub nothing_opened : (cluster : Cluster) (script : Script) (tables : List (FinMap task_id_cmp Context)) → tables ≡ no_contexts cluster.nodes → Paging cluster script [] tables
-nothing_opened cluster script tables are = record {
+-- nothing was asked for
+nothing_owned : (script : Script) → Owning (scripted script) []
+nothing_owned script = record {
+  stands = λ owner search own live. absurd (let none = own.parent in cc);
+  searches = λ q k ask asked. absurd (cc);
+  pages = λ q k ask asked. absurd (cc);
+  alone = λ q j k a b. absurd (let none = a.asked in cc);
+}
+
+pub nothing_opened : (cluster : Cluster) (corpus : Corpus) (script : Script) (tables : List (FinMap task_id_cmp Context)) → tables ≡ no_contexts cluster.nodes → Paging cluster corpus script [] tables
+nothing_opened cluster corpus script tables are = record {
   as_many = ap length are ∙ length-map-range_with_len (λ p. none) 0 cluster.nodes;
   stand = none_in cluster tables are;
   counts = λ id c e. absurd (cc);
-  used = λ t ask live e. absurd (cc);
+  within = λ id c e. absurd (cc);
+  page_within = λ t c e. absurd (cc);
+  used = λ t ask live passed e. absurd (cc);
+  owns = nothing_owned script;
 }
   where
     none : FinMap task_id_cmp Context

@@ -1,6 +1,6 @@
 -- What was known before a move, and what a move leaves when it came to its end.
 use Rattle.std.proofs.Common.{◌≡◌, ℕ, ◌+◌, ◌≤◌, List, [], ◌++◌, length, refl, sym, ap, subst, ◌∙◌, inl, inr, arith}
-use Rattle.std.specs.BTreeSet.{BTreeSet}
+use Rattle.world_steps.specs.declared.ready.Ready.{Ready}
 use Rattle.std.proofs.lemmas.List.{length-append}
 use Rattle.task_ids.specs.declared.task_id.TaskId.{TaskId}
 use Rattle.task_events.specs.declared.event.Event.{Event}
@@ -21,11 +21,11 @@ use Rattle.world_steps.specs.Runs.{AnswersStep, Steps}
 use Rattle.world_steps.proofs.Readiness.{had_ready as ready_before}
 use Rattle.world_steps.proofs.Turning.{Follows, stepped_there, listed_after}
 
-pub had_ready_by : (old new : State) (set : BTreeSet TaskId) (before : ℕ) → before ≡ length old.history → HasReady old set → Keeps old new → (events : List Event) → new.history ≡ events ++ old.history → HadReady new before set
-had_ready_by old new set before so_many known keeps events same = subst (λ n. HadReady new n set) (sym so_many) (ready_before old new set events known keeps same)
+pub had_ready_by : (old new : State) (ready : Ready) (before : ℕ) → before ≡ length old.history → HasReady old ready → Keeps old new → (events : List Event) → new.history ≡ events ++ old.history → HadReady new before ready
+had_ready_by old new ready before so_many known keeps events same = subst (λ n. HadReady new n ready) (sym so_many) (ready_before old new ready events known keeps same)
 
-pub had_ready : (old new : State) (set : BTreeSet TaskId) (before : ℕ) → before ≡ length old.history → HasReady old set → Keeps old new → Follows old.history new.history → HadReady new before set
-had_ready old new set before so_many known keeps (events, same, none) = had_ready_by old new set before so_many known keeps events same
+pub had_ready : (old new : State) (ready : Ready) (before : ℕ) → before ≡ length old.history → HasReady old ready → Keeps old new → Follows old.history new.history → HadReady new before ready
+had_ready old new ready before so_many known keeps (events, same, none) = had_ready_by old new ready before so_many known keeps events same
 
 pub not_past : (h new : List Event) (before : ℕ) → before ≡ length h → Follows h new → before ≤ length new
 not_past h new before so_many (events, same, none) = let all : length new ≡ length events + length h = ap length same ∙ length-append events h in omega (arith, all, so_many)

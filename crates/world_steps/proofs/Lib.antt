@@ -1,3 +1,4 @@
+pub mod AlarmKeys
 pub mod AllAnswered
 pub mod AllShown
 pub mod BansOver
@@ -6,6 +7,7 @@ pub mod CursorCuts
 pub mod Cutting
 pub mod Determined
 pub mod Empty
+pub mod Emptying
 pub mod FirstListing
 pub mod FirstReady
 pub mod Fitting
@@ -21,17 +23,22 @@ pub mod NamesAll
 pub mod NamesOne
 pub mod NamingEnds
 pub mod NextCut
+pub mod NextDue
 pub mod NoneDue
 pub mod PagesInOrder
 pub mod PagesStart
 pub mod Passing
 pub mod Plans
+pub mod ReadBefore
 pub mod Readiness
 pub mod Resting
 pub mod RootsAfter
 pub mod RunsAlone
 pub mod ShardsAnswered
+pub mod Soon
+pub mod Stances
 pub mod TargetsLive
+pub mod Timely
 pub mod Turning
 pub mod Unacted
 pub mod UsedAlone

@@ -69,10 +69,11 @@ module _ (cluster : Cluster) (h : List Event) (c : ℕ) (t : TaskId) (wait : Boo
       → Ties cluster corpus script (Cancel c t wait ∷ h) tasks tables flight
   ties_after_cancel corpus script tasks tables flight ties = record {
     lawful = cancel_lawful;
-    kept = kept_same cluster corpus (scripted script) (Cancel c t wait) h tasks refl ties.kept;
+    kept = kept_same cluster corpus (scripted script) (Cancel c t wait) h tasks refl refl ties.kept;
     listed = λ place. listed_same cluster (Cancel c t wait) h (λ n. refl) refl place _ (ties.listed place);
     sent = all_stay (Cancel c t wait) h flight _ ties.sent;
     good = ties.good;
+    within = ties.within;
     plain = ties.plain;
   }
 

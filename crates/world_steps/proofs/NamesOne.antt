@@ -32,9 +32,10 @@ pub ties_after_missing : (cluster : Cluster) (corpus : Corpus) (script : Script)
     → Ties cluster corpus script h tasks tables flight → AwaitsNoMark h → beginning h ≡ Some c → Ties cluster corpus script (NotFound c ∷ h) tasks tables flight
 ties_after_missing cluster corpus script h tasks tables flight c ties awaits begun = record {
   lawful = (begun, ties.lawful, awaits);
-  kept = kept_same cluster corpus (scripted script) (NotFound c) h tasks refl ties.kept;
+  kept = kept_same cluster corpus (scripted script) (NotFound c) h tasks refl refl ties.kept;
   listed = λ place. listed_same cluster (NotFound c) h (λ n. refl) refl place _ (ties.listed place);
   sent = all_stay (NotFound c) h flight _ ties.sent;
   good = ties.good;
+  within = ties.within;
   plain = ties.plain;
 }

@@ -24,11 +24,13 @@ use Rattle.world_moves.specs.declared.flight.Sent.{Sent}
 use Rattle.world_moves.specs.Cancelling.{Cancelling}
 use Rattle.world_moves.specs.Cancels.{answer_by, is_answered, is_due, left_of, waiting_for, waits_for_end, with_answer}
 use Rattle.world_moves.specs.Describing.{Describing}
+use Rattle.corpus_shards.specs.declared.Shards.{Shards}
+use Rattle.world_moves.specs.Good.{so_far}
 use Rattle.world_moves.specs.Paging.{Paging}
 use Rattle.world_moves.proofs.PagesAfter.{quiet_pages}
 use Rattle.task_events.specs.declared.context.Context.{Context}
 use Rattle.world_moves.specs.Left.{HasLeft}
-use Rattle.world_moves.specs.Ties.{Ties}
+use Rattle.world_moves.specs.Ties.{HoldsShards, Ties}
 use Rattle.world_moves.proofs.CancelAnswersAfter.{all_through}
 use Rattle.world_moves.proofs.CancelsUntouched.{noted}
 use Rattle.world_moves.proofs.DescriptionsAfter.{quiet}
@@ -92,18 +94,20 @@ module _ (cluster : Cluster) (h : List Event) (c : ℕ) (wait : Bool) (naming : 
       → (b : Bool) → Lawful cluster (answer_by b c ∷ h) → Ties cluster corpus script (answer_by b c ∷ h) tasks tables flight
   ties_by corpus script tasks tables flight ties true lawful = record {
     lawful = lawful;
-    kept = kept_same cluster corpus (scripted script) (AnswerDone c) h tasks refl ties.kept;
+    kept = kept_same cluster corpus (scripted script) (AnswerDone c) h tasks refl refl ties.kept;
     listed = λ place. listed_same cluster (AnswerDone c) h (λ n. refl) refl place _ (ties.listed place);
     sent = all_stay (AnswerDone c) h flight _ ties.sent;
     good = ties.good;
+    within = ties.within;
     plain = ties.plain;
   }
   ties_by corpus script tasks tables flight ties false lawful = record {
     lawful = lawful;
-    kept = kept_same cluster corpus (scripted script) (AnswerPlaced c) h tasks refl ties.kept;
+    kept = kept_same cluster corpus (scripted script) (AnswerPlaced c) h tasks refl refl ties.kept;
     listed = λ place. listed_same cluster (AnswerPlaced c) h (λ n. refl) refl place _ (ties.listed place);
     sent = all_stay (AnswerPlaced c) h flight _ ties.sent;
     good = ties.good;
+    within = ties.within;
     plain = ties.plain;
   }
 
@@ -127,12 +131,19 @@ module _ (cluster : Cluster) (h : List Event) (c : ℕ) (wait : Bool) (naming : 
   pub tells_after_answer : (script : Script) (tables : List Table) (flight : List Sent) (now : ℕ) → Describing script h tables flight now → Describing script (answer_by wait c ∷ h) tables flight now
   tells_after_answer script tables flight now d = tells_by script tables flight now d wait
 
-  pages_by : (script : Script) (contexts : List (FinMap task_id_cmp Context)) → Paging cluster script h contexts → (b : Bool) → Paging cluster script (answer_by b c ∷ h) contexts
-  pages_by script contexts p true = quiet_pages cluster script h contexts p (AnswerDone c) refl
-  pages_by script contexts p false = quiet_pages cluster script h contexts p (AnswerPlaced c) refl
+  pages_by : (corpus : Corpus) (script : Script) (contexts : List (FinMap task_id_cmp Context)) → Paging cluster corpus script h contexts → (b : Bool) → Paging cluster corpus script (answer_by b c ∷ h) contexts
+  pages_by corpus script contexts p true = quiet_pages cluster corpus script h contexts p (AnswerDone c) refl
+  pages_by corpus script contexts p false = quiet_pages cluster corpus script h contexts p (AnswerPlaced c) refl
 
-  pub pages_after_answer : (script : Script) (contexts : List (FinMap task_id_cmp Context)) → Paging cluster script h contexts → Paging cluster script (answer_by wait c ∷ h) contexts
-  pages_after_answer script contexts p = pages_by script contexts p wait
+  pub pages_after_answer : (corpus : Corpus) (script : Script) (contexts : List (FinMap task_id_cmp Context)) → Paging cluster corpus script h contexts → Paging cluster corpus script (answer_by wait c ∷ h) contexts
+  pages_after_answer corpus script contexts p = pages_by corpus script contexts p wait
+
+  pub shards_after_answer : (corpus : Corpus) (script : Script) (shards : Shards) → HoldsShards (so_far corpus script h) corpus cluster.shards shards → HoldsShards (so_far corpus script (answer_by wait c ∷ h)) corpus cluster.shards shards
+  shards_after_answer corpus script shards = by_kind wait
+    where
+      by_kind : (b : Bool) → HoldsShards (so_far corpus script h) corpus cluster.shards shards → HoldsShards (so_far corpus script (answer_by b c ∷ h)) corpus cluster.shards shards
+      by_kind true has = has
+      by_kind false has = has
 
   no_mark_by : (b : Bool) → AwaitsNoMark (answer_by b c ∷ h)
   no_mark_by true = tt

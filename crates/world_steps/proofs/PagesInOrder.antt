@@ -10,7 +10,7 @@ use Rattle.task_ids.specs.declared.doc.Doc.{Doc}
 use Rattle.task_ids.specs.declared.task_id.TaskId.{TaskId}
 use Rattle.task_events.specs.declared.context.Context.{Context}
 use Rattle.task_events.specs.declared.event.Event.{Event}
-use Rattle.task_events.specs.declared.event.Event.TheVariants.{Begin, Root, Ask, Refuse, End, Tick}
+use Rattle.task_events.specs.declared.event.Event.TheVariants.{Pass, Write, Begin, Root, Ask, Refuse, End, Tick}
 use Rattle.task_events.specs.declared.reply.FailedShard.{FailedShard}
 use Rattle.task_events.specs.declared.reply.Hit.{Hit}
 use Rattle.task_events.specs.declared.reply.Reply.{Reply}
@@ -25,7 +25,10 @@ use Rattle.task_events.specs.declared.request.SearchAsk.{SearchAsk}
 use Rattle.task_events.specs.Answers.{found_keys, has_failed, read_at, plain_answer}
 use Rattle.task_events.specs.Bans.{mark_of}
 use Rattle.task_events.specs.Clock.{clock}
-use Rattle.task_events.specs.Contexts.{opens_context, opened, with_use, given_back, cursor_in, after_root, after_end, context_at, page_of}
+use Rattle.task_events.specs.declared.reply.Counts.{Counts}
+use Rattle.task_events.specs.Steps.{counted}
+use Rattle.task_events.specs.Written.{line_of, next_doc}
+use Rattle.task_events.specs.Contexts.{opens_context, opened, with_use, given_back, cursor_in, after_taking, after_end, context_at, page_of}
 use Rattle.task_events.specs.Documents.{writes_of}
 use Rattle.task_events.specs.Lawful.{Lawful}
 use Rattle.task_events.specs.Readings.{Reading, search_reading, page_reading}
@@ -36,13 +39,17 @@ use Rattle.task_events.specs.Tasks.{is_live, has_ended}
 use Rattle.task_laws.proofs.Asks.{ask_facts}
 use Rattle.script_lang.specs.declared.command.Script.{Script}
 use Rattle.command_roots.specs.Roots.{scripted}
+use Rattle.search_phase.specs.Growth.{HaveGrown, AreWithin}
+use Rattle.search_phase.proofs.Growth.{AreWithin-grow, found_keys-grow, listed-grow, writes_of-grow}
 use Rattle.search_phase.proofs.Sorting.{by_test}
+use Rattle.world_moves.specs.Good.{so_far}
 use Rattle.world_moves.specs.Plain.{AnswersPlainly, EndsPlainly, IsPlainReply}
-use Rattle.world_moves.proofs.ContextsPast.{begun_there, unexpired_there, stands_ended}
+use Rattle.world_moves.proofs.ContextsPast.{begun_there, left_owned, unexpired_there, stands_ended}
 use Rattle.world_steps.specs.PagesFollow.{listed, cuts, shows_none, joined, is_of_context, shown_by, pages, gave_all, all_given, first_context}
 use Rattle.world_steps.specs.Scripts.{IsRunSoFar}
 use Rattle.world_steps.proofs.AllShown.{all_cut}
 use Rattle.world_steps.proofs.FromFirst.{context_shown}
+use Rattle.world_steps.proofs.ReadBefore.{counts_within}
 use Rattle.world_steps.proofs.RunsAlone.{runs_alone}
 use Rattle.world_steps.proofs.Cutting.{cuts_push, last_next, rows_next}
 use Rattle.world_steps.proofs.KeysApart.{AreDifferent}
@@ -80,12 +87,12 @@ module _ (writes : ℕ → List Doc) (first : Context) (rows : ℕ) where
       same_context (Some d) d before refl c (ap (λ (x : Context). x.ask) (sym is) ∙ (keeps d).0) (ap (λ (x : Context). x.shards) (sym is) ∙ (keeps d).1) (ap (λ (x : Context). x.after) (sym is) ∙ (keeps d).2)
   changed false f keeps o before c e = before c e
 
-  rooted : (now : ℕ) (t : TaskId) (q : Option Request) (id : TaskId) (o : Option Context) → IfStands Here o → IfStands Here (after_root now t q id o)
-  rooted now t None id o before = before
-  rooted now t (Some (asks.Search ask)) id o before = before
-  rooted now t (Some (asks.Query ask)) id o before = before
-  rooted now t (Some (asks.Fetch ask)) id o before = before
-  rooted now t (Some (asks.Scroll ask)) id o before = changed (same_task ask.id id) (with_use now ask.keep t) (λ d. (refl, refl, refl)) o before
+  taken : (now : ℕ) (t : TaskId) (q : Option Request) (id : TaskId) (o : Option Context) → IfStands Here o → IfStands Here (after_taking now t q id o)
+  taken now t None id o before = before
+  taken now t (Some (asks.Search ask)) id o before = before
+  taken now t (Some (asks.Query ask)) id o before = before
+  taken now t (Some (asks.Fetch ask)) id o before = before
+  taken now t (Some (asks.Scroll ask)) id o before = changed (same_task ask.id id) (with_use now ask.keep t) (λ d. (refl, refl, refl)) o before
 
   -- a page that shows nothing leaves the cursor
   returned : (now : ℕ) (t : TaskId) (ask : ScrollAsk) (reply : Reply) (id : TaskId) (o : Option Context) → cursor_in reply ≡ None → IfStands Here o → IfStands Here (after_end now t (Some (asks.Scroll ask)) reply id o)
@@ -171,50 +178,80 @@ module _ (cluster : Cluster) (corpus : Corpus) (script : Script) (id : TaskId) w
   abbrev said : Scripted
   said = scripted script
 
-  abbrev writes : Context → ℕ → List Doc
-  writes c = writes_of corpus cluster.shards c.ask.index
+  -- what is written so far
+  abbrev look : List Event → Corpus
+  look h = so_far corpus script h
+
+  abbrev writes : List Event → Context → ℕ → List Doc
+  writes h c = writes_of (look h) cluster.shards c.ask.index
 
   -- how many rows so many pages take up
   abbrev rows : Context → List (List Hit) → ℕ
   rows c shown = length shown * c.ask.body.size
 
-  record FollowsBy (c : Context) (shown : List (List Hit)) (o : Option Context) : Type 0 where
+  record FollowsBy (w : ℕ → List Doc) (c : Context) (shown : List (List Hit)) (o : Option Context) : Type 0 where
     different : AreDifferent (shards_of c.shards)
-    cut : shown ≡ cuts c.ask.body.size (length shown) (listed (writes c) c)
-    stands : IfStands (StandsAt (writes c) c (rows c shown)) o
+    -- the versions that it keeps were written
+    within : AreWithin w (map read_at c.shards)
+    cut : shown ≡ cuts c.ask.body.size (length shown) (listed w c)
+    stands : IfStands (StandsAt w c (rows c shown)) o
 
   abbrev Follows : Context → List Event → Type 0
-  Follows c h = FollowsBy c (pages said id h) (context_at said id h)
+  Follows c h = FollowsBy (writes h c) c (pages said id h) (context_at said id h)
+
+  -- what is written later changes nothing of it
+  follows_on : (w later : ℕ → List Doc) → HaveGrown w later → (c : Context) (shown : List (List Hit)) (o : Option Context) → FollowsBy w c shown o → FollowsBy later c shown o
+  follows_on w later grown c shown o b = record {
+    different = b.different;
+    within = AreWithin-grow w later grown (map read_at c.shards) b.within;
+    cut = b.cut ∙ ap (cuts c.ask.body.size (length shown)) (sym (listed-grow w later grown c.ask (map read_at c.shards) b.within));
+    stands = λ d e.
+        let at = b.stands d e in
+        record { ask = at.ask; shards = at.shards; cursor = at.cursor ∙ ap (λ keys. last_or None (take (rows c shown) keys)) (sym (found_keys-grow w later grown c.ask (map read_at c.shards) b.within)) };
+  }
 
   abbrev Law : List Event → Type 0
   Law h = (c : Context) → first_context said id h ≡ Some c → c.ask.body.from ≡ 0 → all_given c.shards said id h ≡ true → Follows c h
 
-  -- a good reply of a task is plain
-  search_plain : (t : TaskId) (page : Option Context) (mark : Option ℕ) (ask : SearchAsk) (h : List Event) (found : SearchReply) → EndsPlainly cluster corpus t page mark (Some (asks.Search ask)) h (Search found)
-      → IsPlainReply cluster corpus t (search_reading t ask cluster.shards) h (Search found)
-  search_plain t page (Some k) ask h found e = absurd (cc)
-  search_plain t page None ask h found e = e
+  -- what the end of a task makes of the context of the id
+  abbrev ended : TaskId → Reply → List Event → Option Context
+  ended t reply h = after_end (clock h) t (request_of said t h) reply id (context_at said id h)
 
-  page_plain : (t : TaskId) (c : Context) (mark : Option ℕ) (ask : ScrollAsk) (h : List Event) (found : SearchReply) → EndsPlainly cluster corpus t (Some c) mark (Some (asks.Scroll ask)) h (Search found)
-      → IsPlainReply cluster corpus t (page_reading c) h (Search found)
-  page_plain t c (Some k) ask h found e = absurd (cc)
-  page_plain t c None ask h found e = e
+  -- the law after an end, before what belongs to the task is gone
+  abbrev EndLaw : TaskId → Reply → List Event → Type 0
+  EndLaw t reply h = (c : Context) → first_context said id (End t reply ∷ h) ≡ Some c → c.ask.body.from ≡ 0 → all_given c.shards said id (End t reply ∷ h) ≡ true → FollowsBy (writes h c) c (pages said id (End t reply ∷ h)) (ended t reply h)
+
+  gone_with : (t : TaskId) (reply : Reply) (h : List Event) → EndLaw t reply h → Law (End t reply ∷ h)
+  gone_with t reply h law c first no_from given =
+      let b = law c first no_from given in
+      record { different = b.different; within = b.within; cut = b.cut; stands = λ d e. b.stands d (left_owned t (ended t reply h) d e) }
+
+  -- a good reply of a task is plain
+  search_plain : (t : TaskId) (page : Option Context) (mark : Option ℕ) (ask : SearchAsk) (h : List Event) (found : SearchReply) (counts : Counts) → EndsPlainly cluster look t page mark counts (Some (asks.Search ask)) h (Search found)
+      → IsPlainReply cluster look t (search_reading t ask cluster.shards) h (Search found)
+  search_plain t page (Some k) ask h found counts e = absurd (cc)
+  search_plain t page None ask h found counts e = e
+
+  page_plain : (t : TaskId) (c : Context) (mark : Option ℕ) (ask : ScrollAsk) (h : List Event) (found : SearchReply) (counts : Counts) → EndsPlainly cluster look t (Some c) mark counts (Some (asks.Scroll ask)) h (Search found)
+      → IsPlainReply cluster look t (page_reading c) h (Search found)
+  page_plain t c (Some k) ask h found counts e = absurd (cc)
+  page_plain t c None ask h found counts e = e
 
   -- the first page
-  opens : (t : TaskId) (ask : SearchAsk) (h : List Event) (found : SearchReply) (now : ℕ) → IsPlainReply cluster corpus t (search_reading t ask cluster.shards) h (Search found)
+  opens : (t : TaskId) (ask : SearchAsk) (h : List Event) (found : SearchReply) (now : ℕ) → IsPlainReply cluster look t (search_reading t ask cluster.shards) h (Search found)
       → (c : Context) → c ≡ opened id ask found now → c.ask.body.from ≡ 0 → gave_all c.shards (Search found) ≡ true
-      → AreDifferent (shards_of c.shards) × (found.hits ≡ take c.ask.body.size (listed (writes c) c)) × (c.after ≡ last_or None (take c.ask.body.size (listed_keys (writes c) c)))
+      → AreDifferent (shards_of c.shards) × (found.hits ≡ take c.ask.body.size (listed (writes h c) c)) × (c.after ≡ last_or None (take c.ask.body.size (listed_keys (writes h c) c))) × AreWithin (writes h c) (map read_at c.shards)
   opens t ask h found now plain c is no_from given =
-      subst (λ d. d.ask.body.from ≡ 0 → gave_all d.shards (Search found) ≡ true → AreDifferent (shards_of d.shards) × (found.hits ≡ take d.ask.body.size (listed (writes d) d)) × (d.after ≡ last_or None (take d.ask.body.size (listed_keys (writes d) d))))
+      subst (λ d. d.ask.body.from ≡ 0 → gave_all d.shards (Search found) ≡ true → AreDifferent (shards_of d.shards) × (found.hits ≡ take d.ask.body.size (listed (writes h d) d)) × (d.after ≡ last_or None (take d.ask.body.size (listed_keys (writes h d) d))) × AreWithin (writes h d) (map read_at d.shards))
       (sym is) of_opened no_from given
     where
       r : Reading
       r = search_reading t ask cluster.shards
 
       of_opened : ask.body.from ≡ 0 → list_all (λ n. not (has_failed found.failed n.shard)) found.shards ≡ true
-          → let d : Context = opened id ask found now in AreDifferent (shards_of d.shards) × (found.hits ≡ take d.ask.body.size (listed (writes d) d)) × (d.after ≡ last_or None (take d.ask.body.size (listed_keys (writes d) d)))
+          → let d : Context = opened id ask found now in AreDifferent (shards_of d.shards) × (found.hits ≡ take d.ask.body.size (listed (writes h d) d)) × (d.after ≡ last_or None (take d.ask.body.size (listed_keys (writes h d) d))) × AreWithin (writes h d) (map read_at d.shards)
       of_opened from whole =
-          let w : ℕ → List Doc = writes_of corpus cluster.shards ask.index in
+          let w : ℕ → List Doc = writes_of (look h) cluster.shards ask.index in
           let answered : List ShardCount = answered_shards (search_reading t ask cluster.shards) w t h in
           let failed : List FailedShard = failed_shards (search_reading t ask cluster.shards) t h in
           let parts = good_parts (search_reading t ask cluster.shards) w answered failed found (sym plain.answer) in
@@ -225,14 +262,15 @@ module _ (cluster : Cluster) (corpus : Corpus) (script : Script) (id : TaskId) w
             subst (λ l. AreDifferent (shards_of l)) (sym parts.0) different,
             cut.hits ∙ ap (λ l. take ask.body.size (listed w (record (opened id ask found now) { shards = l }))) (sym parts.0),
             cut.last ∙ ap (λ l. last_or None (take ask.body.size (found_keys ask w (map read_at l)))) (sym parts.0),
+            subst (λ l. AreWithin w (map read_at l)) (sym parts.0) (counts_within cluster corpus script t ask h (Search found) plain),
           )
 
   -- a later page
-  pages_on : (t : TaskId) (start first : Context) (h : List Event) (found : SearchReply) (m : ℕ) → IsPlainReply cluster corpus t (page_reading start) h (Search found)
-      → StandsAt (writes first) first m start → AreDifferent (shards_of first.shards) → first.ask.body.from ≡ 0 → gave_all first.shards (Search found) ≡ true
-      → (found.hits ≡ take first.ask.body.size (drop m (listed (writes first) first))) × (found.last ≡ last_or None (take first.ask.body.size (drop m (listed_keys (writes first) first))))
+  pages_on : (t : TaskId) (start first : Context) (h : List Event) (found : SearchReply) (m : ℕ) → IsPlainReply cluster look t (page_reading start) h (Search found)
+      → StandsAt (writes h first) first m start → AreDifferent (shards_of first.shards) → first.ask.body.from ≡ 0 → gave_all first.shards (Search found) ≡ true
+      → (found.hits ≡ take first.ask.body.size (drop m (listed (writes h first) first))) × (found.last ≡ last_or None (take first.ask.body.size (drop m (listed_keys (writes h first) first))))
   pages_on t start first h found m plain at different no_from given =
-      let w : ℕ → List Doc = writes start in
+      let w : ℕ → List Doc = writes h start in
       let answered : List ShardCount = answered_shards (page_reading start) w t h in
       let failed : List FailedShard = failed_shards (page_reading start) t h in
       let parts = good_parts (page_reading start) w answered failed found (sym plain.answer) in
@@ -240,9 +278,9 @@ module _ (cluster : Cluster) (corpus : Corpus) (script : Script) (id : TaskId) w
       ap (λ l. list_all (λ n. not (has_failed l n.shard)) start.shards) (sym parts.1) ∙ ap (list_all (λ n. not (has_failed found.failed n.shard))) at.shards ∙ given in
       let all_kept : answered ≡ start.shards = page_answers start.ask w t h failed start.shards plain.failed whole in
       let answer : plain_answer (page_reading start) w start.shards failed ≡ Search found = ap (λ l. plain_answer (page_reading start) w l failed) (sym all_kept) ∙ sym plain.answer in
-      let keys_same : listed_keys w start ≡ listed_keys (writes first) first = λ i. found_keys (at.ask i) (writes_of corpus cluster.shards (at.ask i).index) (map read_at (at.shards i)) in
-      let same_keys : listed_keys (writes first) first ≡ listed_keys w start = sym keys_same in
-      let same_list : listed w start ≡ listed (writes first) first = λ i. listed (writes_of corpus cluster.shards (at.ask i).index) (record start { ask = at.ask i; shards = at.shards i }) in
+      let keys_same : listed_keys w start ≡ listed_keys (writes h first) first = λ i. found_keys (at.ask i) (writes_of (look h) cluster.shards (at.ask i).index) (map read_at (at.shards i)) in
+      let same_keys : listed_keys (writes h first) first ≡ listed_keys w start = sym keys_same in
+      let same_list : listed w start ≡ listed (writes h first) first = λ i. listed (writes_of (look h) cluster.shards (at.ask i).index) (record start { ask = at.ask i; shards = at.shards i }) in
       let cut = shows_cut (page_reading start) w start.shards failed (subst (λ l. AreDifferent (shards_of l)) (sym at.shards) different) (ap (λ (a : SearchAsk). a.body.from) at.ask ∙ no_from) m
       (at.cursor ∙ ap (λ l. last_or None (take m l)) same_keys) found answer whole in (
         cut.hits ∙ ap (λ (a : SearchAsk). take a.body.size (drop m (listed w start))) at.ask ∙ ap (λ l. take first.ask.body.size (drop m l)) same_list,
@@ -252,15 +290,15 @@ module _ (cluster : Cluster) (corpus : Corpus) (script : Script) (id : TaskId) w
   -- ---- one more end
 
   step_silent : (t : TaskId) (reply : Reply) (h : List Event) → cond (is_of_context id t (request_of said t h)) (shown_by reply) [] ≡ [] → after_end (clock h) t (request_of said t h) reply id None ≡ None
-      → ((w : ℕ → List Doc) (c : Context) (n : ℕ) → IfStands (StandsAt w c n) (context_at said id h) → IfStands (StandsAt w c n) (context_at said id (End t reply ∷ h))) → Law h → Law (End t reply ∷ h)
+      → ((w : ℕ → List Doc) (c : Context) (n : ℕ) → IfStands (StandsAt w c n) (context_at said id h) → IfStands (StandsAt w c n) (ended t reply h)) → Law h → EndLaw t reply h
   step_silent t reply h silent none keeps rest c first no_from given =
       let before : first_context said id h ≡ Some c = ap (λ o. option_or o (first_context said id h)) (sym none) ∙ first in
       let b = rest c before no_from (both_given _ _ given).0 in
       let same : pages said id (End t reply ∷ h) ≡ pages said id h = ap (λ l. pages said id h ++ l) silent ∙ append-nil (pages said id h) in
-      subst (λ shown. FollowsBy c shown (context_at said id (End t reply ∷ h))) (sym same) (record { different = b.different; cut = b.cut; stands = keeps (writes c) c (rows c (pages said id h)) b.stands })
+      subst (λ shown. FollowsBy (writes h c) c shown (ended t reply h)) (sym same) (record { different = b.different; within = b.within; cut = b.cut; stands = keeps (writes h c) c (rows c (pages said id h)) b.stands })
 
   -- a task that is not of the context
-  step_else : (t : TaskId) (reply : Reply) (h : List Event) → is_of_context id t (request_of said t h) ≡ false → Law h → Law (End t reply ∷ h)
+  step_else : (t : TaskId) (reply : Reply) (h : List Event) → is_of_context id t (request_of said t h) ≡ false → Law h → EndLaw t reply h
   step_else t reply h elsewhere =
       let same : (o : Option Context) → after_end (clock h) t (request_of said t h) reply id o ≡ o = λ o. end_elsewhere (clock h) t (request_of said t h) reply id o elsewhere in
       step_silent t reply h (ap (λ b. cond b (shown_by reply) []) elsewhere) (same None) (λ w c n before. subst (IfStands (StandsAt w c n)) (sym (same (context_at said id h))) before)
@@ -275,13 +313,13 @@ module _ (cluster : Cluster) (corpus : Corpus) (script : Script) (id : TaskId) w
 
   -- the search
   step_search : (t : TaskId) (ask : SearchAsk) (reply : Reply) (h : List Event) → Lawful cluster h → OneAtATime said h → is_live t h ≡ true → request_of said t h ≡ Some (asks.Search ask) → same_task t id ≡ true
-      → EndsPlainly cluster corpus t (page_of said t h) (mark_of t h) (Some (asks.Search ask)) h reply → Law h → Law (End t reply ∷ h)
+      → EndsPlainly cluster look t (page_of said t h) (mark_of t h) (counted cluster corpus said t h) (Some (asks.Search ask)) h reply → Law h → EndLaw t reply h
   step_search t ask reply h lawful alone live asked own plain rest = of_reply (shows_or_not reply)
     where
       not_yet : has_ended id h ≡ false
       not_yet = ap (λ u. has_ended u h) (sym (is_one t id own)) ∙ (ask_facts cluster h lawful).live_or_ended t live
 
-      opening : (found : SearchReply) → reply ≡ Search found → (b : Bool) → opens_context ask ≡ b → Law (End t reply ∷ h)
+      opening : (found : SearchReply) → reply ≡ Search found → (b : Bool) → opens_context ask ≡ b → EndLaw t reply h
       opening found is false other c first no_from given =
           let none : after_end (clock h) t (request_of said t h) reply id None ≡ None = rw (asked, is, own, other) refl in
           let before : first_context said id h ≡ Some c = ap (λ o. option_or o (first_context said id h)) (sym none) ∙ first in
@@ -294,24 +332,25 @@ module _ (cluster : Cluster) (corpus : Corpus) (script : Script) (id : TaskId) w
           let shown : pages said id (End t reply ∷ h) ≡ found.hits ∷ [] = rw (asked, own, is, (unshown cluster said id h lawful alone not_yet).0) refl in
           let gave : cond (is_of_context id t (request_of said t h)) (gave_all c.shards reply) true ≡ true = (both_given (all_given c.shards said id h) (cond (is_of_context id t (request_of said t h)) (gave_all c.shards reply) true) given).1 in
           let fine : gave_all c.shards (Search found) ≡ true = rw (asked, own, is) at gave in
-          let b = opens t ask h found (clock h) (search_plain t (page_of said t h) (mark_of t h) ask h found (subst (EndsPlainly cluster corpus t (page_of said t h) (mark_of t h) (Some (asks.Search ask)) h) is plain)) c same no_from fine in
+          let b = opens t ask h found (clock h) (search_plain t (page_of said t h) (mark_of t h) ask h found (counted cluster corpus said t h) (subst (EndsPlainly cluster look t (page_of said t h) (mark_of t h) (counted cluster corpus said t h) (Some (asks.Search ask)) h) is plain)) c same no_from fine in
           let one : c.ask.body.size ≡ 1 * c.ask.body.size = omega arith in
-          subst (λ l. FollowsBy c l (context_at said id (End t reply ∷ h))) (sym shown)
-          (subst (FollowsBy c (found.hits ∷ [])) (sym (context (context_at said id h)))
+          subst (λ l. FollowsBy (writes h c) c l (ended t reply h)) (sym shown)
+          (subst (FollowsBy (writes h c) c (found.hits ∷ [])) (sym (context (context_at said id h)))
           (record {
             different = b.0;
+            within = b.3;
             cut = ap (λ (l : List Hit). l ∷ []) b.1;
             stands = λ d e.
                 let is_first : d ≡ c = sym (let g : Some c ≡ Some d = ap Some same ∙ e in cc) in
                 record {
                   ask = ap (λ (x : Context). x.ask) is_first;
                   shards = ap (λ (x : Context). x.shards) is_first;
-                  cursor = ap (λ (x : Context). x.after) is_first ∙ b.2 ∙ ap (λ n. last_or None (take n (listed_keys (writes c) c))) one;
+                  cursor = ap (λ (x : Context). x.after) is_first ∙ b.2 ∙ ap (λ n. last_or None (take n (listed_keys (writes h c) c))) one;
                 };
           }))
 
       of_reply : ((found : SearchReply) × (reply ≡ Search found)) ⊎ ((shown_by reply ≡ []) × (cursor_in reply ≡ None) × ((now : ℕ) (t : TaskId) (ask : SearchAsk) (id : TaskId) (o : Option Context) → after_end now t (Some (asks.Search ask)) reply id o ≡ o))
-          → Law (End t reply ∷ h)
+          → EndLaw t reply h
       of_reply (inl (found, is)) = opening found is (opens_context ask) refl
       of_reply (inr (silent, cursor, leaves)) =
           let same : (o : Option Context) → after_end (clock h) t (request_of said t h) reply id o ≡ o = λ o. ap (λ q. after_end (clock h) t q reply id o) asked ∙ leaves (clock h) t ask id o in
@@ -320,34 +359,35 @@ module _ (cluster : Cluster) (corpus : Corpus) (script : Script) (id : TaskId) w
 
   -- a page
   step_page : (t : TaskId) (ask : ScrollAsk) (reply : Reply) (h : List Event) → IsInUse said t ask h → request_of said t h ≡ Some (asks.Scroll ask) → same_task ask.id id ≡ true
-      → EndsPlainly cluster corpus t (page_of said t h) (mark_of t h) (Some (asks.Scroll ask)) h reply → Law h → Law (End t reply ∷ h)
+      → EndsPlainly cluster look t (page_of said t h) (mark_of t h) (counted cluster corpus said t h) (Some (asks.Scroll ask)) h reply → Law h → EndLaw t reply h
   step_page t ask reply h used asked own plain rest = of_reply (shows_or_not reply)
     where
       none : after_end (clock h) t (request_of said t h) reply id None ≡ None
       none = ap (λ q. after_end (clock h) t q reply id None) asked ∙ no_context (same_task ask.id id) (given_back (cursor_in reply) (clock h))
 
-      showing : (found : SearchReply) → reply ≡ Search found → Law (End t reply ∷ h)
+      showing : (found : SearchReply) → reply ≡ Search found → EndLaw t reply h
       showing found is c first no_from given =
           let before : first_context said id h ≡ Some c = ap (λ o. option_or o (first_context said id h)) (sym none) ∙ first in
           let b = rest c before no_from (both_given _ _ given).0 in
           let shown : List (List Hit) = pages said id h in
           let there : context_at said id h ≡ Some used.context = sym (ap (λ i. context_at said i h) (is_one ask.id id own)) ∙ used.stands in
           let at = b.stands used.context there in
-          let start_at : StandsAt (writes c) c (rows c shown) used.start = record { ask = sym used.same.ask ∙ at.ask; shards = sym used.same.shards ∙ at.shards; cursor = sym used.same.cursor ∙ at.cursor } in
+          let start_at : StandsAt (writes h c) c (rows c shown) used.start = record { ask = sym used.same.ask ∙ at.ask; shards = sym used.same.shards ∙ at.shards; cursor = sym used.same.cursor ∙ at.cursor } in
           let gave : cond (is_of_context id t (request_of said t h)) (gave_all c.shards reply) true ≡ true = (both_given (all_given c.shards said id h) (cond (is_of_context id t (request_of said t h)) (gave_all c.shards reply) true) given).1 in
           let fine : gave_all c.shards (Search found) ≡ true = rw (asked, own, is) at gave in
-          let ends : EndsPlainly cluster corpus t (Some used.start) (mark_of t h) (Some (asks.Scroll ask)) h (Search found) =
-          subst (EndsPlainly cluster corpus t (Some used.start) (mark_of t h) (Some (asks.Scroll ask)) h) is (subst (λ page. EndsPlainly cluster corpus t page (mark_of t h) (Some (asks.Scroll ask)) h reply) used.page plain) in
-          let next = pages_on t used.start c h found (rows c shown) (page_plain t used.start (mark_of t h) ask h found ends) start_at b.different no_from fine in
+          let ends : EndsPlainly cluster look t (Some used.start) (mark_of t h) (counted cluster corpus said t h) (Some (asks.Scroll ask)) h (Search found) =
+          subst (EndsPlainly cluster look t (Some used.start) (mark_of t h) (counted cluster corpus said t h) (Some (asks.Scroll ask)) h) is (subst (λ page. EndsPlainly cluster look t page (mark_of t h) (counted cluster corpus said t h) (Some (asks.Scroll ask)) h reply) used.page plain) in
+          let next = pages_on t used.start c h found (rows c shown) (page_plain t used.start (mark_of t h) ask h found (counted cluster corpus said t h) ends) start_at b.different no_from fine in
           let grown : pages said id (End t reply ∷ h) ≡ shown ++ found.hits ∷ [] = rw (asked, own, is) refl in
-          let moved : context_at said id (End t reply ∷ h) ≡ Some (given_back found.last (clock h) used.context) = rw (asked, own, is, there) refl in
+          let moved : ended t reply h ≡ Some (given_back found.last (clock h) used.context) = rw (asked, own, is, there) refl in
           let size : ℕ = c.ask.body.size in
-          let keys : List HitKey = listed_keys (writes c) c in
-          subst (λ l. FollowsBy c l (context_at said id (End t reply ∷ h))) (sym grown)
-          (subst (FollowsBy c (shown ++ found.hits ∷ [])) (sym moved)
+          let keys : List HitKey = listed_keys (writes h c) c in
+          subst (λ l. FollowsBy (writes h c) c l (ended t reply h)) (sym grown)
+          (subst (FollowsBy (writes h c) c (shown ++ found.hits ∷ [])) (sym moved)
           (record {
             different = b.different;
-            cut = ap (λ (l : List Hit). shown ++ l ∷ []) next.0 ∙ cuts_push size (listed (writes c) c) shown b.cut ∙ ap (λ (l : List Hit). cuts size (length (shown ++ l ∷ [])) (listed (writes c) c)) (sym next.0);
+            within = b.within;
+            cut = ap (λ (l : List Hit). shown ++ l ∷ []) next.0 ∙ cuts_push size (listed (writes h c) c) shown b.cut ∙ ap (λ (l : List Hit). cuts size (length (shown ++ l ∷ [])) (listed (writes h c) c)) (sym next.0);
             stands = λ d e.
                 let is_moved : d ≡ given_back found.last (clock h) used.context = sym (cc) in
                 record {
@@ -363,19 +403,19 @@ module _ (cluster : Cluster) (corpus : Corpus) (script : Script) (id : TaskId) w
           }))
 
       of_reply : ((found : SearchReply) × (reply ≡ Search found)) ⊎ ((shown_by reply ≡ []) × (cursor_in reply ≡ None) × ((now : ℕ) (t : TaskId) (ask : SearchAsk) (id : TaskId) (o : Option Context) → after_end now t (Some (asks.Search ask)) reply id o ≡ o))
-          → Law (End t reply ∷ h)
+          → EndLaw t reply h
       of_reply (inl (found, is)) = showing found is
       of_reply (inr (silent, cursor, leaves)) =
           step_silent t reply h (ap (λ l. cond (is_of_context id t (request_of said t h)) l []) silent ∙ never (is_of_context id t (request_of said t h)) []) none
           (λ w c n before. subst (λ q. IfStands (StandsAt w c n) (after_end (clock h) t q reply id (context_at said id h))) (sym asked) (returned w c n (clock h) t ask reply id (context_at said id h) cursor before)) rest
 
-  step_end : (t : TaskId) (reply : Reply) (h : List Event) → Lawful cluster h → OneAtATime said h → is_live t h ≡ true → EndsPlainly cluster corpus t (page_of said t h) (mark_of t h) (request_of said t h) h reply → Law h → Law (End t reply ∷ h)
+  step_end : (t : TaskId) (reply : Reply) (h : List Event) → Lawful cluster h → OneAtATime said h → is_live t h ≡ true → EndsPlainly cluster look t (page_of said t h) (mark_of t h) (counted cluster corpus said t h) (request_of said t h) h reply → Law h → EndLaw t reply h
   step_end t reply h lawful alone live plain rest = by_test (is_of_context id t (request_of said t h)) (λ own. of_request (request_of said t h) refl own) (λ elsewhere. step_else t reply h elsewhere rest)
     where
-      ends : (q : Option Request) → request_of said t h ≡ q → EndsPlainly cluster corpus t (page_of said t h) (mark_of t h) q h reply
-      ends q e = subst (λ x. EndsPlainly cluster corpus t (page_of said t h) (mark_of t h) x h reply) e plain
+      ends : (q : Option Request) → request_of said t h ≡ q → EndsPlainly cluster look t (page_of said t h) (mark_of t h) (counted cluster corpus said t h) q h reply
+      ends q e = subst (λ x. EndsPlainly cluster look t (page_of said t h) (mark_of t h) (counted cluster corpus said t h) x h reply) e plain
 
-      of_request : (q : Option Request) → request_of said t h ≡ q → is_of_context id t q ≡ true → Law (End t reply ∷ h)
+      of_request : (q : Option Request) → request_of said t h ≡ q → is_of_context id t q ≡ true → EndLaw t reply h
       of_request None e is = absurd (cc)
       of_request (Some (asks.Query ask)) e is = absurd (cc)
       of_request (Some (asks.Fetch ask)) e is = absurd (cc)
@@ -386,15 +426,21 @@ module _ (cluster : Cluster) (corpus : Corpus) (script : Script) (id : TaskId) w
   pages_cut [] lawful plain alone c first no_from given = absurd (cc)
   pages_cut (Begin k ∷ h) lawful plain alone c first no_from given =
       let b = pages_cut h lawful.1 plain alone c first no_from given in
-      record { different = b.different; cut = b.cut; stands = λ d e. b.stands d (begun_there (said.clears k h) id (context_at said id h) d e) }
+      record { different = b.different; within = b.within; cut = b.cut; stands = λ d e. b.stands d (begun_there (said.clears k h) id (context_at said id h) d e) }
   pages_cut (Root k t ∷ h) lawful plain alone c first no_from given =
       let b = pages_cut h lawful.1 plain alone.1 c first no_from given in
-      record { different = b.different; cut = b.cut; stands = rooted (writes c) c (rows c (pages said id h)) (clock h) t (said.root k h) id (context_at said id h) b.stands }
+      record { different = b.different; within = b.within; cut = b.cut; stands = taken (writes h c) c (rows c (pages said id h)) (clock h) t (said.root k h) id (context_at said id h) b.stands }
   pages_cut (Tick ms ∷ h) lawful plain alone c first no_from given =
       let b = pages_cut h lawful.1 plain alone c first no_from given in
-      record { different = b.different; cut = b.cut; stands = λ d e. b.stands d (unexpired_there (clock h + ms) (context_at said id h) d e) }
+      record { different = b.different; within = b.within; cut = b.cut; stands = λ d e. b.stands d (unexpired_there (clock h + ms) (context_at said id h) d e) }
   pages_cut (End t reply ∷ h) lawful plain alone c first no_from given =
-      step_end t reply h lawful.1 alone lawful.0.goes_on.live plain.0 (pages_cut h lawful.1 plain.1 alone) c first no_from given
+      gone_with t reply h (step_end t reply h lawful.1 alone lawful.0.goes_on.live plain.0 (pages_cut h lawful.1 plain.1 alone)) c first no_from given
+  pages_cut (Pass t ∷ h) lawful plain alone c first no_from given =
+      let b = pages_cut h lawful.1 plain alone c first no_from given in
+      record { different = b.different; within = b.within; cut = b.cut; stands = taken (writes h c) c (rows c (pages said id h)) (clock h) t (request_of said t h) id (context_at said id h) b.stands }
+  pages_cut (Write index shard outcome doc ∷ h) lawful plain alone c first no_from given =
+      follows_on (writes h c) (writes (Write index shard outcome doc ∷ h) c) (writes_of-grow (look h) (line_of index (next_doc said h)) cluster.shards c.ask.index) c (pages said id h) (context_at said id h)
+      (pages_cut h lawful.1 plain alone c first no_from given)
   pages_cut (Ask p k n r ∷ h) lawful plain alone c first no_from given = pages_cut h lawful.1 plain alone.1 c first no_from given
   pages_cut (_ ∷ h) lawful plain alone c first no_from given = pages_cut h lawful.1 plain alone c first no_from given
 
@@ -404,10 +450,10 @@ module _ (cluster : Cluster) (corpus : Corpus) (script : Script) (id : TaskId) w
     alone : OneAtATime said h
     alone = runs_alone cluster corpus script h run
 
-    pub pages_of_run : pages said id h ≡ cuts c.ask.body.size (length (pages said id h)) (listed (writes c) c)
+    pub pages_of_run : pages said id h ≡ cuts c.ask.body.size (length (pages said id h)) (listed (writes h c) c)
     pages_of_run = (pages_cut h lawful plain alone c first (context_shown script id h alone c first).from given).cut
 
-    pub all_of_run : list_any shows_none (pages said id h) ≡ true → joined (pages said id h) ≡ listed (writes c) c
+    pub all_of_run : list_any shows_none (pages said id h) ≡ true → joined (pages said id h) ≡ listed (writes h c) c
     all_of_run none =
         ap joined pages_of_run
-        ∙ all_cut c.ask.body.size (length (pages said id h)) (listed (writes c) c) (context_shown script id h alone c first).size (ap (list_any shows_none) (sym pages_of_run) ∙ none)
+        ∙ all_cut c.ask.body.size (length (pages said id h)) (listed (writes h c) c) (context_shown script id h alone c first).size (ap (list_any shows_none) (sym pages_of_run) ∙ none)

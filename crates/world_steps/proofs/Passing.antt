@@ -5,16 +5,20 @@ use Rattle.task_ids.specs.declared.cluster.Cluster.{Cluster}
 use Rattle.task_ids.specs.declared.corpus.Corpus.{Corpus}
 use Rattle.task_events.specs.declared.event.Event.{Event}
 use Rattle.script_lang.specs.declared.command.Script.{Script}
-use Rattle.task_events.specs.declared.event.Event.TheVariants.{Refuse, Acked, End}
+use Rattle.task_events.specs.declared.event.Event.TheVariants.{Refuse, Acked, Work, End}
+use Rattle.task_events.specs.declared.request.WriteNote.{WriteNote}
+use Rattle.task_events.specs.Requests.{request_of}
+use Rattle.task_events.specs.Steps.{turns_of}
+use Rattle.task_events.specs.Written.{corpus_at, turn_notes, with_notes, write_of}
+use Rattle.command_roots.specs.Roots.{scripted}
+use Rattle.std.specs.Option.{option_map_or}
 use Rattle.world_moves.specs.Cancels.{answer_to, due_for, with_due}
 use Rattle.task_events.specs.declared.stop.Stop.{Stop}
 use Rattle.world_moves.specs.Moves.{IsPartly, DeliveryLacksNumber}
 use Rattle.world_moves.proofs.Outcomes.{stops_as}
-use Rattle.world_steps.specs.Runs.{FirstMoves, FirstLacksNumber, Passes, PartlySettles, SettlingLacksNumber, StopsFirst, StopsSettling}
-use Rattle.std.specs.BTreeSet.{BTreeSet}
-use Rattle.task_ids.specs.declared.task_id.TaskId.{TaskId}
+use Rattle.world_steps.specs.declared.ready.Ready.{Ready}
+use Rattle.world_steps.specs.Runs.{after_step, FirstMoves, FirstLacksNumber, Passes, PartlySettles, SettlingLacksNumber, StopsFirst, StopsSettling}
 use Rattle.world_moves.specs.declared.state.State.{State}
-use Rattle.corpus_shards.specs.Stored.{AreFew}
 use Rattle.world_moves.specs.Ties.{IsTied, Keeps}
 use Rattle.world_steps.specs.World.{HasReady, HasSettled}
 
@@ -46,36 +50,42 @@ longer (End t reply) h = omega (arith, length-append (reverse (map (answer_to (E
 longer (Acked p n) h = omega (arith, length-append (reverse (map (answer_to (Acked p n ∷ h)) (due_for p (Acked p n ∷ h)))) (Acked p n ∷ h))
 longer e h = omega arith
 
+-- and so do the writes of a turn
+noted_longer : (notes : List WriteNote) (h : List Event) → length h ≤ length (with_notes notes h)
+noted_longer [] h = omega arith
+noted_longer (note ∷ notes) h = let more = noted_longer notes (write_of note ∷ h) in omega (arith, more)
+
 module _ (cluster : Cluster) (corpus : Corpus) (script : Script) where
+  step_longer : (e : Event) (h : List Event) → length h < length (after_step cluster corpus script e h)
+  step_longer (Work t) h =
+      let more = noted_longer (option_map_or (λ request. turn_notes cluster (corpus_at corpus (scripted script) h) request (turns_of t h)) (request_of (scripted script) t h) []) (Work t ∷ h) in
+      omega (arith, more)
+  step_longer e h = longer e h
+
   pub move_longer : (h new : List Event) → FirstMoves cluster corpus script h new → length h < length new
   move_longer h new (inl (m, e, at, is, same)) = rw same (longer e h)
   move_longer h new (inr (inl (none, (l, first, (e, opened, is, same))))) = rw same (omega arith)
-  move_longer h new (inr (inr (none, closed, (t, first, (e, live, next, same))))) = rw same (longer e h)
+  move_longer h new (inr (inr (none, closed, (t, first, (e, live, next, same))))) = rw same (step_longer e h)
 
 -- the measure of settling falls
 pub less_left : (most n m : ℕ) → m ≤ most → n < m → most - m < most - n
 less_left most n m room longer = omega (arith, room, longer)
 
 -- settling goes on by a first move
-module _ (start now next : State) (ready : BTreeSet TaskId) where
+module _ (start now next : State) (ready : Ready) where
   moves_from_start : Keeps start now → FirstMoves now.cluster now.corpus.now now.script.now now.history next.history → FirstMoves start.cluster start.corpus.now start.script.now now.history next.history
   moves_from_start k m =
       subst (λ x. FirstMoves x start.corpus.now start.script.now now.history next.history) k.cluster
       (subst (λ x. FirstMoves now.cluster x start.script.now now.history next.history) k.corpus
       (subst (λ x. FirstMoves now.cluster now.corpus.now x now.history next.history) k.script m))
 
-  pub settled_on : (after : BTreeSet TaskId) → HasSettled start now ready → IsTied next → HasReady next after → Keeps now next → FirstMoves now.cluster now.corpus.now now.script.now now.history next.history → HasSettled start next after
+  pub settled_on : (after : Ready) → HasSettled start now ready → IsTied next → HasReady next after → Keeps now next → FirstMoves now.cluster now.corpus.now now.script.now now.history next.history → HasSettled start next after
   settled_on after s tied known keeps moved = record {
     tied = tied;
-    shards = record {
-      shards_are = keeps.shards ∙ s.shards.shards_are ∙ sym (λ i. record { corpus = keeps.corpus i; shards = (keeps.cluster i).shards });
-      few = subst (λ c. AreFew c.lines next.cluster.shards) (sym keeps.corpus) (subst (λ c. AreFew now.corpus.now.lines c.shards) (sym keeps.cluster) s.shards.few);
-    };
     known = known;
     keeps = record {
       cluster = keeps.cluster ∙ s.keeps.cluster;
       corpus = keeps.corpus ∙ s.keeps.corpus;
-      shards = keeps.shards ∙ s.keeps.shards;
       script = keeps.script ∙ s.keeps.script;
     };
     passes = one_more start.cluster start.corpus.now start.script.now start.history now.history next.history s.passes (moves_from_start s.keeps moved);

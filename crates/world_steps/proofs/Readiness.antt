@@ -1,56 +1,42 @@
--- Which tasks act, by what the past says of them, and after some events.
-use Rattle.std.proofs.Common.{◌≡◌, ◌≤◌, ℕ, zero, suc, ◌+◌, ◌-◌, Bool, true, false, cond, ◌&&◌, ◌||◌, not, List, [], ◌∷◌, ◌++◌, length, take, drop, Option, Some, None, refl, sym, ap, ◌∙◌, arith}
-use Rattle.std.specs.Prelude.{is_some, option_and_then, option_map, ◌==◌}
+-- Which tasks act, and for which moments others wait, once some events are noted.
+use Rattle.std.proofs.Common.{◌≡◌, ◌≢◌, ◌⊎◌, ◌<◌, ◌≤◌, inl, inr, ℕ, zero, suc, ◌+◌, ◌-◌, Bool, true, false, cond, ◌||◌, List, [], ◌∷◌, ◌++◌, length, take, drop, Option, Some, None, refl, sym, ap, ◌∙◌, arith}
+use Rattle.std.specs.Prelude.{◌==◌, nat_le}
+use Rattle.std.specs.BTreeSet.{contains}
 use Rattle.std.specs.List.{list_any}
-use Rattle.std.specs.Option.{option_map_or}
-use Rattle.std.specs.BTreeSet.{BTreeSet}
 use Rattle.std.proofs.lemmas.Bool.Decides.{nat_tests}
 use Rattle.std.proofs.lemmas.List.{length-append}
 use Rattle.task_ids.specs.declared.task_id.TaskId.{TaskId}
 use Rattle.task_ids.specs.declared.cluster.Cluster.{Cluster}
 use Rattle.task_ids.specs.declared.corpus.Corpus.{Corpus}
-use Rattle.task_events.specs.declared.request.Request.{Request}
-use Rattle.task_events.specs.declared.step.Do.{Do}
-use Rattle.task_events.specs.declared.step.Do.TheVariants.{AskNext, Turn, Wait, Finish}
+use Rattle.task_ids.specs.TaskIdOrder.{task_id_cmp}
 use Rattle.task_events.specs.declared.event.Event.{Event}
-use Rattle.task_events.specs.Bans.{mark_of}
-use Rattle.task_events.specs.Tasks.{is_live, is_new}
+use Rattle.task_events.specs.declared.event.Event.TheVariants.{Tick}
+use Rattle.task_events.specs.Clock.{clock}
 use Rattle.task_events.specs.Lawful.{Lawful}
-use Rattle.task_events.specs.Kinds.{kind_of}
-use Rattle.task_events.specs.Requests.{request_of}
-use Rattle.task_events.specs.Steps.{event_of, planned_step}
+use Rattle.task_events.specs.Requests.{Scripted}
 use Rattle.script_lang.specs.declared.command.Script.{Script}
-use Rattle.task_work.specs.Works.{does_wait}
-use Rattle.world_moves.specs.Facts.{Facts, facts_of, about, is_about, awaited_by, none_awaited}
+use Rattle.world_moves.specs.Facts.{about, is_about}
 use Rattle.world_moves.specs.Flights.{event_at}
 use Rattle.command_roots.specs.Roots.{scripted}
-use Rattle.world_steps.specs.Runs.{next_of}
 use Rattle.world_moves.specs.Ties.{Keeps}
-use Rattle.world_steps.specs.World.{HasReady, HadReady, is_ready, past_of}
 use Rattle.world_moves.specs.declared.state.State.{State}
 use Rattle.task_events.specs.Same.{same_task}
-use Rattle.task_laws.proofs.Same.{same_tests}
-use Rattle.world_moves.proofs.NoneAwaited.{ends_cancelled}
-use Rattle.world_moves.proofs.FactsAfter.{frame}
-
--- what a task's facts say of it
-abbrev plan_from : Cluster → Corpus → TaskId → Facts → Request → Do
-plan_from cluster corpus t facts r = (kind_of r).step cluster corpus t facts.page facts.asked facts.turns
-
--- whether its work goes on
-abbrev works_from : Cluster → Corpus → TaskId → Facts → Bool
-works_from cluster corpus t facts = option_map_or (λ r. not (does_wait (plan_from cluster corpus t facts r))) facts.request false
-
-abbrev acts_from : Cluster → Corpus → TaskId → Facts → Bool
-acts_from cluster corpus t facts = facts.live && (facts.new || cond (is_some facts.mark) (none_awaited facts.awaited) (works_from cluster corpus t facts))
+use Rattle.task_laws.proofs.Same.{same_task_tells, same_tests}
+use Rattle.world_steps.specs.declared.ready.Ready.{Ready}
+use Rattle.world_steps.specs.Alarms.{AreAlarms, alarm_at}
+use Rattle.world_steps.specs.Draining.{due_of}
+use Rattle.world_steps.specs.World.{HasReady, HadReady, HasNoted, HasAlarmed, is_ready, has_come, past_of, was_met}
+use Rattle.world_steps.proofs.Stances.{acts_by, waits_by, stance_of, frame, acts_then, waits_then, to_come, acts_by_stance, waits_by_stance}
 
 neither : (a b : Bool) → (a || b) ≡ false → (a ≡ false) × (b ≡ false)
 neither true b e = absurd (cc)
 neither false b e = (refl, e)
 
+-- ---- places in the past
+
 -- whether one of the events from a place up to another is about the task
-abbrev pub was_met : ℕ → ℕ → List Event → TaskId → Bool
-was_met before at h q = list_any (is_about q) (take (at - before) (past_of at h))
+abbrev pub met : ℕ → ℕ → List Event → TaskId → Bool
+met before at h q = list_any (is_about q) (take (at - before) (past_of at h))
 
 has_place : (at : ℕ) (h : List Event) (e : Event) → event_at at h ≡ Some e → at + 1 ≤ length h
 has_place at [] e here = absurd (cc)
@@ -80,7 +66,7 @@ next_past at (d ∷ h) e here = by_place (next_past at h e) (at == length h) ref
         let older : length (d ∷ h) - at ≡ suc (length h - at) = omega (arith, low) in
         ap (λ n. drop n (d ∷ h)) newer ∙ before it ∙ sym (ap (λ n. e ∷ drop n (d ∷ h)) older)
 
-met_next : (before at : ℕ) (h : List Event) (e : Event) → before ≤ at → event_at at h ≡ Some e → (q : TaskId) → was_met before (at + 1) h q ≡ (is_about q e || was_met before at h q)
+met_next : (before at : ℕ) (h : List Event) (e : Event) → before ≤ at → event_at at h ≡ Some e → (q : TaskId) → met before (at + 1) h q ≡ (is_about q e || met before at h q)
 met_next before at h e low here q =
     let longer : at + 1 - before ≡ suc (at - before) = omega (arith, low) in
     ap (λ xs. list_any (is_about q) (take (at + 1 - before) xs)) (next_past at h e here)
@@ -95,88 +81,149 @@ past_before (e ∷ earlier) h =
     ap (λ n. drop n (e ∷ (earlier ++ h))) one ∙ past_before earlier h
 
 -- what was known before the newest events
-pub had_ready : (old new : State) (ready : BTreeSet TaskId) (earlier : List Event) → HasReady old ready → Keeps old new → new.history ≡ earlier ++ old.history → HadReady new (length old.history) ready
-had_ready old new ready earlier known keeps longer t =
-    known t ∙ rw keeps.cluster (rw keeps.corpus (rw keeps.script (sym (ap (λ h. is_ready old.cluster old.corpus.now old.script.now h t) (ap (past_of (length old.history)) longer ∙ past_before earlier old.history)))))
+pub had_ready : (old new : State) (ready : Ready) (earlier : List Event) → HasReady old ready → Keeps old new → new.history ≡ earlier ++ old.history → HadReady new (length old.history) ready
+had_ready old new ready earlier known keeps longer =
+    rw keeps.cluster (rw keeps.corpus (rw keeps.script (rw (ap (past_of (length old.history)) longer ∙ past_before earlier old.history) known)))
+
+-- ---- noting the events one after the other
 
 about_it : (e : Event) (t : TaskId) → about e ≡ Some t → (q : TaskId) → is_about q e ≡ same_task t q
 about_it e t a q = rw a (grind (arith, same_tests))
 
-module _ (cluster : Cluster) (corpus : Corpus) (script : Script) where
-  one_event : (t : TaskId) (h : List Event) (d : Do) → is_some (event_of cluster t h d) ≡ not (does_wait d)
-  one_event t h (AskNext request) = refl
-  one_event t h Turn = refl
-  one_event t h (Wait due) = refl
-  one_event t h (Finish reply) = refl
+-- of each task that one of the events is about it is known what is so now, and of the others what was so
+module _ {X : Type 0} (now was : TaskId → X) (before : ℕ) (h : List Event) where
+  abbrev pub Noted : ℕ → (TaskId → X) → Type 0
+  Noted at known = (q : TaskId) → known q ≡ cond (met before at h q) (now q) (was q)
 
-  by_request : (t : TaskId) (h : List Event) (o : Option Request)
-      → is_some (option_and_then (event_of cluster t h) (option_map (λ r. planned_step cluster corpus (scripted script) t r h) o)) ≡ option_map_or (λ r. not (does_wait (plan_from cluster corpus t (facts_of (scripted script) t h) r))) o false
-  by_request t h None = refl
-  by_request t h (Some r) = one_event t h (planned_step cluster corpus (scripted script) t r h)
-
-  -- the facts of the task
-  abbrev facts_at : TaskId → List Event → Facts
-  facts_at t h = facts_of (scripted script) t h
-
-  by_mark : (t : TaskId) (h : List Event) → Lawful cluster h → is_new t h ≡ false → (o : Option ℕ) → mark_of t h ≡ o
-      → is_some (next_of cluster corpus script t h) ≡ cond (is_some (mark_of t h)) (none_awaited (awaited_by t h)) (works_from cluster corpus t (facts_at t h))
-  by_mark t h l n None m = rw n (rw m (by_request t h (request_of (scripted script) t h)))
-  by_mark t h l n (Some c) m = rw n (rw m (ends_cancelled cluster t h l c))
-
-  by_new : (t : TaskId) (h : List Event) → Lawful cluster h → (b : Bool) → is_new t h ≡ b
-      → is_some (next_of cluster corpus script t h) ≡ (is_new t h || cond (is_some (mark_of t h)) (none_awaited (awaited_by t h)) (works_from cluster corpus t (facts_at t h)))
-  by_new t h l true n = rw n refl
-  by_new t h l false n = by_mark t h l n (mark_of t h) refl ∙ sym (ap (λ b. b || cond (is_some (mark_of t h)) (none_awaited (awaited_by t h)) (works_from cluster corpus t (facts_at t h))) n)
-
-  pub acts_by_facts : (t : TaskId) (h : List Event) → Lawful cluster h → is_ready cluster corpus script h t ≡ acts_from cluster corpus t (facts_at t h)
-  acts_by_facts t h l = ap (λ b. is_live t h && b) (by_new t h l (is_new t h) refl)
-
-  -- an event changes this of no task but that which it is about
-  pub acts_same : (t : TaskId) (e : Event) (h : List Event) → Lawful cluster (e ∷ h) → is_about t e ≡ false → is_ready cluster corpus script (e ∷ h) t ≡ is_ready cluster corpus script h t
-  acts_same t e h l apart = acts_by_facts t (e ∷ h) l ∙ ap (acts_from cluster corpus t) (frame (scripted script) t e h apart) ∙ sym (acts_by_facts t h l.1)
-
-  -- nor do some events that are about others
-  unmet : (q : TaskId) (n : ℕ) (h : List Event) → Lawful cluster h → list_any (is_about q) (take n h) ≡ false → is_ready cluster corpus script (drop n h) q ≡ is_ready cluster corpus script h q
-  unmet q zero h l apart = refl
-  unmet q (suc n) [] l apart = refl
-  unmet q (suc n) (e ∷ h) l apart =
-      let two = neither (is_about q e) (list_any (is_about q) (take n h)) apart in
-      unmet q n h l.1 two.1 ∙ sym (acts_same q e h l two.0)
-
-  -- ---- once the events are noted from one place up to another
-
-  -- each task is known that one of them is about, and of the others what was known
-  abbrev pub Noted : ℕ → ℕ → List Event → (TaskId → Bool) → Type 0
-  Noted before at h known = (q : TaskId) → known q ≡ cond (was_met before at h q) (is_ready cluster corpus script h q) (is_ready cluster corpus script (past_of before h) q)
-
-  pub none_noted : (before : ℕ) (h : List Event) (known : TaskId → Bool) → ((q : TaskId) → known q ≡ is_ready cluster corpus script (past_of before h) q) → Noted before before h known
-  none_noted before h known had q =
+  pub none_noted : (known : TaskId → X) → ((q : TaskId) → known q ≡ was q) → Noted before known
+  none_noted known had q =
       let none : before - before ≡ 0 = omega arith in
-      had q ∙ sym (ap (λ n. cond (list_any (is_about q) (take n (past_of before h))) (is_ready cluster corpus script h q) (is_ready cluster corpus script (past_of before h) q)) none)
+      had q ∙ sym (ap (λ n. cond (list_any (is_about q) (take n (past_of before h))) (now q) (was q)) none)
 
-  pub one_noted : (before at : ℕ) (h : List Event) (e : Event) (t : TaskId) (old new : TaskId → Bool) → before ≤ at → event_at at h ≡ Some e → about e ≡ Some t
-      → ((q : TaskId) → new q ≡ cond (same_task t q) (is_ready cluster corpus script h q) (old q)) → Noted before at h old → Noted before (at + 1) h new
-  one_noted before at h e t old new low here a noted so_far q =
+  pub one_noted : (at : ℕ) (e : Event) (t : TaskId) (old new : TaskId → X) → before ≤ at → event_at at h ≡ Some e → about e ≡ Some t
+      → ((q : TaskId) → new q ≡ cond (same_task t q) (now q) (old q)) → Noted at old → Noted (at + 1) new
+  one_noted at e t old new low here a noted so_far q =
       let more = met_next before at h e low here q in
-      let is_one = about_it e t a q in
-      let was = so_far q in
-      let now = noted q in
-      grind (arith, more, is_one, was, now)
+      noted q ∙ ap (cond (same_task t q) (now q)) (so_far q) ∙ by_test (same_task t q) (met before at h q) ∙ sym (ap (λ b. cond b (now q) (was q)) (more ∙ ap (λ b. b || met before at h q) (about_it e t a q)))
+    where
+      by_test : (a b : Bool) → cond a (now q) (cond b (now q) (was q)) ≡ cond (a || b) (now q) (was q)
+      by_test true b = refl
+      by_test false b = refl
 
-  pub other_noted : (before at : ℕ) (h : List Event) (e : Event) (known : TaskId → Bool) → before ≤ at → event_at at h ≡ Some e → about e ≡ None → Noted before at h known → Noted before (at + 1) h known
-  other_noted before at h e known low here a so_far q =
+  pub other_noted : (at : ℕ) (e : Event) (known : TaskId → X) → before ≤ at → event_at at h ≡ Some e → about e ≡ None → Noted at known → Noted (at + 1) known
+  other_noted at e known low here a so_far q =
       let more = met_next before at h e low here q in
       let none : is_about q e ≡ false = rw a refl in
-      let was = so_far q in
-      grind (arith, more, none, was)
+      so_far q ∙ sym (ap (λ b. cond b (now q) (was q)) (more ∙ ap (λ b. b || met before at h q) none))
 
-  pub all_noted : (before at : ℕ) (h : List Event) (known : TaskId → Bool) → Lawful cluster h → before ≤ length h → at ≡ length h → Noted before at h known → (q : TaskId) → known q ≡ is_ready cluster corpus script h q
-  all_noted before at h known l low e noted q = noted q ∙ rw e (by_met (was_met before (length h) h q) refl)
-    where
-      whole : past_of (length h) h ≡ h
-      whole = let none : length h - length h ≡ 0 = omega arith in ap (λ n. drop n h) none
+  pub all_noted : (at : ℕ) (known : TaskId → X) → at ≡ length h → Noted at known → (q : TaskId) → known q ≡ cond (was_met before h q) (now q) (was q)
+  all_noted at known e noted q =
+      let none : length h - length h ≡ 0 = omega arith in
+      noted q ∙ ap (λ n. cond (met before n h q) (now q) (was q)) e ∙ ap (λ n. cond (list_any (is_about q) (take (length h - before) (drop n h))) (now q) (was q)) none
 
-      by_met : (b : Bool) → was_met before (length h) h q ≡ b
-          → cond (was_met before (length h) h q) (is_ready cluster corpus script h q) (is_ready cluster corpus script (past_of before h) q) ≡ is_ready cluster corpus script h q
-      by_met true m = rw m refl
-      by_met false m = rw m (unmet q (length h - before) h l (sym (ap (λ xs. list_any (is_about q) (take (length h - before) xs)) whole) ∙ m))
+-- ---- and then what comes due
+
+clock_on : (e : Event) (h : List Event) → clock h ≤ clock (e ∷ h)
+clock_on (Tick ms) h = omega arith
+clock_on _ h = omega arith
+
+clock_low : (n : ℕ) (h : List Event) → clock (drop n h) ≤ clock h
+clock_low zero h = omega arith
+clock_low (suc n) [] = omega arith
+clock_low (suc n) (e ∷ h) = let on = clock_on e h in let low = clock_low n h in omega (arith, on, low)
+
+lawful_before : (cluster : Cluster) (n : ℕ) (h : List Event) → Lawful cluster h → Lawful cluster (drop n h)
+lawful_before cluster zero h l = l
+lawful_before cluster (suc n) [] l = tt
+lawful_before cluster (suc n) (e ∷ h) l = lawful_before cluster n h l.1
+
+unmet : (said : Scripted) (q : TaskId) (n : ℕ) (h : List Event) → list_any (is_about q) (take n h) ≡ false → stance_of said q (drop n h) ≡ stance_of said q h
+unmet said q zero h apart = refl
+unmet said q (suc n) [] apart = refl
+unmet said q (suc n) (e ∷ h) apart =
+    let two = neither (is_about q e) (list_any (is_about q) (take n h)) apart in
+    unmet said q n h two.1 ∙ sym (frame said q e h two.0)
+
+module _ (cluster : Cluster) (corpus : Corpus) (script : Script) (h : List Event) (l : Lawful cluster h) (n : ℕ) (q : TaskId) (apart : list_any (is_about q) (take n h) ≡ false) where
+  -- for which moment a task waited that none of the events is about, and for which it waits
+  waits_on : due_of cluster corpus script q h ≡ cond (has_come (clock h) (due_of cluster corpus script q (drop n h))) None (due_of cluster corpus script q (drop n h))
+  waits_on =
+      waits_by_stance cluster corpus script q h ∙ ap (waits_by cluster q (clock h)) (sym (unmet (scripted script) q n h apart))
+      ∙ waits_then cluster q (stance_of (scripted script) q (drop n h)) (clock (drop n h)) (clock h) (clock_low n h)
+      ∙ ap (λ o. cond (has_come (clock h) o) None o) (sym (waits_by_stance cluster corpus script q (drop n h)))
+
+  acts_on : has_come (clock h) (due_of cluster corpus script q (drop n h)) ≡ false → is_ready cluster corpus script (drop n h) q ≡ is_ready cluster corpus script h q
+  acts_on none =
+      acts_by_stance cluster corpus script q (drop n h) (lawful_before cluster n h l)
+      ∙ sym (acts_then cluster q (stance_of (scripted script) q (drop n h)) (clock (drop n h)) (clock h) (clock_low n h) (sym (ap (has_come (clock h)) (waits_by_stance cluster corpus script q (drop n h))) ∙ none))
+      ∙ ap (acts_by cluster q (clock h)) (unmet (scripted script) q n h apart) ∙ sym (acts_by_stance cluster corpus script q h l)
+
+-- Who waits for a moment that has come is the only one of whom it is not known whether it acts.
+pub alarmed : (s : State) (before : ℕ) (ready : Ready) → Lawful s.cluster s.history → s.clock ≡ clock s.history → HasNoted s before ready → HasAlarmed s ready
+alarmed s before ready l now noted = record {
+  tasks = λ t. tasks_so t (was_met before s.history t) refl;
+  kept = noted.kept;
+  alarms = λ t. alarms_so t (was_met before s.history t) refl;
+}
+  where
+    none_come : (t : TaskId) → has_come s.clock (due_of s.cluster s.corpus.now s.script.now t s.history) ≡ false
+    none_come t =
+        ap (λ n. has_come n (due_of s.cluster s.corpus.now s.script.now t s.history)) now ∙ ap (has_come (clock s.history)) (waits_by_stance s.cluster s.corpus.now s.script.now t s.history)
+        ∙ to_come s.cluster t (stance_of (scripted s.script.now) t s.history) (clock s.history)
+
+    alarms_so : (t : TaskId) (b : Bool) → was_met before s.history t ≡ b → due_of s.cluster s.corpus.now s.script.now t s.history ≡ cond (has_come s.clock (alarm_at ready.alarms t)) None (alarm_at ready.alarms t)
+    alarms_so t true m =
+        let is = rw m at (noted.alarms t) in
+        rw (is, none_come t) refl
+    alarms_so t false m =
+        let is = rw m at (noted.alarms t) in
+        rw (is, now) (waits_on s.cluster s.corpus.now s.script.now s.history l (length s.history - before) t m)
+
+    tasks_so : (t : TaskId) (b : Bool) → was_met before s.history t ≡ b → has_come s.clock (alarm_at ready.alarms t) ≡ false → contains task_id_cmp ready.tasks t ≡ is_ready s.cluster s.corpus.now s.script.now s.history t
+    tasks_so t true m none = rw m at (noted.tasks t)
+    tasks_so t false m none =
+        let is = rw m at (noted.tasks t) in
+        let waited = rw m at (noted.alarms t) in
+        is ∙ acts_on s.cluster s.corpus.now s.script.now s.history l (length s.history - before) t m (sym (ap (λ n. has_come n (due_of s.cluster s.corpus.now s.script.now t (past_of before s.history))) now) ∙ ap (has_come s.clock) (sym waited) ∙ none)
+
+-- one whose moment has come is looked at, and waits for none
+pub one_rung : (s : State) (old new : Ready) (t : TaskId) (moment : ℕ) → alarm_at old.alarms t ≡ Some moment → moment ≤ s.clock → HasAlarmed s old
+    → ((q : TaskId) → alarm_at new.alarms q ≡ cond (same_task t q) None (alarm_at old.alarms q)) → ((q : TaskId) → contains task_id_cmp new.tasks q ≡ cond (same_task t q) (is_ready s.cluster s.corpus.now s.script.now s.history q) (contains task_id_cmp old.tasks q))
+    → AreAlarms new.alarms → HasAlarmed s new
+one_rung s old new t moment there come known taken noted kept = record {
+  tasks = λ q none. tasks_so q (same_task_tells t q) none;
+  kept = kept;
+  alarms = λ q. alarms_so q (same_task_tells t q);
+}
+  where
+    over : due_of s.cluster s.corpus.now s.script.now t s.history ≡ None
+    over = let it = rw there at (known.alarms t) in let yes : nat_le moment s.clock ≡ true = grind (arith, nat_tests) in it ∙ ap (λ b. cond b None (Some moment)) yes
+
+    tasks_so : (q : TaskId) → ((same_task t q ≡ true) × (t ≡ q)) ⊎ ((same_task t q ≡ false) × (t ≢ q)) → has_come s.clock (alarm_at new.alarms q) ≡ false → contains task_id_cmp new.tasks q ≡ is_ready s.cluster s.corpus.now s.script.now s.history q
+    tasks_so q (inl (one, same)) none = noted q ∙ ap (λ b. cond b (is_ready s.cluster s.corpus.now s.script.now s.history q) (contains task_id_cmp old.tasks q)) one
+    tasks_so q (inr (differs, apart)) none =
+        let as_before = taken q ∙ ap (λ b. cond b None (alarm_at old.alarms q)) differs in
+        noted q ∙ ap (λ b. cond b (is_ready s.cluster s.corpus.now s.script.now s.history q) (contains task_id_cmp old.tasks q)) differs ∙ known.tasks q (sym (ap (has_come s.clock) as_before) ∙ none)
+
+    alarms_so : (q : TaskId) → ((same_task t q ≡ true) × (t ≡ q)) ⊎ ((same_task t q ≡ false) × (t ≢ q)) → due_of s.cluster s.corpus.now s.script.now q s.history ≡ cond (has_come s.clock (alarm_at new.alarms q)) None (alarm_at new.alarms q)
+    alarms_so q (inl (one, same)) =
+        let gone = taken q ∙ ap (λ b. cond b None (alarm_at old.alarms q)) one in
+        ap (λ u. due_of s.cluster s.corpus.now s.script.now u s.history) (sym same) ∙ over ∙ sym (ap (λ o. cond (has_come s.clock o) None o) gone)
+    alarms_so q (inr (differs, apart)) =
+        let as_before = taken q ∙ ap (λ b. cond b None (alarm_at old.alarms q)) differs in
+        known.alarms q ∙ sym (ap (λ o. cond (has_come s.clock o) None o) as_before)
+
+-- where none has come it is known of all
+pub all_rung : (s : State) (ready : Ready) → HasAlarmed s ready → ((q : TaskId) (moment : ℕ) → alarm_at ready.alarms q ≡ Some moment → s.clock < moment) → HasReady s ready
+all_rung s ready known later = record {
+  tasks = λ q. known.tasks q (none q);
+  kept = known.kept;
+  alarms = λ q. sym (known.alarms q ∙ ap (λ b. cond b None (alarm_at ready.alarms q)) (none q));
+}
+  where
+    by_moment : (q : TaskId) (o : Option ℕ) → alarm_at ready.alarms q ≡ o → has_come s.clock o ≡ false
+    by_moment q None e = refl
+    by_moment q (Some moment) e = let after = later q moment e in grind (arith, nat_tests)
+
+    none : (q : TaskId) → has_come s.clock (alarm_at ready.alarms q) ≡ false
+    none q = by_moment q (alarm_at ready.alarms q) refl

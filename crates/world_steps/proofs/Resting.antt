@@ -1,52 +1,63 @@
--- Where it has settled, nothing is live.
-use Rattle.std.proofs.Common.{◌≡◌, ◌≢◌, ℕ, Bool, true, false, List, [], Option, Some, None, refl, sym, ◌∙◌}
+-- Where it has settled and a task is live, some task waits for a moment.
+use Rattle.std.proofs.Common.{◌≡◌, ◌≢◌, ℕ, Bool, true, false, List, [], Option, Some, None, refl, sym, ap, ◌∙◌}
+use Rattle.std.specs.Prelude.{is_some}
 use Rattle.task_ids.specs.declared.task_id.TaskId.{TaskId}
 use Rattle.task_ids.specs.declared.cluster.Cluster.{Cluster}
 use Rattle.task_ids.specs.declared.corpus.Corpus.{Corpus}
+use Rattle.task_ids.specs.declared.doc.Doc.{Doc}
 use Rattle.task_table.specs.Table.{Table}
 use Rattle.task_events.specs.declared.event.Event.{Event}
 use Rattle.task_events.specs.declared.step.Do.{Do}
 use Rattle.task_events.specs.declared.step.Do.TheVariants.{AskNext, Turn, Wait, Finish}
 use Rattle.task_events.specs.Asks.{unanswered}
 use Rattle.task_events.specs.Bans.{mark_of, listing_is_open}
+use Rattle.task_events.specs.Clock.{clock}
 use Rattle.task_events.specs.Laws.{IsAtRest, IsLeaf, IsDrained}
-use Rattle.task_events.specs.Requests.{request_of}
 use Rattle.task_events.specs.Steps.{event_of}
 use Rattle.task_events.specs.Tasks.{is_live, is_new}
 use Rattle.task_laws.proofs.Rest.{leaf}
-use Rattle.task_work.specs.Works.{next_of, does_wait}
+use Rattle.task_work.specs.Works.{next_of, does_wait, due_in}
 use Rattle.script_lang.specs.declared.command.Script.{Script}
 use Rattle.world_moves.specs.declared.flight.Sent.{Sent}
 use Rattle.node_parts.specs.declared.running.Running.{Running}
-use Rattle.command_roots.specs.Roots.{scripted}
+use Rattle.world_steps.specs.Draining.{due_of}
 use Rattle.world_steps.specs.Runs as runs
+use Rattle.world_steps.specs.World.{due_by}
 use Rattle.world_moves.specs.Ties.{Ties}
-use Rattle.world_moves.proofs.AllKinds.{kind_laws}
 use Rattle.world_moves.proofs.NoneAwaited.{none_to_await}
-use Rattle.world_steps.proofs.Plans.{next_new, next_old, ends_marked, writes_at}
-use Rattle.world_moves.proofs.StepsAfter.{kept_running, is_kept}
+use Rattle.world_moves.proofs.StepsAfter.{is_kept, runs_of}
+use Rattle.world_steps.proofs.Plans.{laws_at, next_new, next_old, ends_marked, waits_kept, writes_at}
 
-has_event : (cluster : Cluster) (t : TaskId) (h : List Event) (d : Do) → does_wait d ≡ false → event_of cluster t h d ≡ None → ⊥
-has_event cluster t h (AskNext request) goes none = cc
-has_event cluster t h Turn goes none = cc
-has_event cluster t h (Wait due) goes none = cc
-has_event cluster t h (Finish reply) goes none = cc
+waits_then : (cluster : Cluster) (t : TaskId) (h : List Event) (d : Do) → event_of cluster t h d ≡ None → does_wait d ≡ true
+waits_then cluster t h (AskNext request) none = absurd (cc)
+waits_then cluster t h Turn none = absurd (cc)
+waits_then cluster t h (Wait due) none = refl
+waits_then cluster t h (Finish reply) none = absurd (cc)
+
+due_plain : (r : Running) (writes : List Doc) (now : ℕ) → r.is_new ≡ false → r.track.closed ≡ None → due_by r writes now ≡ due_in (next_of r.work writes now)
+due_plain r writes now n m = rw (n, m) refl
+
+some_moment : (o : Option ℕ) → is_some o ≡ true → (moment : ℕ) × (o ≡ Some moment)
+some_moment None e = absurd (cc)
+some_moment (Some moment) e = (moment, refl)
 
 module _ (cluster : Cluster) (corpus : Corpus) (script : Script) (h : List Event) (tasks : TaskId → Option Running) (tables : List Table) (flight : List Sent) (ties : Ties cluster corpus script h tasks tables flight) where
-  -- a task with no ask unanswered makes a step
-  leaf_moves : (u : TaskId) → IsLeaf u h → runs.next_of cluster corpus script u h ≢ None
-  leaf_moves u l = by_kept (tasks u) refl
+  -- a task with no ask unanswered waits for a moment, if it waits
+  leaf_waits : (u : TaskId) → IsLeaf u h → runs.next_of cluster corpus script u h ≡ None → (moment : ℕ) × (due_of cluster corpus script u h ≡ Some moment)
+  leaf_waits u l none = by_kept (tasks u) refl
     where
-      by_kept : (o : Option Running) → tasks u ≡ o → runs.next_of cluster corpus script u h ≢ None
+      by_kept : (o : Option Running) → tasks u ≡ o → (moment : ℕ) × (due_of cluster corpus script u h ≡ Some moment)
       by_kept None e = absurd (is_kept cluster corpus script h tasks tables flight ties u l.live e)
-      by_kept (Some r) e = λ none.
+      by_kept (Some r) e =
           let writes = writes_at cluster corpus script h tasks tables flight ties u in
-          let works = (kept_running cluster corpus script h tasks tables flight ties u l.live r e).works in
-          let next = next_old cluster corpus script h tasks tables flight ties u l.live l.passed l.unmarked r e in
-          has_event cluster u h (next_of r.work writes) ((kind_laws cluster corpus u _ _ _ _ _ (request_of (scripted script) u h) r.work works).moves writes (none_to_await cluster u h ties.lawful l.answered)) (sym next ∙ none)
+          let laws = laws_at cluster corpus script h tasks tables flight ties u l.live l.passed r e in
+          let kept = runs_of cluster corpus script h tasks tables flight ties u r e in
+          let waits = waits_then cluster u h (next_of r.work writes (clock h)) (sym (next_old cluster corpus script h tasks tables flight ties u l.live l.passed l.unmarked r e) ∙ none) in
+          let found = some_moment (due_in (next_of r.work writes (clock h))) (sym (laws.moves writes (clock h) (none_to_await cluster u h ties.lawful l.answered)) ∙ waits) in
+          (found.0, waits_kept cluster corpus script h tasks tables flight ties u l.live r e ∙ due_plain r writes (clock h) (kept.new ∙ l.passed) (ap (λ track. track.closed) kept.track ∙ l.unmarked) ∙ found.1)
 
-  pub drained : runs.IsSettled cluster corpus script h → IsDrained h
-  drained s = record { nothing_in_flight = s.nothing_in_flight; no_listing = closed; nothing_live = λ t. gone t (is_live t h) refl }
+  pub drained : runs.IsSettled cluster corpus script h → ((t : TaskId) → due_of cluster corpus script t h ≡ None) → IsDrained h
+  drained s none_due = record { nothing_in_flight = s.nothing_in_flight; no_listing = closed; nothing_live = λ t. gone t (is_live t h) refl }
     where
       closed : (n : ℕ) (p : TaskId) → listing_is_open n p h ≡ false
       closed n p = s.no_listing (record { node = n; parent = p })
@@ -73,4 +84,7 @@ module _ (cluster : Cluster) (corpus : Corpus) (script : Script) (h : List Event
 
       gone : (t : TaskId) (b : Bool) → is_live t h ≡ b → is_live t h ≡ false
       gone t false e = e
-      gone t true e = let found = leaf cluster h ties.lawful rest t e in absurd (leaf_moves found.0 found.1 (s.all_wait found.0 found.1.live))
+      gone t true e =
+          let found = leaf cluster h ties.lawful rest t e in
+          let waits = leaf_waits found.0 found.1 (s.all_wait found.0 found.1.live) in
+          absurd (let never = none_due found.0 in let some = waits.1 in cc)

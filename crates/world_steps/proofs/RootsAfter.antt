@@ -25,7 +25,9 @@ use Rattle.world_moves.specs.Facts.{Facts, facts_of}
 use Rattle.world_moves.specs.Moves.{IsStart}
 use Rattle.command_roots.specs.Roots.{root_request, root_headers, scripted}
 use Rattle.world_moves.specs.Ties.{Ties}
-use Rattle.world_moves.proofs.AllKinds.{IsPageOf}
+use Rattle.world_moves.specs.Good.{so_far}
+use Rattle.world_moves.proofs.AllKinds.{IsPageOf, works_first}
+use Rattle.world_steps.proofs.PagesStart.{root_of_nobody, root_within}
 use Rattle.world_moves.proofs.FactsAfter.{at_root}
 use Rattle.world_moves.proofs.FlightAfter.{all_stay}
 use Rattle.world_moves.proofs.KeptTasks.{kept_after, kept_same}
@@ -38,10 +40,11 @@ module _ (cluster : Cluster) (corpus : Corpus) (script : Script) (h : List Event
   pub after_begin : last_command h + 1 ≡ command → Ties cluster corpus script (Begin command ∷ h) tasks tables flight
   after_begin next = record {
     lawful = (sym next, ties.lawful, awaits);
-    kept = kept_same cluster corpus (scripted script) (Begin command) h tasks refl ties.kept;
+    kept = kept_same cluster corpus (scripted script) (Begin command) h tasks refl refl ties.kept;
     listed = λ place. listed_same cluster (Begin command) h (λ n. refl) refl place _ (ties.listed place);
     sent = all_stay (Begin command) h flight _ ties.sent;
     good = ties.good;
+    within = ties.within;
     plain = ties.plain;
   }
 
@@ -50,10 +53,11 @@ module _ (cluster : Cluster) (corpus : Corpus) (script : Script) (h : List Event
     pub after_root_rejected : cluster.slots ≤ live_on node h → Ties cluster corpus script (RootRejected command node ∷ h) tasks tables flight
     after_root_rejected full = record {
       lawful = (record { begins = begun; low = low; high = high; full = full }, ties.lawful, awaits);
-      kept = kept_same cluster corpus (scripted script) (RootRejected command node) h tasks refl ties.kept;
+      kept = kept_same cluster corpus (scripted script) (RootRejected command node) h tasks refl refl ties.kept;
       listed = λ place. listed_same cluster (RootRejected command node) h (λ n. refl) refl place _ (ties.listed place);
       sent = all_stay (RootRejected command node) h flight _ ties.sent;
       good = ties.good;
+      within = ties.within;
       plain = ties.plain;
     }
 
@@ -68,17 +72,20 @@ module _ (cluster : Cluster) (corpus : Corpus) (script : Script) (h : List Event
       pub starts_root : IsStart cluster h command node true (Root command t)
       starts_root = (takes, node_is, refl)
 
-      pub after_root : (request : Request) (page : Option Context) (headers : Headers) (running : Running) (kept : TaskId → Option Running) → root_request script command h ≡ Some request → headers ≡ root_headers script command
-          → page ≡ asked_page (λ id. context_at (scripted script) id h) (Some request) → IsPageOf page request
-          → running ≡ first t None false running.work headers → new_work t request cluster.shards page ≡ Some running.work → ((writes : List Doc) → IsWorkOn running.work writes)
+      pub after_taking : (request : Request) (page : Option Context) (headers : Headers) (running : Running) (kept : TaskId → Option Running) → root_request script command h ≡ Some request → headers ≡ root_headers script command
+          → page ≡ asked_page (λ id. context_at (scripted script) id h) (Some request) → IsPageOf cluster (so_far corpus script h) page request
+          → running ≡ first t None false request running.work headers → new_work t request cluster.shards page ≡ Some running.work → ((writes : List Doc) → IsWorkOn running.work writes)
           → kept t ≡ Some running → ((q : TaskId) → same_task t q ≡ false → kept q ≡ tasks q)
           → Ties cluster corpus script (Root command t ∷ h) kept after flight
-      after_root request page headers running kept asked carried shows sound is work on here others = record {
+      after_taking request page headers running kept asked carried shows sound is work on here others = record {
         lawful = (record { begins = begun; in_cluster = rw node_is high; takes = takes }, ties.lawful, awaits);
-        kept = kept_after cluster corpus (scripted script) t (Root command t) h tasks kept refl ties.kept (rw here (runs_first cluster corpus t None false request page headers _ running facts is work on sound)) others;
+        kept = kept_after cluster corpus (scripted script) t (Root command t) h tasks kept refl refl ties.kept
+            (rw here (runs_first cluster (so_far corpus script) (Root command t ∷ h) t None false request page headers _ running facts is
+            (works_first cluster (so_far corpus script h) t false request page running.work work on sound (root_within cluster (so_far corpus script h) request (root_of_nobody script command h request asked))))) others;
         listed = put_listed cluster h tables ties.listed node low high t task after put (Root command t) (record { last = λ n. refl; live = refl });
         sent = all_stay (Root command t) h flight _ ties.sent;
         good = ties.good;
+        within = ties.within;
         plain = ties.plain;
       }
         where

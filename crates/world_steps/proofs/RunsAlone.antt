@@ -13,9 +13,12 @@ use Rattle.task_events.specs.declared.step.Asked.{Asked}
 use Rattle.task_events.specs.declared.step.Do.{Do}
 use Rattle.task_events.specs.declared.step.Do.TheVariants.{AskNext, Turn, Wait, Finish}
 use Rattle.task_events.specs.declared.event.Event.{Event}
-use Rattle.task_events.specs.declared.event.Event.TheVariants.{Begin, Root, RootRejected, Ask, Put, Reject, Refuse, Answered, BanPut, BanGone, Cancel, NotFound, Mark, Listed, Acked, End, AnswerPlaced, AnswerDone, Tick as TickEvent}
+use Rattle.task_events.specs.declared.event.Event.TheVariants.{Begin, Root, RootRejected, Ask, Put, Reject, Refuse, Work, Answered, BanPut, BanGone, Cancel, NotFound, Mark, Listed, Acked, End, AnswerPlaced, AnswerDone, Tick as TickEvent}
 use Rattle.task_events.specs.declared.reply.Reply.{Reply}
+use Rattle.task_events.specs.declared.reply.Counts.{Counts}
 use Rattle.task_events.specs.declared.request.FetchAsk.{FetchAsk}
+use Rattle.task_events.specs.declared.request.WriteNote.{WriteNote}
+use Rattle.task_events.specs.Written.{corpus_at, turn_notes, with_notes, write_of}
 use Rattle.task_events.specs.declared.request.Request.{Request as AskedFor}
 use Rattle.task_events.specs.declared.request.SearchAsk.{SearchAsk}
 use Rattle.serde_json.specs.Data.{Data}
@@ -23,7 +26,8 @@ use Rattle.task_events.specs.declared.request.Request.TheVariants as asks
 use Rattle.task_events.specs.Asks.{Pending, unanswered}
 use Rattle.task_events.specs.Bans.{mark_of, ban_over}
 use Rattle.task_events.specs.Clock.{clock}
-use Rattle.task_events.specs.Contexts.{is_busy, context_at, page_of}
+use Rattle.task_events.specs.Contexts.{is_busy, context_at}
+use Rattle.task_events.specs.Kind.{Progress}
 use Rattle.task_events.specs.Kinds.{kind_of}
 use Rattle.task_events.specs.Looking.{work_or_end}
 use Rattle.task_events.specs.Messages.{Message}
@@ -32,7 +36,8 @@ use Rattle.task_events.specs.Readings.{Reading, search_reading, page_reading}
 use Rattle.task_events.specs.Requests.{Scripted, request_of}
 use Rattle.task_events.specs.Searches.{query_of, requests_of, fetches_of, tops_in, has_queried, are_answered, search_reply}
 use Rattle.task_events.specs.SearchTask.{ask_or_end}
-use Rattle.task_events.specs.Steps.{asked_by, turns_of, event_of, first_step, cancelled_step, step_of_passed, planned_step}
+use Rattle.task_events.specs.ScrollTask.{scroll_step}
+use Rattle.task_events.specs.Steps.{counted, turns_of, event_of, first_step, cancelled_step, step_of_passed, planned_step, progress_of}
 use Rattle.task_events.specs.Tasks.{is_live, is_new}
 use Rattle.script_lang.specs.declared.command.Script.{Script}
 use Rattle.script_lang.specs.declared.command.Command.{Command}
@@ -49,7 +54,8 @@ use Rattle.search_phase.proofs.Lookups.{list_all-append}
 use Rattle.search_phase.proofs.Requests.{list_all-slice_get}
 use Rattle.world_steps.specs.declared.acting.Stepped.{Stepped}
 use Rattle.world_steps.specs.declared.acting.Stepped.TheVariants.{Done, Waiting, NotRunning}
-use Rattle.world_steps.specs.Runs.{AnswersStep, FirstMoves, Passes, PartlySettles}
+use Rattle.world_steps.specs.Draining.{PartlyEmpties, StartsAgain, ticked_to}
+use Rattle.world_steps.specs.Runs.{after_step, AnswersStep, FirstMoves, Passes, PartlySettles}
 use Rattle.world_steps.specs.Scripts.{can_start, can_page, page_node, StartsWhere, Does, PartlyDoes, HasRun, IsRunSoFar, closing}
 use Rattle.world_steps.proofs.PagesStart.{usable_found}
 use Rattle.world_steps.proofs.UsedAlone.{FindsFree, is_part, OneAtATime}
@@ -114,6 +120,12 @@ module _ (said : Scripted) where
   due_after (End t reply) h q alone = answered_after t (End t reply ∷ h) alone
   due_after (Acked p n) h q alone = answered_after p (Acked p n ∷ h) alone
   due_after e h q alone = quiet said e h q alone
+
+  -- ---- writes
+
+  noted_after : (notes : List WriteNote) (h : List Event) → Keeps h (with_notes notes h)
+  noted_after [] h alone = alone
+  noted_after (note ∷ notes) h alone = noted_after notes (write_of note ∷ h) alone
 
   -- ---- cancels
 
@@ -195,17 +207,20 @@ search_part : (r : Reading) (asked : List Asked) (request : AskedFor) → ask_or
 search_part r asked request e =
     list_all-slice_get is_part (requests_of r asked) (length asked) request (requests_parts r asked) (next_part (slice_get (requests_of r asked) (length asked)) (are_answered asked) (search_reply r asked) request e)
 
+page_part : (page : Option Context) (asked : List Asked) (request : AskedFor) → scroll_step page asked ≡ AskNext request → is_part request ≡ true
+page_part None asked request e = absurd (cc)
+page_part (Some c) asked request e = search_part (page_reading c) asked request e
+
 work_asks_none : (b : Bool) (reply : Reply) (request : AskedFor) → work_or_end b reply ≡ AskNext request → ⊥
 work_asks_none true reply request e = cc
 work_asks_none false reply request e = cc
 
 module _ (cluster : Cluster) (corpus : Corpus) (t : TaskId) where
-  kind_part : (asked_for : AskedFor) (page : Option Context) (asked : List Asked) (turns : ℕ) (request : AskedFor) → (kind_of asked_for).step cluster corpus t page asked turns ≡ AskNext request → is_part request ≡ true
-  kind_part (asks.Search ask) page asked turns request e = search_part (search_reading t ask cluster.shards) asked request e
-  kind_part (asks.Scroll ask) None asked turns request e = absurd (cc)
-  kind_part (asks.Scroll ask) (Some c) asked turns request e = search_part (page_reading c) asked request e
-  kind_part (asks.Query ask) page asked turns request e = absurd (work_asks_none _ _ request e)
-  kind_part (asks.Fetch ask) page asked turns request e = absurd (work_asks_none _ _ request e)
+  asks_part : (written : Corpus) (asked_for : AskedFor) (p : Progress) (now : ℕ) (request : AskedFor) → (kind_of asked_for).step cluster written t p now ≡ AskNext request → is_part request ≡ true
+  asks_part written (asks.Search ask) p now request e = search_part (search_reading t ask cluster.shards) p.asked request e
+  asks_part written (asks.Scroll ask) p now request e = page_part p.page p.asked request e
+  asks_part written (asks.Query ask) p now request e = absurd (work_asks_none _ _ request e)
+  asks_part written (asks.Fetch ask) p now request e = absurd (work_asks_none _ _ request e)
 
   some_quiet : (e d : Event) → is_quiet d ≡ true → Some d ≡ Some e → is_quiet e ≡ true
   some_quiet e d q same = subst (λ o. option_map_or is_quiet o true ≡ true) same q
@@ -214,9 +229,9 @@ module _ (cluster : Cluster) (corpus : Corpus) (t : TaskId) where
   by_first None e same = some_quiet e (first_step t None) refl same
   by_first (Some c) e same = some_quiet e (first_step t (Some c)) refl same
 
-  by_mark : (c : ℕ) (pending : List Pending) (e : Event) → cancelled_step t c pending ≡ Some e → is_quiet e ≡ true
-  by_mark c [] e same = subst (λ o. option_map_or is_quiet o true ≡ true) same refl
-  by_mark c (ask ∷ pending) e same = absurd (cc)
+  by_mark : (c : ℕ) (counts : Counts) (pending : List Pending) (e : Event) → cancelled_step t c counts pending ≡ Some e → is_quiet e ≡ true
+  by_mark c counts [] e same = subst (λ o. option_map_or is_quiet o true ≡ true) same refl
+  by_mark c counts (ask ∷ pending) e same = absurd (cc)
 
   by_plan : (h : List Event) (d : Do) → ((request : AskedFor) → d ≡ AskNext request → is_part request ≡ true) → (e : Event) → event_of cluster t h d ≡ Some e → is_quiet e ≡ true
   by_plan h (AskNext request) parts e same = subst (λ o. option_map_or is_quiet o true ≡ true) same (parts request refl)
@@ -224,13 +239,14 @@ module _ (cluster : Cluster) (corpus : Corpus) (t : TaskId) where
   by_plan h (Wait due) parts e same = absurd (cc)
   by_plan h (Finish reply) parts e same = subst (λ o. option_map_or is_quiet o true ≡ true) same refl
 
-  by_step : (said : Scripted) (h : List Event) (new : Bool) (mark : Option ℕ) (o : Option AskedFor) (e : Event)
-      → cond new (Some (first_step t (ban_over t h))) (step_of_passed cluster t h mark (option_map (λ request. planned_step cluster corpus said t request h) o)) ≡ Some e → is_quiet e ≡ true
-  by_step said h true mark o e same = by_first (ban_over t h) e same
-  by_step said h false (Some c) o e same = by_mark c (unanswered t h) e same
-  by_step said h false None None e same = absurd (cc)
-  by_step said h false None (Some asked_for) e same =
-      by_plan h (planned_step cluster corpus said t asked_for h) (λ request. kind_part asked_for (page_of said t h) (asked_by t h) (turns_of t h) request) e same
+  by_step : (said : Scripted) (h : List Event) (new : Bool) (mark : Option ℕ) (counts : Counts) (o : Option AskedFor) (e : Event)
+      → cond new (Some (first_step t (ban_over t h))) (step_of_passed cluster t h mark counts (option_map (λ request. planned_step cluster corpus said t request h) o)) ≡ Some e → is_quiet e ≡ true
+  by_step said h true mark counts o e same = by_first (ban_over t h) e same
+  by_step said h false (Some c) counts o e same = by_mark c counts (unanswered t h) e same
+  by_step said h false None counts None e same = absurd (cc)
+  by_step said h false None counts (Some asked_for) e same =
+      by_plan h (planned_step cluster corpus said t asked_for h)
+      (λ request. asks_part (corpus_at corpus said h) asked_for (progress_of cluster corpus said t asked_for h) (clock h) request) e same
 
 -- ---- commands
 
@@ -238,9 +254,13 @@ module _ (cluster : Cluster) (corpus : Corpus) (script : Script) where
   abbrev said : Scripted
   said = scripted script
 
+  step_keeps : (e : Event) (h : List Event) → is_quiet e ≡ true → Keeps said h (after_step cluster corpus script e h)
+  step_keeps (Work t) h q alone = noted_after said (option_map_or (λ request. turn_notes cluster (corpus_at corpus said h) request (turns_of t h)) (request_of said t h) []) (Work t ∷ h) alone
+  step_keeps e h q alone = due_after said e h q alone
+
   stepped_there : (t : TaskId) (h new : List Event) (stepped : Stepped) → AnswersStep cluster corpus script t h stepped new → Keeps said h new
   stepped_there t h new Done (e, live, next, same) =
-      λ alone. subst (OneAtATime said) (sym same) (due_after said e h (by_step cluster corpus t said h (is_new t h) (mark_of t h) (request_of said t h) e next) alone)
+      λ alone. subst (OneAtATime said) (sym same) (step_keeps e h (by_step cluster corpus t said h (is_new t h) (mark_of t h) (counted cluster corpus said t h) (request_of said t h) e next) alone)
   stepped_there t h new Waiting (live, waits, same) = stays said h new same
   stepped_there t h new NotRunning (gone, same) = stays said h new same
 
@@ -260,6 +280,14 @@ module _ (cluster : Cluster) (corpus : Corpus) (script : Script) where
 
   partly_settled : (h new : List Event) → PartlySettles cluster corpus script h new → Keeps said h new
   partly_settled h new (between, now, p, m) alone = partly (FirstMoves cluster corpus script) moved now new m (passed h between now p alone)
+
+  -- and so while it drains
+  again : (h : List Event) (between : List (List Event)) (start : List Event) → StartsAgain cluster corpus script h between start → Keeps said h start
+  again h [] start same = stays said h start same
+  again h (now ∷ later) start ((rests, (between, p)), (due, next, starts)) = λ alone. again (ticked_to due now) later start starts (passed h between now p alone)
+
+  partly_emptied : (h new : List Event) → PartlyEmpties cluster corpus script h new → Keeps said h new
+  partly_emptied h new (between, start, starts, part) = λ alone. partly_settled start new part (again h between start starts alone)
 
   -- a root that starts with what its command asks for
   started_there : (k node : ℕ) (h : List Event) → FindsFree (λ id. context_at said id h) (said.root k h) → (started : Bool) (new : List Event) → Starts cluster h k node started new → Keeps said h new
@@ -333,4 +361,4 @@ module _ (cluster : Cluster) (corpus : Corpus) (script : Script) where
   runs_alone h (inl (n, earlier, ran, inl same)) = subst (OneAtATime said) (sym same) (run_alone n earlier ran)
   runs_alone h (inl (n, earlier, ran, inr (command, at, d))) = partly_done (suc n) command at (Begin (suc n) ∷ earlier) h d (run_alone n earlier ran)
   runs_alone h (inr (earlier, ran, inl same)) = subst (OneAtATime said) (sym same) (run_alone (length script.commands) earlier ran)
-  runs_alone h (inr (earlier, ran, inr d)) = partly_settled (Begin (closing script) ∷ earlier) h d (run_alone (length script.commands) earlier ran)
+  runs_alone h (inr (earlier, ran, inr d)) = partly_emptied (Begin (closing script) ∷ earlier) h d (run_alone (length script.commands) earlier ran)

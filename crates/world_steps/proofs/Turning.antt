@@ -1,5 +1,5 @@
 -- No move begins a command, so what a command does is its turn.
-use Rattle.std.proofs.Common.{cond, ◌≡◌, ℕ, Bool, reverse, map, true, false, ◌||◌, List, [], ◌∷◌, ◌++◌, Option, Some, None, refl, sym, ap, subst, ◌∙◌, inl, inr}
+use Rattle.std.proofs.Common.{cond, ◌≡◌, ℕ, Bool, reverse, map, true, false, ◌||◌, List, [], ◌∷◌, ◌++◌, Option, Some, None, refl, sym, ap, subst, ◌∙◌, inl, inr, ◌-◌}
 use Rattle.std.specs.Prelude.{option_map, is_some, if◌then◌else◌}
 use Rattle.std.specs.List.{list_any}
 use Rattle.std.specs.Option.{option_map_or}
@@ -11,14 +11,18 @@ use Rattle.task_ids.specs.declared.corpus.Corpus.{Corpus}
 use Rattle.task_events.specs.declared.step.Do.{Do}
 use Rattle.task_events.specs.declared.step.Do.TheVariants.{AskNext, Turn, Wait, Finish}
 use Rattle.task_events.specs.declared.event.Event.{Event}
-use Rattle.task_events.specs.declared.event.Event.TheVariants.{Begin, Refuse, Cancel, NotFound, Mark, Listed, Acked, End, AnswerPlaced, AnswerDone, Tick as TickEvent}
+use Rattle.task_events.specs.declared.event.Event.TheVariants.{Begin, Refuse, Cancel, NotFound, Mark, Listed, Acked, Work, End, AnswerPlaced, AnswerDone, Tick as TickEvent}
+use Rattle.task_events.specs.declared.reply.Counts.{Counts}
+use Rattle.task_events.specs.declared.request.WriteNote.{WriteNote}
+use Rattle.task_events.specs.Clock.{clock}
+use Rattle.task_events.specs.Written.{corpus_at, turn_notes, with_notes, write_of}
 use Rattle.task_events.specs.Asks.{Pending, unanswered}
 use Rattle.task_events.specs.Bans.{mark_of, ban_over}
 use Rattle.task_events.specs.Cancels.{last_command}
 use Rattle.task_events.specs.Messages.{Message}
 use Rattle.task_events.specs.Messages.Message.{Request, Answer, Ban, Ack, Unban}
 use Rattle.task_events.specs.Requests.{request_of}
-use Rattle.task_events.specs.Steps.{event_of, first_step, cancelled_step, step_of_passed, planned_step}
+use Rattle.task_events.specs.Steps.{counted, event_of, first_step, cancelled_step, step_of_passed, planned_step, turns_of}
 use Rattle.task_events.specs.Tasks.{is_live, is_new}
 use Rattle.task_events.specs.Turns.{is_begin}
 use Rattle.script_lang.specs.declared.command.Script.{Script}
@@ -35,7 +39,8 @@ use Rattle.world_moves.specs.Cancels.{after_cancel, after_cancel_of, after_namin
 use Rattle.world_moves.specs.Listings.{AnswersListing, IsListStep, ListSteps}
 use Rattle.world_moves.specs.Moves.{IsDelivery, Delivers, IsStart, Starts}
 use Rattle.command_roots.specs.Roots.{root_of, scripted}
-use Rattle.world_steps.specs.Runs.{AnswersStep, FirstMoves, Passes, Settles}
+use Rattle.world_steps.specs.Draining.{Empties, StartsAgain, ticked_to}
+use Rattle.world_steps.specs.Runs.{after_step, AnswersStep, FirstMoves, Passes, Settles}
 use Rattle.world_steps.specs.Scripts.{can_start, can_page, page_node, StartsWhere, DeliversWhere, ListsWhere, Does, Commands, Drains, IsTurn, closing}
 
 -- some events came after, with none of which a command began
@@ -45,7 +50,7 @@ Follows h new = (events : List Event) × (new ≡ events ++ h) × (list_any is_b
 pub stays : (h new : List Event) → new ≡ h → Follows h new
 stays h new same = ([], same, refl)
 
-one_event : (h new : List Event) (e : Event) → is_begin e ≡ false → new ≡ e ∷ h → Follows h new
+pub one_event : (h new : List Event) (e : Event) → is_begin e ≡ false → new ≡ e ∷ h → Follows h new
 one_event h new e begins same = (e ∷ [], same, rw begins refl)
 
 after_both : (h m new : List Event) → Follows h m → Follows m new → Follows h new
@@ -155,9 +160,9 @@ module _ (cluster : Cluster) (t : TaskId) (h : List Event) where
   by_first None e same = begins_none e (first_step t None) refl same
   by_first (Some c) e same = begins_none e (first_step t (Some c)) refl same
 
-  by_mark : (c : ℕ) (asks : List Pending) (e : Event) → cancelled_step t c asks ≡ Some e → is_begin e ≡ false
-  by_mark c [] e same = subst (λ o. option_map_or is_begin o false ≡ false) same refl
-  by_mark c (ask ∷ asks) e same = absurd (cc)
+  by_mark : (c : ℕ) (counts : Counts) (asks : List Pending) (e : Event) → cancelled_step t c counts asks ≡ Some e → is_begin e ≡ false
+  by_mark c counts [] e same = subst (λ o. option_map_or is_begin o false ≡ false) same refl
+  by_mark c counts (ask ∷ asks) e same = absurd (cc)
 
   by_plan : (d : Do) (e : Event) → event_of cluster t h d ≡ Some e → is_begin e ≡ false
   by_plan (AskNext request) e same = subst (λ o. option_map_or is_begin o false ≡ false) same refl
@@ -165,16 +170,28 @@ module _ (cluster : Cluster) (t : TaskId) (h : List Event) where
   by_plan (Wait due) e same = absurd (cc)
   by_plan (Finish reply) e same = subst (λ o. option_map_or is_begin o false ≡ false) same refl
 
-  by_step : (new : Bool) (mark : Option ℕ) (plan : Option Do) (e : Event) → cond new (Some (first_step t (ban_over t h))) (step_of_passed cluster t h mark plan) ≡ Some e → is_begin e ≡ false
-  by_step true mark plan e same = by_first (ban_over t h) e same
-  by_step false (Some c) plan e same = by_mark c (unanswered t h) e same
-  by_step false None None e same = absurd (cc)
-  by_step false None (Some d) e same = by_plan d e same
+  by_step : (new : Bool) (mark : Option ℕ) (counts : Counts) (plan : Option Do) (e : Event) → cond new (Some (first_step t (ban_over t h))) (step_of_passed cluster t h mark counts plan) ≡ Some e → is_begin e ≡ false
+  by_step true mark counts plan e same = by_first (ban_over t h) e same
+  by_step false (Some c) counts plan e same = by_mark c counts (unanswered t h) e same
+  by_step false None counts None e same = absurd (cc)
+  by_step false None counts (Some d) e same = by_plan d e same
+
+-- ---- writes
+
+noted_after : (notes : List WriteNote) (h : List Event) → Follows h (with_notes notes h)
+noted_after [] h = stays h h refl
+noted_after (note ∷ notes) h = after_both h (write_of note ∷ h) _ (one_event h _ (write_of note) refl refl) (noted_after notes (write_of note ∷ h))
 
 module _ (cluster : Cluster) (corpus : Corpus) (script : Script) where
+  pub step_follows : (e : Event) (h : List Event) → is_begin e ≡ false → Follows h (after_step cluster corpus script e h)
+  step_follows (Work t) h b =
+      after_both h (Work t ∷ h) _ (one_event h _ (Work t) refl refl)
+      (noted_after (option_map_or (λ request. turn_notes cluster (corpus_at corpus (scripted script) h) request (turns_of t h)) (request_of (scripted script) t h) []) (Work t ∷ h))
+  step_follows e h b = due_after e h b
+
   pub stepped_there : (t : TaskId) (h new : List Event) (stepped : Stepped) → AnswersStep cluster corpus script t h stepped new → Follows h new
   stepped_there t h new Done (e, live, next, same) =
-      subst (Follows h) (sym same) (due_after e h (by_step cluster t h (is_new t h) (mark_of t h) (option_map (λ request. planned_step cluster corpus (scripted script) t request h) (request_of (scripted script) t h)) e next))
+      subst (Follows h) (sym same) (step_follows e h (by_step cluster t h (is_new t h) (mark_of t h) (counted cluster corpus (scripted script) t h) (option_map (λ request. planned_step cluster corpus (scripted script) t request h) (request_of (scripted script) t h)) e next))
   stepped_there t h new Waiting (live, waits, same) = stays h new same
   stepped_there t h new NotRunning (gone, same) = stays h new same
 
@@ -214,11 +231,20 @@ module _ (cluster : Cluster) (corpus : Corpus) (script : Script) where
   pub turn_of_command : (k : ℕ) (h new : List Event) → Commands cluster corpus script k h new → IsTurn k h new
   turn_of_command k h new (command, at, d) = done k command (Begin k ∷ h) new d
 
+  -- and so it is while it drains
+  again : (h : List Event) (between : List (List Event)) (start : List Event) → StartsAgain cluster corpus script h between start → Follows h start
+  again h [] start same = stays h start same
+  again h (now ∷ later) start (settles, (due, next, starts)) =
+      after_both h now start (settled h now settles) (after_both now (ticked_to due now) start (one_event now _ (TickEvent (due - clock now)) refl refl) (again (ticked_to due now) later start starts))
+
+  pub emptied : (h new : List Event) → Empties cluster corpus script h new → Follows h new
+  emptied h new (none, (between, start, starts, settles)) = after_both h start new (again h between start starts) (settled start new settles)
+
   pub turn_of_drain : (h new : List Event) → Drains cluster corpus script h new → IsTurn (closing script) h new
-  turn_of_drain h new d = settled (Begin (closing script) ∷ h) new d
+  turn_of_drain h new d = emptied (Begin (closing script) ∷ h) new d
 
 -- the command that began last is that of the turn
-last_over : (events h : List Event) → list_any is_begin events ≡ false → last_command (events ++ h) ≡ last_command h
+pub last_over : (events h : List Event) → list_any is_begin events ≡ false → last_command (events ++ h) ≡ last_command h
 last_over [] h none = refl
 last_over (Begin k ∷ events) h none = absurd (cc)
 last_over (_ ∷ events) h none = last_over events h none

@@ -1,11 +1,11 @@
 -- A task that shows a page uses its context from its start to its end, and the context stays as it was at the start.
-use Rattle.std.proofs.Common.{◌≡◌, ◌≢◌, ◌⊎◌, ℕ, ◌+◌, Bool, true, false, cond, List, [], ◌∷◌, Option, Some, None, refl, sym, ap, subst, ◌∙◌, inl, inr}
+use Rattle.std.proofs.Common.{◌≡◌, ◌≢◌, ◌⊎◌, ℕ, ◌+◌, Bool, true, false, cond, List, [], ◌∷◌, Option, Some, None, refl, sym, ap, subst, ◌∙◌, inl, inr, arith}
 use Rattle.std.specs.Prelude.{IsSomeAnd, ⊤, ◌&&◌, is_some}
 use Rattle.task_ids.specs.declared.cluster.Cluster.{Cluster}
 use Rattle.task_ids.specs.declared.task_id.TaskId.{TaskId}
 use Rattle.task_events.specs.declared.context.Context.{Context}
 use Rattle.task_events.specs.declared.event.Event.{Event}
-use Rattle.task_events.specs.declared.event.Event.TheVariants.{Begin, Root, Ask, Put, Refuse, End, Tick}
+use Rattle.task_events.specs.declared.event.Event.TheVariants.{Begin, Root, Ask, Put, Pass, Refuse, End, Tick}
 use Rattle.task_events.specs.declared.reply.Reply.{Reply}
 use Rattle.task_events.specs.declared.reply.Reply.TheVariants.{Search, Top, Hits, AllFailed, Cancelled, Rejected}
 use Rattle.task_events.specs.declared.request.Request.{Request}
@@ -13,15 +13,17 @@ use Rattle.task_events.specs.declared.request.Request.TheVariants as asks
 use Rattle.task_events.specs.declared.request.ScrollAsk.{ScrollAsk}
 use Rattle.task_events.specs.Asks.{request_of_ask}
 use Rattle.task_events.specs.Clock.{clock}
-use Rattle.task_events.specs.Contexts.{is_busy, is_owned_by, with_use, after_begin, after_root, after_end, unexpired, context_at, page_of}
+use Rattle.task_events.specs.Contexts.{is_busy, is_owned_by, with_use, after_begin, after_taking, after_end, unexpired, without_owned, context_at, page_of}
 use Rattle.task_events.specs.Lawful.{Lawful}
 use Rattle.task_events.specs.Requests.{Scripted, request_of}
 use Rattle.task_events.specs.Same.{same_task, same_pair}
-use Rattle.task_events.specs.Tasks.{is_live, has_ended}
+use Rattle.task_events.specs.Tasks.{is_live, is_new, has_ended}
 use Rattle.task_laws.proofs.Asks.{ask_facts}
 use Rattle.task_laws.proofs.Same.{same_task_tells}
 use Rattle.search_phase.proofs.Sorting.{by_test}
+use Rattle.world_moves.specs.Facts.{Facts}
 use Rattle.world_moves.proofs.ContextsPast.{stands_ended}
+use Rattle.world_moves.proofs.UnbornTasks.{unborn}
 
 -- ---- one page at a time
 
@@ -107,7 +109,7 @@ module _ (said : Scripted) (t : TaskId) (ask : ScrollAsk) where
   Other u = same_task t u ≡ false
 
   -- a root that starts elsewhere takes another context
-  root_stays : (now : ℕ) (u : TaskId) (look : TaskId → Option Context) (c : Context) → look ask.id ≡ Some c → c.busy ≡ Some t → (q : Option Request) → FindsFree look q → after_root now u q ask.id (Some c) ≡ Some c
+  root_stays : (now : ℕ) (u : TaskId) (look : TaskId → Option Context) (c : Context) → look ask.id ≡ Some c → c.busy ≡ Some t → (q : Option Request) → FindsFree look q → after_taking now u q ask.id (Some c) ≡ Some c
   root_stays now u look c at busy None free = refl
   root_stays now u look c at busy (Some (asks.Search other)) free = refl
   root_stays now u look c at busy (Some (asks.Query other)) free = refl
@@ -148,6 +150,22 @@ module _ (said : Scripted) (t : TaskId) (ask : ScrollAsk) where
         same = record { ask = refl; shards = refl; cursor = refl };
       }
 
+  -- a context that is used belongs to it for the time
+  owned_stays : (u : TaskId) (c : Context) → c.busy ≡ Some t → without_owned u (Some c) ≡ Some c
+  owned_stays u c e = let busy : is_busy c ≡ true = busy_by c t e in rw busy (of_test (is_owned_by (Some u) c))
+    where
+      of_test : (b : Bool) → cond (b && false) None (Some c) ≡ Some c
+      of_test true = refl
+      of_test false = refl
+
+  -- a task that shows no page takes no context
+  part_stays : (now : ℕ) (u : TaskId) (o : Option Context) (q : Option Request) → ((r : Request) → q ≡ Some r → is_part r ≡ true) → after_taking now u q ask.id o ≡ o
+  part_stays now u o None part = refl
+  part_stays now u o (Some (asks.Query other)) part = refl
+  part_stays now u o (Some (asks.Fetch other)) part = refl
+  part_stays now u o (Some (asks.Search other)) part = refl
+  part_stays now u o (Some (asks.Scroll other)) part = absurd (let f = part (asks.Scroll other) refl in cc)
+
   -- what stays as it was stays in use
   goes_on : (e : Event) (h : List Event) → (b : IsInUse said t ask h) → page_of said t (e ∷ h) ≡ page_of said t h → context_at said ask.id (e ∷ h) ≡ Some b.context → IsInUse said t ask (e ∷ h)
   goes_on e h b page stands = record { start = b.start; context = b.context; page = page ∙ b.page; stands = stands; busy = b.busy; same = b.same }
@@ -159,7 +177,7 @@ module _ (said : Scripted) (t : TaskId) (ask : ScrollAsk) where
   rooted_goes_on : (k : ℕ) (u : TaskId) (h : List Event) → same_task t u ≡ false → FindsFree (λ id. context_at said id h) (said.root k h) → IsInUse said t ask h → IsInUse said t ask (Root k u ∷ h)
   rooted_goes_on k u h other free b =
       goes_on (Root k u) h b (rw other refl)
-      (ap (after_root (clock h) u (said.root k h) ask.id) b.stands ∙ root_stays (clock h) u (λ id. context_at said id h) b.context b.stands b.busy (said.root k h) free)
+      (ap (after_taking (clock h) u (said.root k h) ask.id) b.stands ∙ root_stays (clock h) u (λ id. context_at said id h) b.context b.stands b.busy (said.root k h) free)
 
   ticked_goes_on : (ms : ℕ) (h : List Event) → IsInUse said t ask h → IsInUse said t ask (Tick ms ∷ h)
   ticked_goes_on ms h b = goes_on (Tick ms) h b refl (ap (unexpired (clock h + ms)) b.stands ∙ ticked_stays (clock h + ms) t b.context b.busy)
@@ -179,10 +197,10 @@ module _ (cluster : Cluster) (said : Scripted) where
   ended_goes_on : (h : List Event) (u : TaskId) (reply : Reply) → is_live u h ≡ true → has_ended u h ≡ false → AllInUse said h → (t : TaskId) (ask : ScrollAsk) → same_task t u ≡ false → IsInUse said t ask h → IsInUse said t ask (End u reply ∷ h)
   ended_goes_on h u reply live not_ended all t ask other b =
       goes_on said t ask (End u reply) h b refl
-      (ap (after_end (clock h) u (request_of said u h) reply ask.id) b.stands
-      ∙ end_stays said t ask (clock h) u b.context (request_of said u h) reply
+      (ap (λ o. without_owned u (after_end (clock h) u (request_of said u h) reply ask.id o)) b.stands
+      ∙ ap (without_owned u) (end_stays said t ask (clock h) u b.context (request_of said u h) reply
       (λ search. let ended : has_ended u h ≡ true = ap (λ x. has_ended x h) (is_one u ask.id search) ∙ stands_ended said ask.id h b.context b.stands in absurd (let f : false ≡ true = sym not_ended ∙ ended in cc))
-      (λ page asked same. apart page same (all u page live asked)))
+      (λ page asked same. apart page same (all u page live asked))) ∙ owned_stays said t ask u b.context b.busy)
     where
       apart : (page : ScrollAsk) → same_task page.id ask.id ≡ true → IsInUse said u page h → ⊥
       apart page same used =
@@ -192,6 +210,22 @@ module _ (cluster : Cluster) (said : Scripted) where
           let task : u ≡ t = cc in
           let f : false ≡ true = sym other ∙ ap (same_task t) task ∙ same_itself t in
           absurd (cc)
+
+  -- a child that has not passed was asked for work on one shard
+  new_part : (h : List Event) → Lawful cluster h → OneAtATime said h → (u : TaskId) → is_new u h ≡ true → (r : Request) → request_of said u h ≡ Some r → is_part r ≡ true
+  new_part [] lawful alone u new r e = absurd (cc)
+  new_part (Root k t ∷ h) lawful alone u new r e =
+      by_test (same_task u t)
+      (λ own. absurd (let none = unborn cluster t said h lawful.1 (let next = lawful.0.takes.next in omega arith) in let f : false ≡ true = sym (ap (λ (f : Facts). f.new) none) ∙ ap (λ x. is_new x h) (sym (is_one u t own)) ∙ new in cc))
+      (λ other. new_part h lawful.1 alone.1 u new r (rw other at e))
+  new_part (Put t p k ∷ h) lawful alone u new r e =
+      by_test (same_task u t)
+      (λ own. asked_part said p k h alone r (rw own at e))
+      (λ other. new_part h lawful.1 alone u (rw other at new) r (rw other at e))
+  new_part (Pass t ∷ h) lawful alone u new r e = new_part h lawful.1 alone u (still_live (same_task u t) (is_new u h) new).1 r e
+  new_part (Refuse t c ∷ h) lawful alone u new r e = new_part h lawful.1 alone u (still_live (same_task u t) (is_new u h) new).1 r e
+  new_part (Ask p k n made ∷ h) lawful alone u new r e = new_part h lawful.1 alone.1 u new r e
+  new_part (_ ∷ h) lawful alone u new r e = new_part h lawful.1 alone u new r e
 
   pub all_in_use : (h : List Event) → Lawful cluster h → OneAtATime said h → AllInUse said h
   all_in_use [] lawful alone t ask live request = absurd (cc)
@@ -204,6 +238,13 @@ module _ (cluster : Cluster) (said : Scripted) where
       by_test (same_task t u)
       (λ own. absurd (let f : false ≡ true = asked_part said p k h alone (asks.Scroll ask) (rw own at request) in cc))
       (λ other. let b = all_in_use h lawful.1 alone t ask (rw other at live) (rw other at request) in goes_on said t ask (Put u p k) h b refl b.stands)
+  all_in_use (Pass u ∷ h) lawful alone t ask live request =
+      let part = new_part h lawful.1 alone u lawful.0.first in
+      by_test (same_task t u)
+      (λ own. absurd (let f : false ≡ true = part (asks.Scroll ask) (ap (λ x. request_of said x h) (sym (is_one t u own)) ∙ request) in cc))
+      (λ other.
+      let b = all_in_use h lawful.1 alone t ask live request in
+      goes_on said t ask (Pass u) h b (rw other refl) (part_stays said t ask (clock h) u (context_at said ask.id h) (request_of said u h) part ∙ b.stands))
   all_in_use (Refuse u c ∷ h) lawful alone t ask live request =
       let b = all_in_use h lawful.1 alone t ask (still_live (same_task t u) (is_live t h) live).1 request in
       goes_on said t ask (Refuse u c) h b refl b.stands

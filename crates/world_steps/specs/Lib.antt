@@ -1,3 +1,5 @@
+pub mod Alarms
+pub mod Draining
 pub mod Naming
 pub mod PagesFollow
 pub mod Runs

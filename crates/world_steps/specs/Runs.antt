@@ -6,11 +6,12 @@ use Rattle.task_ids.specs.declared.corpus.Corpus.{Corpus}
 use Rattle.task_ids.specs.TaskIdOrder.{task_id_cmp}
 use Rattle.std.specs.Ordering.{is_le}
 use Rattle.task_events.specs.declared.event.Event.{Event}
+use Rattle.task_events.specs.declared.event.Event.TheVariants.{Work}
 use Rattle.task_events.specs.declared.history.TheConstants.{MAX_EVENTS}
 use Rattle.task_events.specs.declared.stop.Stop.{Stop}
 use Rattle.task_events.specs.Tasks.{is_live}
 use Rattle.task_events.specs.Messages.{in_flight}
-use Rattle.task_events.specs.Steps.{next_step}
+use Rattle.task_events.specs.Steps.{after_turn, next_step}
 use Rattle.script_lang.specs.declared.command.Script.{Script}
 use Rattle.world_steps.specs.declared.acting.Stepped.{Stepped}
 use Rattle.world_steps.specs.declared.acting.Stepped.TheVariants.{Done, Waiting, NotRunning}
@@ -25,9 +26,14 @@ module _ (cluster : Cluster) (corpus : Corpus) (script : Script) where
   abbrev pub next_of : TaskId → List Event → Option Event
   next_of t h = next_step cluster corpus (scripted script) t h
 
-  -- the past after a step of a task, and after the answers that come due with it
+  -- the past after an event of a task: a turn of work comes with its writes, and any other event with the answers that come due with it
+  abbrev pub after_step : Event → List Event → List Event
+  after_step (Work t) h = after_turn cluster corpus (scripted script) t h
+  after_step e h = with_due e h
+
+  -- the past after a step of a task
   abbrev pub Steps : TaskId → List Event → List Event → Type 0
-  Steps t h new = (e : Event) × (is_live t h ≡ true) × (next_of t h ≡ Some e) × (new ≡ with_due e h)
+  Steps t h new = (e : Event) × (is_live t h ≡ true) × (next_of t h ≡ Some e) × (new ≡ after_step e h)
 
   -- what a step of a task answers, and the past after it
   abbrev pub AnswersStep : TaskId → List Event → Stepped → List Event → Type 0

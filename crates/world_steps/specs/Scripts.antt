@@ -24,7 +24,8 @@ use Rattle.world_moves.specs.Listings.{is_open, ListSteps}
 use Rattle.script_lang.specs.KeepAlives.{day_ms}
 use Rattle.world_moves.specs.Moves.{Delivers, Starts, NodeLacksNumber, DeliveryLacksNumber, IsPartly, Stops}
 use Rattle.command_roots.specs.Roots.{body_or_none, command_at, context_named, least_size, page_answer}
-use Rattle.corpus_shards.specs.Stored.{has_index}
+use Rattle.corpus_shards.specs.Placed.{has_index}
+use Rattle.world_steps.specs.Draining.{Empties, PartlyEmpties, EmptyingLacksNumber}
 use Rattle.world_steps.specs.Runs.{AnswersStep, Settles, PartlySettles, SettlingLacksNumber}
 
 -- A command has begun, and some events came since, with none of which another began.
@@ -119,10 +120,10 @@ module _ (cluster : Cluster) (corpus : Corpus) (script : Script) where
 
   -- the past after the closing drain, and after a first part of it
   abbrev pub Drains : List Event → List Event → Type 0
-  Drains h new = Settles cluster corpus script (Begin (closing script) ∷ h) new
+  Drains h new = Empties cluster corpus script (Begin (closing script) ∷ h) new
 
   abbrev pub PartlyDrains : List Event → List Event → Type 0
-  PartlyDrains h new = (new ≡ h) ⊎ PartlySettles cluster corpus script (Begin (closing script) ∷ h) new
+  PartlyDrains h new = (new ≡ h) ⊎ PartlyEmpties cluster corpus script (Begin (closing script) ∷ h) new
 
   -- the past after the first commands, so many
   abbrev pub HasRun : ℕ → List Event → Type 0
@@ -162,7 +163,7 @@ module _ (cluster : Cluster) (corpus : Corpus) (script : Script) where
 
   -- the closing drain
   abbrev pub DrainLacksNumber : List Event → List Event → Type 0
-  DrainLacksNumber h new = SettlingLacksNumber cluster corpus script (Begin (closing script) ∷ h) new
+  DrainLacksNumber h new = EmptyingLacksNumber cluster corpus script (Begin (closing script) ∷ h) new
 
   abbrev pub StopsDrain : List Event → List Event → Stop → Type 0
   StopsDrain h new stop = Stops (PartlyDrains h) (DrainLacksNumber h new) new stop

@@ -6,7 +6,7 @@ ghost use Rattle.task_events.specs.Tasks.{is_live, is_new};
 ghost use Rattle.world_moves.specs.Facts.{awaited_by, none_awaited};
 ghost use Rattle.world_moves.specs.Moves.{IsPartly, StopsMove};
 ghost use Rattle.world_steps.specs.Runs.{AnswersStep, HasRoom, Steps};
-ghost use Rattle.world_moves.specs.Ties.{IsTied, Keeps, HasShards, task_at, KeepsLaws};
+ghost use Rattle.world_moves.specs.Ties.{IsTied, Keeps, task_at, KeepsLaws};
 ghost use Rattle.node_parts.specs.Running.{DoesNext};
 
 use task_events::{Do, Stop};
@@ -42,16 +42,16 @@ fn ban_over(state: &State<'_>, task: TaskId) -> Option<u32>
 /// A task that has passed and is not marked does what its work says.
 fn work_on(state: &mut State<'_>, task: TaskId, next: Do) -> Result<Stepped, Stop>
     requires tied { IsTied state.old }
-    requires shards { HasShards state.old }
     requires live { is_live task state.old.history ≡ true }
     requires passed { is_new task state.old.history ≡ false }
     requires unmarked { mark_of task state.old.history ≡ None }
-    requires next { DoesNext (task_at state.old.tasks task) next }
+    requires next { DoesNext (task_at state.old.tasks task) state.old.clock next }
     ensures stepped { IfOk result (λ stepped. AnswersStep state.old.cluster state.old.corpus.now state.old.script.now task state.old.history stepped state.new.history) }
     ensures tied { OnOk result (IsTied state.new) }
     ensures keeps { Keeps state.old state.new }
     ensures room { IfOk result (λ stepped. HasRoom stepped state.new.history) }
-    ensures err { OnErr result (state.new.history ≡ state.old.history) }
+    ensures part { OnErr result (IsPartly (Steps state.old.cluster state.old.corpus.now state.old.script.now task) state.old.history state.new.history) }
+    ensures laws { OnErr result (KeepsLaws state.new) }
     ensures stop { IfErr result (λ stop. StopsMove (Steps state.old.cluster state.old.corpus.now state.old.script.now task) state.old.history state.new.history stop) }
 {
     match next {
@@ -118,7 +118,6 @@ fn leave_or_wait(
 /// A live task makes its next step, unless it waits.
 pub(crate) fn act(state: &mut State<'_>, task: TaskId) -> Result<Stepped, Stop>
     requires tied { IsTied state.old }
-    requires shards { HasShards state.old }
     ensures stepped { IfOk result (λ stepped. AnswersStep state.old.cluster state.old.corpus.now state.old.script.now task state.old.history stepped state.new.history) }
     ensures tied { OnOk result (IsTied state.new) }
     ensures keeps { Keeps state.old state.new }
@@ -137,7 +136,7 @@ pub(crate) fn act(state: &mut State<'_>, task: TaskId) -> Result<Stepped, Stop>
         let waits = running.track.unanswered() > 0;
         return leave_or_wait(state, task, cancel, waits);
     }
-    match running.work.next(0) {
+    match running.work.next(state.clock) {
         Ok(next) => match work_on(state, task, next) {
             Ok(stepped) => Ok(stepped),
             Err(stop) => Err(stop),

@@ -12,19 +12,19 @@ ghost use Rattle.world_moves.specs.Cancels.{after_cancel, AllAnswered};
 ghost use Rattle.world_moves.specs.Moves.{DeliveryLacksNumber, IsPartly, NodeLacksNumber, Stops, StopsMove};
 ghost use Rattle.world_steps.specs.Runs.{AnswersStep};
 ghost use Rattle.world_steps.specs.Scripts.{CanDo, CanRun, can_start, StartsWhere, DeliversWhere, ListsWhere, Does, PartlyDoes, Commands, PartlyCommands, Drains, PartlyDrains, StopsDoing, StopsCommand, StopsDrain};
-ghost use Rattle.world_moves.specs.Ties.{IsTied, Keeps, HasShards, KeepsLaws};
+ghost use Rattle.world_moves.specs.Ties.{IsTied, Keeps, KeepsLaws};
 ghost use Rattle.world_steps.specs.World.{HasReady};
 
 use crate::acting::Stepped;
 use crate::cancel_commands::cancel;
+use crate::draining::empty;
 use crate::moving::{deliver_and_refresh, list_and_refresh, settle, step_and_refresh};
-use crate::ready::refresh;
+use crate::ready::{Ready, refresh};
 use crate::roots::{begin, start};
 use crate::scrolls::scroll;
 use command_roots::{body_of, search_ask};
 use node_parts::listing::Listing;
 use script_lang::{CancelTarget, Command};
-use std::collections::BTreeSet;
 use task_events::{Event, Request, Stop};
 use task_ids::{DocSource, TaskId, Text};
 use task_laws::drained_bans;
@@ -34,7 +34,7 @@ use world_moves::state::State;
 /// A search that has begun comes to its node, where its body has no fault and some document is of its index.
 fn search(
     state: &mut State<'_>,
-    ready: &mut BTreeSet<TaskId>,
+    ready: &mut Ready,
     number: u32,
     index: &Text,
     node: u32,
@@ -42,7 +42,6 @@ fn search(
     body: &DocSource,
 ) -> Result<(), Stop>
     requires tied { IsTied state.old }
-    requires shards { HasShards state.old }
     requires known { HasReady state.old ready.old }
     requires begun { beginning state.old.history ≡ Some number }
     requires asked { root_request state.old.script.now number state.old.history ≡ option_map Request.Search (option_map (search_ask index.now scroll) (body_or_none (body_at (is_some scroll) (least_size scroll) body.now))) }
@@ -78,7 +77,7 @@ fn search(
 }
 
 /// Delivers the message of this place among those in flight, if there is one.
-fn deliver(state: &mut State<'_>, ready: &mut BTreeSet<TaskId>, nth: u64) -> Result<(), Stop>
+fn deliver(state: &mut State<'_>, ready: &mut Ready, nth: u64) -> Result<(), Stop>
     requires tied { IsTied state.old }
     requires known { HasReady state.old ready.old }
     ensures done { OnOk result (DeliversWhere state.old.cluster nth state.old.history state.new.history) }
@@ -101,7 +100,7 @@ fn deliver(state: &mut State<'_>, ready: &mut BTreeSet<TaskId>, nth: u64) -> Res
 /// A cancel that has begun names and marks its tasks, or finds none, and it is noted which of them wait.
 fn cancel_and_refresh(
     state: &mut State<'_>,
-    ready: &mut BTreeSet<TaskId>,
+    ready: &mut Ready,
     number: u32,
     target: &CancelTarget,
     wait: bool,
@@ -130,7 +129,7 @@ fn cancel_and_refresh(
 }
 
 /// A listing makes its next step, if it is open.
-fn list(state: &mut State<'_>, ready: &mut BTreeSet<TaskId>, listing: Listing) -> Result<(), Stop>
+fn list(state: &mut State<'_>, ready: &mut Ready, listing: Listing) -> Result<(), Stop>
     requires tied { IsTied state.old }
     requires known { HasReady state.old ready.old }
     ensures done { OnOk result (ListsWhere listing state.old.history state.new.history) }
@@ -148,9 +147,8 @@ fn list(state: &mut State<'_>, ready: &mut BTreeSet<TaskId>, listing: Listing) -
 }
 
 /// A task makes its next step, unless it waits or is not live.
-fn step(state: &mut State<'_>, ready: &mut BTreeSet<TaskId>, task: TaskId) -> Result<(), Stop>
+fn step(state: &mut State<'_>, ready: &mut Ready, task: TaskId) -> Result<(), Stop>
     requires tied { IsTied state.old }
-    requires shards { HasShards state.old }
     requires known { HasReady state.old ready.old }
     ensures done { OnOk result ((stepped : Stepped) × AnswersStep state.old.cluster state.old.corpus.now state.old.script.now task state.old.history stepped state.new.history) }
     ensures tied { OnOk result (IsTied state.new) }
@@ -167,14 +165,11 @@ fn step(state: &mut State<'_>, ready: &mut BTreeSet<TaskId>, task: TaskId) -> Re
 }
 
 /// The clock moves on by so many milliseconds, and each context goes that was not used for its keep-alive.
-fn tick_and_refresh(
-    state: &mut State<'_>,
-    ready: &mut BTreeSet<TaskId>,
-    ms: u64,
-) -> Result<(), Stop>
+fn tick_and_refresh(state: &mut State<'_>, ready: &mut Ready, ms: u64) -> Result<(), Stop>
     requires tied { IsTied state.old }
     requires known { HasReady state.old ready.old }
     requires low { clock state.old.history + ms ≤ last_command state.old.history * day_ms }
+    requires high { ms ≤ day_ms }
     ensures done { OnOk result (state.new.history ≡ Event.Tick ms ∷ state.old.history) }
     ensures tied { OnOk result (IsTied state.new) }
     ensures known { OnOk result (HasReady state.new ready.new) }
@@ -194,12 +189,11 @@ fn tick_and_refresh(
 /// Does what a command says that has begun.
 fn act_on(
     state: &mut State<'_>,
-    ready: &mut BTreeSet<TaskId>,
+    ready: &mut Ready,
     number: u32,
     command: &Command,
 ) -> Result<(), Stop>
     requires tied { IsTied state.old }
-    requires shards { HasShards state.old }
     requires known { HasReady state.old ready.old }
     requires begun { beginning state.old.history ≡ Some number }
     requires number { IsCancel number }
@@ -241,11 +235,7 @@ fn act_on(
 }
 
 /// A command begins, and it is known which tasks do not wait.
-fn begin_and_refresh(
-    state: &mut State<'_>,
-    ready: &mut BTreeSet<TaskId>,
-    number: u32,
-) -> Result<(), Stop>
+fn begin_and_refresh(state: &mut State<'_>, ready: &mut Ready, number: u32) -> Result<(), Stop>
     requires tied { IsTied state.old }
     requires known { HasReady state.old ready.old }
     requires next { last_command state.old.history + 1 ≡ number }
@@ -267,13 +257,8 @@ fn begin_and_refresh(
 }
 
 /// Begins the command of this number and does what it says.
-pub(crate) fn command(
-    state: &mut State<'_>,
-    ready: &mut BTreeSet<TaskId>,
-    k: u32,
-) -> Result<(), Stop>
+pub(crate) fn command(state: &mut State<'_>, ready: &mut Ready, k: u32) -> Result<(), Stop>
     requires tied { IsTied state.old }
-    requires shards { HasShards state.old }
     requires known { HasReady state.old ready.old }
     requires can { CanRun state.old.cluster.nodes state.old.script.now.commands }
     requires next { last_command state.old.history + 1 ≡ k }
@@ -301,10 +286,10 @@ pub(crate) fn command(
     }
 }
 
-/// Begins the closing drain and settles.
-pub(crate) fn drain(state: &mut State<'_>, ready: &mut BTreeSet<TaskId>) -> Result<(), Stop>
+/// Begins the closing drain: settles, and for as long as a task is live moves the clock on to the soonest moment for which one waits and
+/// settles again.
+pub(crate) fn drain(state: &mut State<'_>, ready: &mut Ready) -> Result<(), Stop>
     requires tied { IsTied state.old }
-    requires shards { HasShards state.old }
     requires known { HasReady state.old ready.old }
     requires last { last_command state.old.history ≡ length state.old.script.now.commands }
     requires few { length state.old.script.now.commands ≤ 65535 }
@@ -325,7 +310,7 @@ pub(crate) fn drain(state: &mut State<'_>, ready: &mut BTreeSet<TaskId>) -> Resu
         Ok(()) => {}
         Err(stop) => return Err(stop),
     }
-    match settle(state, ready) {
+    match empty(state, ready) {
         Ok(()) => Ok(()),
         Err(stop) => Err(stop),
     }

@@ -9,6 +9,7 @@ ghost use Rattle.task_events.specs.declared.event.Event.{Event};
 ghost use Rattle.task_ids.specs.declared.cluster.Cluster.{Cluster};
 ghost use Rattle.task_ids.specs.declared.corpus.Corpus.{Corpus};
 ghost use Rattle.task_ids.specs.declared.task_id.TaskId.{TaskId};
+ghost use Rattle.world_moves.specs.Good.{so_far};
 ghost use Rattle.world_moves.specs.Plain.{AnswersPlainly};
 ghost use Rattle.world_steps.specs.PagesFollow.{all_given, cuts, first_context, joined, listed, pages, shows_none};
 ghost use Rattle.world_steps.specs.Scripts.{IsRun, IsRunSoFar};
@@ -28,7 +29,8 @@ pub fn whole_is_so_far()
     ensures { (cluster : Cluster) (corpus : Corpus) (script : Script) (h : List Event) → IsRun cluster corpus script h → IsRunSoFar cluster corpus script h }
 {}
 
-/// The pages of one context are the first cuts of one list, one after the other: of all rows that match in the shards that it keeps, in hit order.
+/// The pages of one context are the first cuts of one list, one after the other: of all rows that match in the shards that it keeps, in hit order,
+/// at the versions that it keeps, whatever is written later.
 /// Each page shows as many as the search's size, up to the end of the list. None of these shards may have failed in a page.
 ///
 /// It computes nothing: its contract is the law.
@@ -37,7 +39,7 @@ pub fn pages_follow()
         → IsRunSoFar cluster corpus script h → Lawful cluster h → AnswersPlainly cluster corpus script h
         → first_context (scripted script) id h ≡ Some c → all_given c.shards (scripted script) id h ≡ true
         → let shown = pages (scripted script) id h in
-        shown ≡ cuts c.ask.body.size (length shown) (listed (writes_of corpus cluster.shards c.ask.index) c) }
+        shown ≡ cuts c.ask.body.size (length shown) (listed (writes_of (so_far corpus script h) cluster.shards c.ask.index) c) }
 {}
 
 /// A page that shows no hit says that all has been shown: the pages together are the whole list.
@@ -48,5 +50,5 @@ pub fn empty_page_ends()
         → IsRunSoFar cluster corpus script h → Lawful cluster h → AnswersPlainly cluster corpus script h
         → first_context (scripted script) id h ≡ Some c → all_given c.shards (scripted script) id h ≡ true
         → let shown = pages (scripted script) id h in
-        list_any shows_none shown ≡ true → joined shown ≡ listed (writes_of corpus cluster.shards c.ask.index) c }
+        list_any shows_none shown ≡ true → joined shown ≡ listed (writes_of (so_far corpus script h) cluster.shards c.ask.index) c }
 {}

@@ -2,8 +2,10 @@
 #![tactic(auto)]
 
 mod acting;
+mod alarms;
 mod cancel_commands;
 mod commands;
+mod draining;
 mod laws;
 mod moving;
 mod naming;

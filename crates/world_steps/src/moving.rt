@@ -2,17 +2,15 @@
 
 ghost use Rattle.std.specs.Prelude.{◌≡◌, ◌<◌, ◌≤◌, length, true, false, Ok, OnOk, OnErr, IfOk, IfErr};
 ghost use Rattle.task_events.specs.declared.history.TheConstants.{MAX_EVENTS};
-ghost use Rattle.task_events.specs.Laws.{IsDrained};
 ghost use Rattle.world_moves.specs.Listings.{ListSteps, AnswersListing};
 ghost use Rattle.world_moves.specs.Moves.{Delivers, IsPartly, StopsDelivery, StopsMove};
 ghost use Rattle.world_steps.specs.Runs.{Steps, AnswersStep, FirstMoves, HasRoom, IsSettled, Settles, PartlySettles, StopsFirst, StopsSettling};
-ghost use Rattle.world_moves.specs.Ties.{IsTied, Keeps, HasShards, KeepsLaws};
+ghost use Rattle.world_moves.specs.Ties.{IsTied, Keeps, KeepsLaws};
 ghost use Rattle.world_steps.specs.World.{HasReady};
 
 use crate::acting::{Stepped, act};
-use crate::ready::refresh;
+use crate::ready::{Ready, refresh};
 use node_parts::listing::Listing;
-use std::collections::BTreeSet;
 use task_events::Stop;
 use task_ids::TaskId;
 use world_moves::answers::deliver_answer;
@@ -51,7 +49,7 @@ pub(crate) fn deliver_one(state: &mut State<'_>, nth: usize) -> Result<(), Stop>
 /// Delivers the message of this place among those in flight, and notes which tasks do not wait after that.
 pub(crate) fn deliver_and_refresh(
     state: &mut State<'_>,
-    ready: &mut BTreeSet<TaskId>,
+    ready: &mut Ready,
     nth: usize,
 ) -> Result<(), Stop>
     requires tied { IsTied state.old }
@@ -80,11 +78,10 @@ pub(crate) fn deliver_and_refresh(
 /// A task makes its next step, and it is noted whether it waits after that.
 pub(crate) fn step_and_refresh(
     state: &mut State<'_>,
-    ready: &mut BTreeSet<TaskId>,
+    ready: &mut Ready,
     task: TaskId,
 ) -> Result<Stepped, Stop>
     requires tied { IsTied state.old }
-    requires shards { HasShards state.old }
     requires known { HasReady state.old ready.old }
     ensures stepped { IfOk result (λ stepped. AnswersStep state.old.cluster state.old.corpus.now state.old.script.now task state.old.history stepped state.new.history) }
     ensures room { IfOk result (λ stepped. HasRoom stepped state.new.history) }
@@ -109,7 +106,7 @@ pub(crate) fn step_and_refresh(
 /// A listing makes its next step, if it is open, and it is noted whether the child waits that it marked.
 pub(crate) fn list_and_refresh(
     state: &mut State<'_>,
-    ready: &mut BTreeSet<TaskId>,
+    ready: &mut Ready,
     listing: Listing,
 ) -> Result<ListStep, Stop>
     requires tied { IsTied state.old }
@@ -136,9 +133,8 @@ pub(crate) fn list_and_refresh(
 
 /// Makes the first move that there is: it delivers the oldest message, or else the first open listing makes a step, or else
 /// the lowest task that does not wait. The answer is whether there was one.
-pub(crate) fn move_first(state: &mut State<'_>, ready: &mut BTreeSet<TaskId>) -> Result<bool, Stop>
+pub(crate) fn move_first(state: &mut State<'_>, ready: &mut Ready) -> Result<bool, Stop>
     requires tied { IsTied state.old }
-    requires shards { HasShards state.old }
     requires known { HasReady state.old ready.old }
     ensures moved { result ≡ Ok true → FirstMoves state.old.cluster state.old.corpus.now state.old.script.now state.old.history state.new.history }
     ensures room { result ≡ Ok true → length state.new.history ≤ MAX_EVENTS }
@@ -162,7 +158,7 @@ pub(crate) fn move_first(state: &mut State<'_>, ready: &mut BTreeSet<TaskId>) ->
             Err(stop) => Err(stop),
         };
     }
-    let Some(task) = ready.first().copied() else {
+    let Some(task) = ready.tasks.first().copied() else {
         return Ok(false);
     };
     match step_and_refresh(state, ready, task) {
@@ -171,14 +167,11 @@ pub(crate) fn move_first(state: &mut State<'_>, ready: &mut BTreeSet<TaskId>) ->
     }
 }
 
-/// Makes first moves for as long as there are any. No task waits for a moment, so nothing is live, in flight or listed after
-/// that.
-pub(crate) fn settle(state: &mut State<'_>, ready: &mut BTreeSet<TaskId>) -> Result<(), Stop>
+/// Makes first moves for as long as there are any.
+pub(crate) fn settle(state: &mut State<'_>, ready: &mut Ready) -> Result<(), Stop>
     requires tied { IsTied state.old }
-    requires shards { HasShards state.old }
     requires known { HasReady state.old ready.old }
     ensures settled { OnOk result (Settles state.old.cluster state.old.corpus.now state.old.script.now state.old.history state.new.history) }
-    ensures over { OnOk result (IsDrained state.new.history) }
     ensures tied { OnOk result (IsTied state.new) }
     ensures known { OnOk result (HasReady state.new ready.new) }
     ensures keeps { Keeps state.old state.new }

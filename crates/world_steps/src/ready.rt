@@ -1,6 +1,6 @@
-//! The live tasks that do not wait.
+//! The live tasks that do not wait, and the moments for which others wait.
 
-ghost use Rattle.std.specs.Prelude.{◌≡◌, ◌≤◌, List, length, IfErr, OnOk, if◌then◌else◌};
+ghost use Rattle.std.specs.Prelude.{◌≡◌, ◌≤◌, ℕ, List, length, false, None, IfErr, OnOk, if◌then◌else◌};
 ghost use Rattle.std.specs.BTreeSet.{contains};
 ghost use Rattle.task_ids.specs.declared.doc.Doc.{Doc};
 ghost use Rattle.task_ids.specs.TaskIdOrder.{task_id_cmp};
@@ -8,13 +8,39 @@ ghost use Rattle.task_events.specs.Same.{same_task};
 ghost use Rattle.world_moves.specs.Facts.{about};
 ghost use Rattle.world_moves.specs.Ties.{IsTied};
 ghost use Rattle.node_parts.specs.Running.{can_act};
-ghost use Rattle.world_steps.specs.World.{HasReady, HadReady, ready_in};
+ghost use Rattle.world_steps.specs.Alarms.{AreAlarms, alarm_at};
+ghost use Rattle.world_steps.specs.World.{HasReady, HadReady, alarm_in, due_by, ready_in, HasAlarmed, HasNoted};
 
+use crate::alarms::Alarms;
 use node_parts::running::Running;
+use std::alloc::Global;
 use std::collections::BTreeSet;
 use task_events::{Event, Stop};
 use task_ids::TaskId;
 use world_moves::state::State;
+
+/// Which live tasks do not wait, and for which moments others wait.
+#[derive(Drop)]
+pub(crate) struct Ready {
+    /// The live tasks that do not wait.
+    pub(crate) tasks: BTreeSet<TaskId>,
+    /// The moments for which tasks wait.
+    pub(crate) alarms: Alarms,
+}
+
+impl Ready {
+    /// No task yet. It takes no memory.
+    pub(crate) fn new(alloc: Global) -> Ready
+        ensures tasks { (q : TaskId) → contains task_id_cmp result.tasks q ≡ false }
+        ensures kept { AreAlarms result.alarms }
+        ensures alarms { (q : TaskId) → alarm_at result.alarms q ≡ None }
+    {
+        Ready {
+            tasks: BTreeSet::new(alloc),
+            alarms: Alarms::new(alloc),
+        }
+    }
+}
 
 /// The task that an event is about, if there is one.
 pub(crate) fn task_of(event: &Event) -> Option<TaskId>
@@ -33,17 +59,28 @@ pub(crate) fn task_of(event: &Event) -> Option<TaskId>
     }
 }
 
-/// Whether a kept task does not wait: a marked one waits while an ask of it is unanswered, and for the others their work says.
-fn can_act(running: &Running) -> bool
-    ensures { (writes : List Doc) → result ≡ can_act running.now writes }
+/// Whether a kept task does not wait at this moment: a marked one waits while an ask of it is unanswered, and for the others their work
+/// says.
+fn can_act(running: &Running, now: u64) -> bool
+    ensures { (writes : List Doc) → result ≡ can_act running.now writes now }
 {
     if running.is_new {
         return true;
     }
     match running.track.closed() {
         Some(_) => running.track.unanswered() == 0,
-        None => !running.work.waits(),
+        None => !running.work.waits(now),
     }
+}
+
+/// The moment for which a kept task waits: one that has passed and is not marked, as its work says.
+fn due(running: &Running, now: u64) -> Option<u64>
+    ensures { (writes : List Doc) → result ≡ due_by running.now writes now }
+{
+    if running.is_new || running.track.closed().is_some() {
+        return None;
+    }
+    running.work.due(now)
 }
 
 /// Whether a task is live and does not wait.
@@ -52,38 +89,64 @@ fn is_ready(state: &State<'_>, task: TaskId) -> bool
     ensures { result ≡ ready_in state.now task }
 {
     match state.tasks.get(&task) {
-        Some(running) => can_act(running),
+        Some(running) => can_act(running, state.clock),
         None => false,
     }
 }
 
-/// Notes whether a task does not wait now.
-fn refresh_one(state: &State<'_>, ready: &mut BTreeSet<TaskId>, task: TaskId) -> Result<(), Stop>
+/// The moment for which a task waits, where it waits for one.
+fn alarm_of(state: &State<'_>, task: TaskId) -> Option<u64>
     requires tied { IsTied state.now }
-    ensures known { OnOk result ((q : TaskId) → contains task_id_cmp ready.new q
-        ≡ (if same_task task q then ready_in state.now q else contains task_id_cmp ready.old q)) }
+    ensures { result ≡ alarm_in state.now task }
+{
+    match state.tasks.get(&task) {
+        Some(running) => due(running, state.clock),
+        None => None,
+    }
+}
+
+/// Notes whether a task does not wait now.
+fn note_ready(state: &State<'_>, tasks: &mut BTreeSet<TaskId>, task: TaskId) -> Result<(), Stop>
+    requires tied { IsTied state.now }
+    ensures known { OnOk result ((q : TaskId) → contains task_id_cmp tasks.new q
+        ≡ (if same_task task q then ready_in state.now q else contains task_id_cmp tasks.old q)) }
     ensures memory { IfErr result (λ stop. stop ≡ Stop.Memory) }
 {
     if !is_ready(state, task) {
-        ready.remove(&task);
+        tasks.remove(&task);
         return Ok(());
     }
-    match ready.insert(task) {
+    match tasks.insert(task) {
         Ok(_) => Ok(()),
         Err(_) => Err(Stop::Memory),
     }
 }
 
-/// Notes what the events from this place on have changed: whether the tasks wait that they are about.
-pub(crate) fn refresh(
-    state: &State<'_>,
-    ready: &mut BTreeSet<TaskId>,
-    before: usize,
-) -> Result<(), Stop>
+/// Notes for which moment a task waits now, if it waits for one.
+fn note_alarm(state: &State<'_>, alarms: &mut Alarms, task: TaskId) -> Result<(), Stop>
+    requires tied { IsTied state.now }
+    requires kept { AreAlarms alarms.old }
+    ensures kept { AreAlarms alarms.new }
+    ensures known { OnOk result ((q : TaskId) → alarm_at alarms.new q
+        ≡ (if same_task task q then alarm_in state.now q else alarm_at alarms.old q)) }
+    ensures memory { IfErr result (λ stop. stop ≡ Stop.Memory) }
+{
+    let Some(moment) = alarm_of(state, task) else {
+        alarms.remove(task);
+        return Ok(());
+    };
+    match alarms.set(task, moment) {
+        Ok(()) => Ok(()),
+        Err(_) => Err(Stop::Memory),
+    }
+}
+
+/// Notes what the events from this place on have changed: whether the tasks wait that they are about, and for which moments.
+fn note_events(state: &State<'_>, ready: &mut Ready, before: usize) -> Result<(), Stop>
     requires tied { IsTied state.now }
     requires before { before ≤ length state.now.history }
     requires had { HadReady state.now before ready.old }
-    ensures known { OnOk result (HasReady state.now ready.new) }
+    ensures noted { OnOk result (HasNoted state.now before ready.new) }
     ensures memory { IfErr result (λ stop. stop ≡ Stop.Memory) }
 {
     for at in before..state.history.len() {
@@ -91,8 +154,36 @@ pub(crate) fn refresh(
             unreachable!()
         };
         if let Some(task) = task_of(event) {
-            refresh_one(state, ready, task)?;
+            note_ready(state, &mut ready.tasks, task)?;
+            note_alarm(state, &mut ready.alarms, task)?;
         }
     }
+    Ok(())
+}
+
+/// Takes out the tasks whose moment has come, and notes whether they do not wait now.
+fn ring(state: &State<'_>, ready: &mut Ready) -> Result<(), Stop>
+    requires tied { IsTied state.now }
+    requires alarmed { HasAlarmed state.now ready.old }
+    ensures known { OnOk result (HasReady state.now ready.new) }
+    ensures memory { IfErr result (λ stop. stop ≡ Stop.Memory) }
+{
+    while let Some(task) = ready.alarms.take_due(state.clock) {
+        note_ready(state, &mut ready.tasks, task)?;
+    }
+    Ok(())
+}
+
+/// Notes what the events from this place on have changed: which tasks wait, and for which moments. It costs what they are about and
+/// what comes due with them.
+pub(crate) fn refresh(state: &State<'_>, ready: &mut Ready, before: usize) -> Result<(), Stop>
+    requires tied { IsTied state.now }
+    requires before { before ≤ length state.now.history }
+    requires had { HadReady state.now before ready.old }
+    ensures known { OnOk result (HasReady state.now ready.new) }
+    ensures memory { IfErr result (λ stop. stop ≡ Stop.Memory) }
+{
+    note_events(state, ready, before)?;
+    ring(state, ready)?;
     Ok(())
 }

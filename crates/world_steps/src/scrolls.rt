@@ -10,11 +10,10 @@ ghost use Rattle.world_moves.specs.Ties.{IsTied, Keeps, KeepsLaws};
 ghost use Rattle.world_steps.specs.Scripts.{StartsWhere, can_page, page_node, error_in};
 ghost use Rattle.world_steps.specs.World.{HasReady};
 
-use crate::ready::refresh;
+use crate::ready::{Ready, refresh};
 use crate::roots::start_page;
 use script_lang::{Command, ContextTarget};
 use scroll_table::PageError;
-use std::collections::BTreeSet;
 use task_events::{ScrollAsk, Stop};
 use task_ids::TaskId;
 use world_moves::pages::{context_at, peek};
@@ -71,7 +70,7 @@ pub(crate) fn can_clear(state: &State<'_>, target: &ContextTarget) -> bool
 /// A scroll that has begun comes to the node of its context, where it may use that.
 pub(crate) fn scroll(
     state: &mut State<'_>,
-    ready: &mut BTreeSet<TaskId>,
+    ready: &mut Ready,
     number: u32,
     target: &ContextTarget,
     keep: Option<u64>,

@@ -19,6 +19,7 @@ ghost use Rattle.task_table.specs.Table.{new_table};
 ghost use Rattle.world_steps.specs.World.{tables_from, cores_from, no_bans, no_contexts};
 
 use crate::acting::Stepped;
+use crate::ready::Ready;
 use crate::{commands, moving, scrolls};
 use ban_table::BanTable;
 use cancel_core::CancelCore;
@@ -42,8 +43,8 @@ use world_moves::state::State;
 #[derive(Drop)]
 pub struct World<'a> {
     state: State<'a>,
-    /// The live tasks that do not wait.
-    ready: BTreeSet<TaskId>,
+    /// Which live tasks do not wait, and for which moments others wait.
+    ready: Ready,
     stopped: Option<Stop>,
 }
 
@@ -206,7 +207,7 @@ impl<'a> World<'a> {
         };
         Ok(World {
             state,
-            ready: BTreeSet::new(alloc),
+            ready: Ready::new(alloc),
             stopped: None,
         })
     }
@@ -236,10 +237,11 @@ impl<'a> World<'a> {
         self.state.tasks.get(&task).is_some()
     }
 
-    /// The line of a task list, as the live tasks are now. The world has not come to an early end. It fails only for want of memory
-    /// (`Memory`).
+    /// The line of a task list, as the live tasks are now. The world has not come to an early end, and the closing drain has not
+    /// begun, which moves the clock on as far as tasks wait. It fails only for want of memory (`Memory`).
     pub fn list(&self, wanted: &Filter, group: GroupBy, detailed: bool) -> Result<Vec<u8>, Stop>
-        requires { self.now.stopped ≡ None }
+        requires goes_on { self.now.stopped ≡ None }
+        requires before { last_command self.now.past ≤ length self.now.script.commands }
         ensures line { IfOk result (λ line. line.items ≡ list_text group detailed (clock self.now.past) wanted.now (rows_of self.now.cluster self.now.script self.now.past)) }
         ensures memory { IfErr result (λ stop. stop ≡ Stop.Memory) }
     {
@@ -259,11 +261,11 @@ impl<'a> World<'a> {
         }
     }
 
-    /// The moment, in milliseconds. The world has not come to an early end.
+    /// The moment, in milliseconds: below 2^43 until the closing drain begins. The world has not come to an early end.
     pub fn now(&self) -> u64
         requires { self.now.stopped ≡ None }
         ensures now { result ≡ clock self.now.past }
-        ensures low { result < 2 ^ 43 }
+        ensures low { last_command self.now.past ≤ length self.now.script.commands → result < 2 ^ 43 }
     {
         self.state.clock
     }
@@ -337,8 +339,9 @@ impl<'a> World<'a> {
         }
     }
 
-    /// Settles once all commands have begun, which is the last that happens. Nothing is live, in flight or listed after that,
-    /// and every cancel has its answer.
+    /// Settles once all commands have begun, and for as long as a task is live moves the clock on to the soonest moment for which one
+    /// waits and settles again. It is the last that happens. Nothing is live, in flight or listed after that, and every cancel has its
+    /// answer.
     ///
     /// Once it has come to an early end, the world answers that for ever and keeps its past.
     pub fn drain(&mut self) -> Result<(), Stop>
@@ -446,14 +449,13 @@ impl<'a> World<'a> {
     }
 
     /// Makes first moves for as long as there are any: the oldest message is delivered; where none is in flight the first
-    /// open listing makes a step; where there is none either, the lowest task that does not wait. No task waits for a moment,
-    /// so nothing is live, in flight or listed after that.
+    /// open listing makes a step; where there is none either, the lowest task that does not wait. Nothing is in flight or listed after
+    /// that, and each live task waits.
     ///
     /// Once it has come to an early end, the world answers that for ever and keeps its past.
     pub fn settle(&mut self) -> Result<(), Stop>
         ensures goes_on { OnOk result (self.new.stopped ≡ None) }
         ensures settled { OnOk result (Settles self.old.cluster self.old.corpus self.old.script self.old.past self.new.past) }
-        ensures over { OnOk result (IsDrained self.new.past) }
         ensures part { OnErr result (PartlySettles self.old.cluster self.old.corpus self.old.script self.old.past self.new.past) }
         ensures stop { IfErr result (λ stop. self.new.stopped ≡ Some stop) }
         ensures stopped { IfSome self.old.stopped (λ stop. (result ≡ Err stop) × (self.new.past ≡ self.old.past)) }

@@ -54,7 +54,8 @@ returns-clause-tied c =
       cancels = rw happened (noted s.cluster _ s.history _ _ s.bans.items s.cores.items s.listings c.requires.tied.cancels (NotFound c.args.number) refl refl);
       counts = rw happened (still_counts None (NotFound c.args.number) s.history _ refl c.requires.tied.counts);
       tells = rw happened (quiet s.script.now s.history s.tables.items s.flight s.clock (NotFound c.args.number) refl c.requires.tied.tells);
-      pages = rw happened (quiet_pages s.cluster s.script.now s.history s.contexts.items c.requires.tied.pages (NotFound c.args.number) refl);
+      pages = rw happened (quiet_pages s.cluster s.corpus.now s.script.now s.history s.contexts.items c.requires.tied.pages (NotFound c.args.number) refl);
+      shards = rw happened c.requires.tied.shards;
       awaits = rw happened tt;
     }
 

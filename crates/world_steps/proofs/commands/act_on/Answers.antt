@@ -40,3 +40,6 @@ pub tick_and_refresh-requires-clause-low : goal.tick_and_refresh-requires-clause
 tick_and_refresh-requires-clause-low c =
     let within = rw c.in-Tick.is at c.requires.can in
     omega (arith, within, c.requires.low)
+
+pub tick_and_refresh-requires-clause-high : goal.tick_and_refresh-requires-clause-high
+tick_and_refresh-requires-clause-high c = rw c.in-Tick.is at c.requires.can

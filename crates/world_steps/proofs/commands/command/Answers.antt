@@ -1,4 +1,4 @@
-use Rattle.std.proofs.Common.{◌∙◌, ◌-◌, ◌*◌, ◌≤◌, ap, sym, subst, inr, arith, ◌≡◌, ◌∷◌}
+use Rattle.std.proofs.Common.{◌∙◌, ◌-◌, ◌*◌, ◌≤◌, ap, sym, subst, inr, arith, ◌≡◌, ◌∷◌, length}
 use Rattle.task_events.specs.Cancels.{last_command}
 use Rattle.task_events.specs.Clock.{clock}
 use Rattle.script_lang.specs.KeepAlives.{day_ms}
@@ -88,5 +88,7 @@ pub act_on-requires-clause-low : goal.act_on-requires-clause-low
 act_on-requires-clause-low c =
     let s = c.args.state.now in
     let tells = c.requires.tied.tells in
-    let low : clock s.history ≤ last_command s.history * day_ms = omega (arith, tells.clock_is, tells.clock_low) in
+    let before : last_command s.history ≤ length s.script.now.commands = omega (arith, c.requires.next, c.requires.there) in
+    let so_far = tells.clock_low before in
+    let low : clock s.history ≤ last_command s.history * day_ms = omega (arith, tells.clock_is, so_far) in
     rw c.in-Ok.ensures.happened (day_more (last_command s.history) c.args.k (clock s.history) c.requires.next low)

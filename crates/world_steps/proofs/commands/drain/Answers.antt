@@ -1,7 +1,7 @@
 use Rattle.std.proofs.Common.{◌≡◌, ◌∙◌, ◌+◌, List, ◌∷◌, length, ap, subst, inr}
 use Rattle.task_events.specs.declared.event.Event.TheVariants.{Begin}
 use Rattle.script_lang.specs.declared.command.Command.{Command}
-use Rattle.world_steps.specs.Runs.{Settles, PartlySettles, StopsSettling}
+use Rattle.world_steps.specs.Draining.{Empties, PartlyEmpties, StopsEmptying}
 use Rattle.world_steps.specs.Scripts.{closing, PartlyDrains}
 use Rattle.world_steps.proofs.Commanded.{carried, keeps_on, part_of_drain}
 use Rattle.world_steps.proofs.AllAnswered.{all_answered}
@@ -9,27 +9,27 @@ use Rattle.world_moves.specs.Moves.{IsPartly, StopsMove}
 use Rattle.world_moves.proofs.Outcomes.{stops_as}
 use Rattle.world_steps.proofs.commands.drain.Goals as goal
 
-pub returns-in-Ok-settle : goal.returns-in-Ok-settle
-returns-in-Ok-settle c =
+pub returns-in-Ok-empty : goal.returns-in-Ok-empty
+returns-in-Ok-empty c =
     let s = c.args.state.now in
     let begun : c.begin_and_refresh.new.state.history ≡ Begin (closing s.script.now) ∷ s.history = c.in-Ok.ensures.happened ∙ ap (λ (commands : List Command). Begin (length commands + 1) ∷ s.history) c.as_slice.ensures in
-    let now = c.settle.new.state in
-    let tied = c.in-Ok-settle.ensures.tied in
-    let over = c.in-Ok-settle.ensures.over in
+    let now = c.empty.new.state in
+    let tied = c.in-Ok-empty.ensures.tied in
+    let over = c.in-Ok-empty.ensures.over in
     record {
-      drained = carried (λ cluster corpus script h. Settles cluster corpus script h now.history) _ _ _ _ _ _ _ _ c.in-Ok.ensures.keeps.cluster c.in-Ok.ensures.keeps.corpus c.in-Ok.ensures.keeps.script begun c.in-Ok-settle.ensures.settled;
+      drained = carried (λ cluster corpus script h. Empties cluster corpus script h now.history) _ _ _ _ _ _ _ _ c.in-Ok.ensures.keeps.cluster c.in-Ok.ensures.keeps.corpus c.in-Ok.ensures.keeps.script begun c.in-Ok-empty.ensures.emptied;
       over = over;
       answered = all_answered now.cluster now.history _ tied.ties.lawful tied.awaits tied.counts (c.drained_bans.ensures.all now.cluster now.history tied.ties.lawful over).1;
       tied = tied;
-      known = c.in-Ok-settle.ensures.known;
-      keeps = keeps_on c.in-Ok.ensures.keeps c.in-Ok-settle.ensures.keeps;
+      known = c.in-Ok-empty.ensures.known;
+      keeps = keeps_on c.in-Ok.ensures.keeps c.in-Ok-empty.ensures.keeps;
       part = tt;
-      laws = c.in-Ok-settle.ensures.laws;
+      laws = c.in-Ok-empty.ensures.laws;
       stop = tt;
     }
 
-pub returns-in-Err-settle : goal.returns-in-Err-settle
-returns-in-Err-settle c =
+pub returns-in-Err-empty : goal.returns-in-Err-empty
+returns-in-Err-empty c =
     let s = c.args.state.now in
     let begun : c.begin_and_refresh.new.state.history ≡ Begin (closing s.script.now) ∷ s.history = c.in-Ok.ensures.happened ∙ ap (λ (commands : List Command). Begin (length commands + 1) ∷ s.history) c.as_slice.ensures in
     record {
@@ -38,12 +38,12 @@ returns-in-Err-settle c =
       answered = tt;
       tied = tt;
       known = tt;
-      keeps = keeps_on c.in-Ok.ensures.keeps c.in-Err-settle.ensures.keeps;
-      part = inr (carried (λ cluster corpus script h. PartlySettles cluster corpus script h c.settle.new.state.history) _ _ _ _ _ _ _ _ c.in-Ok.ensures.keeps.cluster c.in-Ok.ensures.keeps.corpus c.in-Ok.ensures.keeps.script begun c.in-Err-settle.ensures.part);
-      laws = c.in-Err-settle.ensures.laws;
-      stop = stops_as (PartlySettles s.cluster s.corpus.now s.script.now (Begin (closing s.script.now) ∷ s.history)) (PartlyDrains s.cluster s.corpus.now s.script.now s.history) _ _ c.settle.new.state.history c.in-Err-settle.stop
+      keeps = keeps_on c.in-Ok.ensures.keeps c.in-Err-empty.ensures.keeps;
+      part = inr (carried (λ cluster corpus script h. PartlyEmpties cluster corpus script h c.empty.new.state.history) _ _ _ _ _ _ _ _ c.in-Ok.ensures.keeps.cluster c.in-Ok.ensures.keeps.corpus c.in-Ok.ensures.keeps.script begun c.in-Err-empty.ensures.part);
+      laws = c.in-Err-empty.ensures.laws;
+      stop = stops_as (PartlyEmpties s.cluster s.corpus.now s.script.now (Begin (closing s.script.now) ∷ s.history)) (PartlyDrains s.cluster s.corpus.now s.script.now s.history) _ _ c.empty.new.state.history c.in-Err-empty.stop
           (λ past part. inr part) (λ lacks. lacks)
-          (carried (λ cluster corpus script h. StopsSettling cluster corpus script h c.settle.new.state.history c.in-Err-settle.stop) _ _ _ _ _ _ _ _ c.in-Ok.ensures.keeps.cluster c.in-Ok.ensures.keeps.corpus c.in-Ok.ensures.keeps.script begun c.in-Err-settle.ensures.stop);
+          (carried (λ cluster corpus script h. StopsEmptying cluster corpus script h c.empty.new.state.history c.in-Err-empty.stop) _ _ _ _ _ _ _ _ c.in-Ok.ensures.keeps.cluster c.in-Ok.ensures.keeps.corpus c.in-Ok.ensures.keeps.script begun c.in-Err-empty.ensures.stop);
     }
 
 pub returns-in-Err-clause-stop : goal.returns-in-Err-clause-stop

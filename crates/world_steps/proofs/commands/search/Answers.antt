@@ -2,9 +2,8 @@ use Rattle.std.proofs.Common.{◌∙◌, ap, sym, rules, ◌≡◌, Bool, true, 
 use Rattle.std.specs.Prelude.{if◌then◌else◌}
 use Rattle.query_parse.specs.Bodies.{body_at}
 use Rattle.command_roots.specs.Roots.{body_or_none}
-use Rattle.corpus_shards.specs.Stored.{has_index}
 use Rattle.world_steps.specs.Scripts.{can_start, StartsWhere}
-use Rattle.world_steps.proofs.Commanded.{unknown_index, comes, partly_comes, can_come}
+use Rattle.world_steps.proofs.Commanded.{index_known, unknown_index, comes, partly_comes, can_come}
 use Rattle.world_steps.proofs.HadBefore.{had_ready, not_past, wholly}
 use Rattle.world_steps.proofs.Turning.{started_there}
 use Rattle.task_events.specs.declared.stop.Stop.TheVariants.{HistoryFull, NumbersSpent}
@@ -16,8 +15,7 @@ use Rattle.world_steps.proofs.commands.search.Goals as goal
 pub returns-then-not-has-clause-done : goal.returns-then-not-has-clause-done
 returns-then-not-has-clause-done c =
     let s = c.args.state.now in
-    let same = ap (λ x. has_index x.corpus.lines c.args.index.now) c.requires.shards.shards_are in
-    unknown_index s.cluster s.corpus.now c.args.index.now c.args.scroll c.args.body.now c.args.number c.args.node s.history (sym same ∙ sym (ap (has_index s.shards.corpus.lines) c.as_str.ensures) ∙ sym c.if-not-has.ensures)
+    unknown_index s.cluster s.corpus.now c.args.index.now c.args.scroll c.args.body.now c.args.number c.args.node s.history (index_known s c.requires.tied c.args.index.now _ _ c.as_str.ensures c.if-not-has.ensures)
 
 pub refresh-requires-clause-before : goal.refresh-requires-clause-before
 refresh-requires-clause-before c =
@@ -32,25 +30,22 @@ refresh-requires-clause-had c =
 pub returns-in-Ok-refresh-clause-done : goal.returns-in-Ok-refresh-clause-done
 returns-in-Ok-refresh-clause-done c =
     let s = c.args.state.now in
-    let same = ap (λ x. has_index x.corpus.lines c.args.index.now) c.requires.shards.shards_are in
     comes s.cluster s.corpus.now c.args.index.now c.args.scroll c.args.body.now c.args.number c.args.node c.in-Some.body s.history c.start.new.state.history
-    (ap (λ b. body_or_none (body_at b (if b then 1 else 0) c.args.body.now)) (sym c.is_some.ensures) ∙ sym c.in-Ok.ensures ∙ c.in-Some.is) (sym same ∙ sym (ap (has_index s.shards.corpus.lines) c.as_str.ensures) ∙ sym c.if-not-has.ensures) c.in_ok-start.field-0 c.in_ok-start.ensures.started
+    (ap (λ b. body_or_none (body_at b (if b then 1 else 0) c.args.body.now)) (sym c.is_some.ensures) ∙ sym c.in-Ok.ensures ∙ c.in-Some.is) (index_known s c.requires.tied c.args.index.now _ _ c.as_str.ensures c.if-not-has.ensures) c.in_ok-start.field-0 c.in_ok-start.ensures.started
 
 pub returns-in-Err-clause-part : goal.returns-in-Err-clause-part
 returns-in-Err-clause-part c =
     let s = c.args.state.now in
-    let same = ap (λ x. has_index x.corpus.lines c.args.index.now) c.requires.shards.shards_are in
     wholly (StartsWhere s.cluster (can_start s.corpus.now c.args.index.now c.args.scroll c.args.body.now) c.args.number c.args.node) s.history c.start.new.state.history
     (comes s.cluster s.corpus.now c.args.index.now c.args.scroll c.args.body.now c.args.number c.args.node c.in-Some.body s.history c.start.new.state.history
-    (ap (λ b. body_or_none (body_at b (if b then 1 else 0) c.args.body.now)) (sym c.is_some.ensures) ∙ sym c.in-Ok.ensures ∙ c.in-Some.is) (sym same ∙ sym (ap (has_index s.shards.corpus.lines) c.as_str.ensures) ∙ sym c.if-not-has.ensures) c.in_ok-start.field-0 c.in_ok-start.ensures.started)
+    (ap (λ b. body_or_none (body_at b (if b then 1 else 0) c.args.body.now)) (sym c.is_some.ensures) ∙ sym c.in-Ok.ensures ∙ c.in-Some.is) (index_known s c.requires.tied c.args.index.now _ _ c.as_str.ensures c.if-not-has.ensures) c.in_ok-start.field-0 c.in_ok-start.ensures.started)
     (started_there s.cluster s.history c.args.number c.args.node c.in_ok-start.field-0 c.start.new.state.history c.in_ok-start.ensures.started)
 
 pub returns-in_err-start-clause-stop : goal.returns-in_err-start-clause-stop
 returns-in_err-start-clause-stop c =
     let s = c.args.state.now in
-    let same = ap (λ x. has_index x.corpus.lines c.args.index.now) c.requires.shards.shards_are in
     let good = ap (λ b. body_or_none (body_at b (if b then 1 else 0) c.args.body.now)) (sym c.is_some.ensures) ∙ sym c.in-Ok.ensures ∙ c.in-Some.is in
-    let known = sym same ∙ sym (ap (has_index s.shards.corpus.lines) c.as_str.ensures) ∙ sym c.if-not-has.ensures in
+    let known = index_known s c.requires.tied c.args.index.now _ _ c.as_str.ensures c.if-not-has.ensures in
     stops c.from_residual.result (IsPartly (StartsWhere s.cluster (can_start s.corpus.now c.args.index.now c.args.scroll c.args.body.now) c.args.number c.args.node) s.history)
     ((can_start s.corpus.now c.args.index.now c.args.scroll c.args.body.now ≡ true) × NodeLacksNumber s.cluster s.history c.args.node × (c.start.new.state.history ≡ s.history)) c.start.new.state.history
     (λ failed. (let is_err : c.start.result ≡ Err HistoryFull = search rules in

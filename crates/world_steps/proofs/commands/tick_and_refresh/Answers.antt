@@ -4,6 +4,7 @@ use Rattle.task_events.specs.declared.history.TheConstants.{MAX_EVENTS}
 use Rattle.world_moves.specs.Moves.{IsPartly}
 use Rattle.world_moves.proofs.CutShort.{cut_only}
 use Rattle.world_moves.proofs.Outcomes.{stops}
+use Rattle.world_steps.proofs.Commanded.{day_ticks}
 use Rattle.world_steps.proofs.HadBefore.{had_ready_by, wholly}
 use Rattle.world_steps.proofs.commands.tick_and_refresh.Goals as goal
 
@@ -23,3 +24,9 @@ returns-in-Err-clause-part c =
     let s = c.args.state.now in
     let happened = c.in_ok-tick.ensures.happened in
     wholly (λ h new. new ≡ Tick c.args.ms ∷ h) s.history c.tick.new.state.history happened (Tick c.args.ms ∷ [], happened, refl)
+
+pub tick-requires-clause-low : goal.tick-requires-clause-low
+tick-requires-clause-low c = λ _. c.requires.low
+
+pub tick-requires-clause-high : goal.tick-requires-clause-high
+tick-requires-clause-high c = day_ticks c.args.ms c.requires.high

@@ -86,8 +86,8 @@ returns-in-Ok-step_and_refresh c =
     let empty : btree_set_len s.listings ≡ 0 = search rules in
     let closed = none_open s.history s.listings c.requires.tied.cancels.listings_are empty in
     record {
-      moved = λ _. first_move s.cluster s.corpus.now s.script.now s.history c.args.ready.now c.in-Some-copied.task c.requires.known (search rules) (search rules) none closed c.in-Ok-step_and_refresh.field-0 c.step_and_refresh.new.state.history c.in-Ok-step_and_refresh.ensures.stepped;
-      room = λ _. first_has_room s.cluster s.corpus.now s.script.now s.history c.args.ready.now c.in-Some-copied.task c.requires.known (search rules) (search rules) c.in-Ok-step_and_refresh.field-0 c.step_and_refresh.new.state.history c.in-Ok-step_and_refresh.ensures.stepped c.in-Ok-step_and_refresh.ensures.room;
+      moved = λ _. first_move s.cluster s.corpus.now s.script.now s.history c.args.ready.now.tasks c.in-Some-copied.task c.requires.known.tasks (search rules) (search rules) none closed c.in-Ok-step_and_refresh.field-0 c.step_and_refresh.new.state.history c.in-Ok-step_and_refresh.ensures.stepped;
+      room = λ _. first_has_room s.cluster s.corpus.now s.script.now s.history c.args.ready.now.tasks c.in-Some-copied.task c.requires.known.tasks (search rules) (search rules) c.in-Ok-step_and_refresh.field-0 c.step_and_refresh.new.state.history c.in-Ok-step_and_refresh.ensures.stepped c.in-Ok-step_and_refresh.ensures.room;
       rests = λ e. absurd (moves _ refl e);
       tied = c.in-Ok-step_and_refresh.ensures.tied;
       known = c.in-Ok-step_and_refresh.ensures.known;
@@ -110,8 +110,8 @@ returns-in-Err-step_and_refresh c =
       tied = tt;
       known = tt;
       keeps = c.in-Err-step_and_refresh.ensures.keeps;
-      part = first_part s.cluster s.corpus.now s.script.now s.history c.args.ready.now c.in-Some-copied.task c.requires.known (search rules) (search rules) none closed c.step_and_refresh.new.state.history c.in-Err-step_and_refresh.ensures.part;
+      part = first_part s.cluster s.corpus.now s.script.now s.history c.args.ready.now.tasks c.in-Some-copied.task c.requires.known.tasks (search rules) (search rules) none closed c.step_and_refresh.new.state.history c.in-Err-step_and_refresh.ensures.part;
       laws = c.in-Err-step_and_refresh.ensures.laws;
       stop = stops_as (IsPartly (Steps s.cluster s.corpus.now s.script.now c.in-Some-copied.task) s.history) (IsPartly (FirstMoves s.cluster s.corpus.now s.script.now) s.history) _ _ c.step_and_refresh.new.state.history c.in-Err-step_and_refresh.stop
-          (λ past. first_part s.cluster s.corpus.now s.script.now s.history c.args.ready.now c.in-Some-copied.task c.requires.known (search rules) (search rules) none closed past) (λ lacks. absurd lacks) c.in-Err-step_and_refresh.ensures.stop;
+          (λ past. first_part s.cluster s.corpus.now s.script.now s.history c.args.ready.now.tasks c.in-Some-copied.task c.requires.known.tasks (search rules) (search rules) none closed past) (λ lacks. absurd lacks) c.in-Err-step_and_refresh.ensures.stop;
     }

@@ -1,7 +1,5 @@
-use Rattle.std.proofs.Common.{Ok, ap, sym, length, subst}
+use Rattle.std.proofs.Common.{Ok, ap, length}
 use Rattle.task_events.specs.declared.history.TheConstants.{MAX_EVENTS}
-use Rattle.task_events.specs.Laws.{IsDrained}
-use Rattle.world_steps.proofs.Resting.{drained}
 use Rattle.world_steps.proofs.Passing.{less_left, move_longer, settled_on, partly_on, stops_on}
 use Rattle.world_steps.proofs.moving.settle.Goals as goal
 
@@ -21,9 +19,3 @@ returns-in-Err-clause-part c =
 pub returns-in-Err-clause-stop : goal.returns-in-Err-clause-stop
 returns-in-Err-clause-stop c =
     stops_on c.args.state.now c.loop-stop.state c.move_first.new.state c.loop-stop.ready c.loop-stop.invariant c.in-Err.stop c.in-Err.ensures.stop
-
-pub returns-in-Ok-false-clause-over : goal.returns-in-Ok-false-clause-over
-returns-in-Ok-false-clause-over c =
-    let s = c.loop-stop.state in
-    let rests = c.in-Ok-false.ensures.rests (ap Ok c.in-Ok-false.field-0-test) in
-    subst IsDrained (sym rests.1) (drained s.cluster s.corpus.now s.script.now s.history _ _ _ c.loop-stop.invariant.tied.ties rests.0)

@@ -94,6 +94,7 @@ returns-clause-tied c =
       cancels = rw (happened, core) (join_noted s.cluster s.history c.args.number c.args.task c.args.wait c.requires.naming c.requires.tied.ties.lawful c.requires.tied.awaits c.requires.live c.requires.fresh c.requires.marked e.0 e.2 _ _ _ s.cores.items _ c.requires.tied.cancels c.index_mut.result.now here);
       counts = rw happened (counts_after_cancel s.cluster s.history c.args.number c.args.task c.args.wait c.requires.naming c.requires.tied.ties.lawful c.requires.tied.awaits c.requires.live c.requires.fresh left _ c.requires.tied.counts (λ k. counted k ∙ ap (λ b. cond (c.args.number == k) (cond b (left k) (left k + 1)) (left k)) through));
       tells = rw happened (quiet s.script.now s.history s.tables.items s.flight s.clock (Cancel c.args.number c.args.task c.args.wait) refl c.requires.tied.tells);
-      pages = rw happened (quiet_pages s.cluster s.script.now s.history s.contexts.items c.requires.tied.pages (Cancel c.args.number c.args.task c.args.wait) refl);
+      pages = rw happened (quiet_pages s.cluster s.corpus.now s.script.now s.history s.contexts.items c.requires.tied.pages (Cancel c.args.number c.args.task c.args.wait) refl);
+      shards = rw happened c.requires.tied.shards;
       awaits = rw happened (join_awaits s.cluster s.history c.args.number c.args.task c.args.wait c.requires.naming c.requires.tied.ties.lawful c.requires.tied.awaits c.requires.live c.requires.fresh c.requires.marked);
     }

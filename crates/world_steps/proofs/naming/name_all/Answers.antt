@@ -15,7 +15,7 @@ loop-task-init c = record {
   tied = c.requires.tied;
   naming = c.requires.naming;
   can = c.requires.can;
-  keeps = record { cluster = refl; corpus = refl; shards = refl; script = refl };
+  keeps = record { cluster = refl; corpus = refl; script = refl };
   rest = refl;
   grows = ([], refl);
 }

@@ -89,7 +89,7 @@ mark-requires-clause-tells c =
 pub mark-requires-clause-pages : goal.mark-requires-clause-pages
 mark-requires-clause-pages c =
     let s = c.args.state.now in
-    rw c.in_ok-append.ensures.ok (quiet_pages s.cluster s.script.now s.history s.contexts.items c.requires.tied.pages (Cancel c.args.number c.args.task c.args.wait) refl)
+    rw c.in_ok-append.ensures.ok (quiet_pages s.cluster s.corpus.now s.script.now s.history s.contexts.items c.requires.tied.pages (Cancel c.args.number c.args.task c.args.wait) refl)
 
 pub mark-requires-clause-lawful : goal.mark-requires-clause-lawful
 mark-requires-clause-lawful c =

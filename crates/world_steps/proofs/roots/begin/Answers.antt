@@ -1,4 +1,4 @@
-use Rattle.std.proofs.Common.{◌∙◌, None, refl, ap}
+use Rattle.std.proofs.Common.{◌∙◌, None, refl, ap, sym}
 use Rattle.task_events.specs.declared.event.Event.TheVariants.{Begin}
 use Rattle.task_events.specs.Contexts.{after_begin}
 use Rattle.world_moves.specs.Cancels.{waiting_for}
@@ -18,7 +18,8 @@ returns-clause-tied c =
       cancels = noted s.cluster (λ t. waiting_for t s.history) s.history _ _ _ _ _ c.requires.tied.cancels (Begin c.args.command) refl refl;
       counts = still_counts None (Begin c.args.command) s.history _ refl c.requires.tied.counts;
       tells = begun_tells s.script.now s.history s.tables.items s.flight s.clock c.args.command c.requires.next c.requires.few c.requires.tied.tells;
-      pages = begun_pages s.cluster s.script.now s.history s.contexts.items c.requires.tied.pages c.args.command c.clear.new.contexts.items c.clear.ensures.as_many
+      pages = begun_pages s.cluster s.corpus.now s.script.now s.history s.contexts.items c.requires.tied.pages c.requires.tied.ties.lawful c.args.command (sym c.requires.next) c.clear.new.contexts.items c.clear.ensures.as_many
           (λ q. c.clear.ensures.cleared q ∙ ap (λ o. after_begin o q (context_in s.contexts.items q)) c.cleared-goes.ensures);
+      shards = c.requires.tied.shards;
       awaits = tt;
     })

@@ -26,7 +26,7 @@ same group detailed now wanted rows others e = ap (λ tasks. compact_text (list_
 pub returns-in-Ok-clause-line : goal.returns-in-Ok-clause-line
 returns-in-Ok-clause-line c =
     let s = c.self.inside.state in
-    let goes = ap (λ w. w.stopped) c.self.view_is ∙ c.requires in
+    let goes = ap (λ w. w.stopped) c.self.view_is ∙ c.requires.goes_on in
     let world = subst (λ o. IsWorld s c.self.inside.ready o) goes c.self.invariant in
     let rows = c.as_slice.ensures.value ∙ c.in_ok-rows.ensures.rows in
     let once = ap (shown c.args.wanted.now) rows ∙ shown_twice c.args.wanted.now (rows_of s.cluster s.script.now s.history) in

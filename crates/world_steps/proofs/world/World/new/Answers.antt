@@ -19,11 +19,11 @@ invariant_of-result c = record {
         (λ k. ap (lookup (is_at (nat_cmp k))) c.new-5.ensures.empty) c.in-Ok.ensures c.in-Ok-new_cores.ensures (λ l. ap (list_any (is_at (listing_cmp l))) c.new-7.ensures.empty));
     counts = rw c.new-2.ensures (nothing_counted (left_in c.new-6.result) (λ k. ap (λ m. unwrap_or (lookup (is_at (nat_cmp k)) m) 0) c.new-6.ensures.empty));
     tells = rw (c.new-2.ensures, c.new-4.ensures) (nothing_told c.args.cluster c.args.script.now c.in_ok-tables.tables.items c.in_ok-tables.ensures);
-    pages = rw c.new-2.ensures (nothing_opened c.args.cluster c.args.script.now c.in-Ok-new_contexts.contexts.items c.in-Ok-new_contexts.ensures);
+    pages = rw c.new-2.ensures (nothing_opened c.args.cluster c.args.corpus.now c.args.script.now c.in-Ok-new_contexts.contexts.items c.in-Ok-new_contexts.ensures);
+    shards = rw c.new-2.ensures (record { has = c.in-Ok-new.ensures.written; of_corpus = c.in-Ok-new.ensures.of_corpus });
     awaits = rw c.new-2.ensures tt;
   };
-  shards = record { shards_are = c.in-Ok-new.ensures.ok; few = c.in-Ok-new.ensures.few };
-  ready_known = λ t. rw c.new-2.ensures (ap (list_any (is_at (task_id_cmp t))) c.new-8.ensures.empty);
+  ready_known = rw c.new-2.ensures (record { tasks = c.new-8.ensures.tasks; kept = c.new-8.ensures.kept; alarms = c.new-8.ensures.alarms });
   can_run = c.requires.can;
   few = c.requires.few;
 }
