@@ -7,15 +7,20 @@ use Rattle.serde_json.specs.Data.{Data}
 use Rattle.query_match.specs.declared.body.SearchBody.{SearchBody}
 use Rattle.query_parse.specs.declared.fault.BodyError.{BodyError}
 use Rattle.query_parse.specs.Bodies.{body_at}
+use Rattle.std.specs.Option.{option_map_or}
 use Rattle.task_ids.specs.declared.cluster.Cluster.{Cluster}
 use Rattle.task_ids.specs.declared.corpus.Corpus.{Corpus}
 use Rattle.task_ids.specs.declared.task_id.TaskId.{TaskId}
 use Rattle.task_ids.specs.declared.text.Text.{Text}
 use Rattle.task_events.specs.declared.event.Event.{Event}
-use Rattle.task_events.specs.declared.event.Event.TheVariants.{Begin, Root, RootRejected, Refuse, Acked, End, Tick}
+use Rattle.task_events.specs.declared.event.Event.TheVariants.{Begin, Root, RootRejected, Refuse, Acked, Work, End, Tick}
 use Rattle.task_events.specs.declared.reply.Reply.{Reply}
 use Rattle.task_events.specs.declared.request.Request.{Request}
 use Rattle.task_events.specs.declared.request.Request.TheVariants as asks
+use Rattle.task_events.specs.declared.request.WriteNote.{WriteNote}
+use Rattle.task_events.specs.Requests.{request_of}
+use Rattle.task_events.specs.Steps.{turns_of}
+use Rattle.task_events.specs.Written.{corpus_at, turn_notes, with_notes, write_of}
 use Rattle.task_events.specs.Lawful.{Lawful}
 use Rattle.task_events.specs.Laws.{IsDrained}
 use Rattle.task_events.specs.Messages.{in_flight}
@@ -31,10 +36,10 @@ use Rattle.node_parts.specs.declared.listing.Listing.{Listing}
 use Rattle.world_moves.specs.Listings.{is_open}
 use Rattle.world_moves.specs.Moves.{IsStart}
 use Rattle.world_moves.specs.Plain.{AnswersPlainly}
-use Rattle.command_roots.specs.Roots.{command_at, context_named, least_size, page_at, root_request, search_ask}
+use Rattle.command_roots.specs.Roots.{command_at, context_named, least_size, page_at, root_request, search_ask, scripted}
 use Rattle.world_steps.specs.declared.acting.Stepped.{Stepped}
 use Rattle.world_steps.specs.declared.acting.Stepped.TheVariants.{Done, Waiting, NotRunning}
-use Rattle.world_steps.specs.Runs.{AnswersStep}
+use Rattle.world_steps.specs.Runs.{after_step, AnswersStep}
 use Rattle.world_steps.specs.Scripts.{StartsWhere, DeliversWhere, ListsWhere, IsRun, can_page, can_start, page_node}
 use Rattle.line_print.specs.Lines.{is_known}
 use Rattle.task_top.specs.EachLine.{as_began, TellsPage, TellsSearch, HasEnded, Moved, Waits, HasItsLine, EachHasItsLine}
@@ -54,6 +59,16 @@ due_longer (Refuse t c) h = omega (arith, answers_longer t (Refuse t c ∷ h))
 due_longer (End t reply) h = omega (arith, answers_longer t (End t reply ∷ h))
 due_longer (Acked p n) h = omega (arith, answers_longer p (Acked p n ∷ h))
 due_longer e h = omega arith
+
+noted_longer : (notes : List WriteNote) (h : List Event) → length h ≤ length (with_notes notes h)
+noted_longer [] h = omega arith
+noted_longer (note ∷ notes) h = let more = noted_longer notes (write_of note ∷ h) in omega (arith, more)
+
+step_longer : (cluster : Cluster) (corpus : Corpus) (script : Script) (e : Event) (h : List Event) → length h < length (after_step cluster corpus script e h)
+step_longer cluster corpus script (Work t) h =
+    let more = noted_longer (option_map_or (λ request. turn_notes cluster (corpus_at corpus (scripted script) h) request (turns_of t h)) (request_of (scripted script) t h) []) (Work t ∷ h) in
+    omega (arith, more)
+step_longer cluster corpus script e h = due_longer e h
 
 -- ---- roots
 
@@ -153,12 +168,15 @@ module _ (cluster : Cluster) (corpus : Corpus) (script : Script) (h : List Event
     moved_due : (e : Event) → done.after ≡ with_due e (Begin k ∷ done.before) → Moved k h
     moved_due e same = some_told cluster corpus script k command h done (let longer = due_longer e (Begin k ∷ done.before) in let all = ap length same in omega (arith, longer, all))
 
+    stepped_on : (e : Event) → done.after ≡ after_step cluster corpus script e (Begin k ∷ done.before) → Moved k h
+    stepped_on e same = some_told cluster corpus script k command h done (let longer = step_longer cluster corpus script e (Begin k ∷ done.before) in let all = ap length same in omega (arith, longer, all))
+
     deliver_told : (nth : ℕ) → DeliversWhere cluster nth (Begin k ∷ done.before) done.after → Moved k h ⊎ (length (in_flight (as_began k h)) ≤ nth)
     deliver_told nth (inl (m, e, at, is, same)) = inl (moved_due e same)
     deliver_told nth (inr (past, same)) = inr (subst (λ g. length (in_flight g) ≤ nth) began_as past)
 
     step_told : (t : TaskId) (stepped : Stepped) → AnswersStep cluster corpus script t (Begin k ∷ done.before) stepped done.after → Moved k h ⊎ (is_live t (as_began k h) ≡ false) ⊎ Waits cluster corpus script t (as_began k h)
-    step_told t Done (e, live, next, same) = inl (moved_due e same)
+    step_told t Done (e, live, next, same) = inl (stepped_on e same)
     step_told t NotRunning (gone, same) = inr (inl (subst (λ g. is_live t g ≡ false) began_as gone))
     step_told t Waiting (live, waits, same) = inr (inr (subst (Waits cluster corpus script t) began_as (live, waits)))
 

@@ -8,7 +8,7 @@ use Rattle.task_ids.specs.declared.cluster.Cluster.{Cluster}
 use Rattle.task_ids.specs.declared.corpus.Corpus.{Corpus}
 use Rattle.task_ids.specs.declared.task_id.TaskId.{TaskId}
 use Rattle.task_events.specs.declared.event.Event.{Event}
-use Rattle.task_events.specs.declared.event.Event.TheVariants.{Begin, Refuse, Cancel, NotFound, Mark, Listed, Acked, End}
+use Rattle.task_events.specs.declared.event.Event.TheVariants.{Begin, Refuse, Cancel, NotFound, Mark, Listed, Acked, Work, End}
 use Rattle.task_events.specs.declared.step.Do.{Do}
 use Rattle.task_events.specs.declared.step.Do.TheVariants.{AskNext, Turn, Wait, Finish}
 use Rattle.task_events.specs.Asks.{Pending, unanswered}
@@ -18,7 +18,10 @@ use Rattle.task_events.specs.Laws.{CancelsWithCause}
 use Rattle.task_events.specs.Messages.{Message}
 use Rattle.task_events.specs.Messages.Message.{Request, Answer, Ban, Ack, Unban}
 use Rattle.task_events.specs.Requests.{request_of}
-use Rattle.task_events.specs.Steps.{event_of, first_step, cancelled_step, step_of_passed, planned_step}
+use Rattle.task_events.specs.declared.reply.Counts.{Counts}
+use Rattle.task_events.specs.declared.request.WriteNote.{WriteNote}
+use Rattle.task_events.specs.Written.{corpus_at, turn_notes, with_notes, write_of}
+use Rattle.task_events.specs.Steps.{counted, event_of, first_step, cancelled_step, step_of_passed, planned_step, turns_of}
 use Rattle.task_events.specs.Tasks.{is_live, is_new, ancestors}
 use Rattle.task_laws.proofs.Same.{same_tests}
 use Rattle.script_lang.specs.declared.command.CancelTarget.{CancelTarget}
@@ -33,7 +36,8 @@ use Rattle.world_moves.specs.Moves.{IsDelivery, Delivers, IsStart, Starts}
 use Rattle.command_roots.specs.Roots.{command_at, root_of, scripted}
 use Rattle.world_steps.specs.declared.acting.Stepped.{Stepped}
 use Rattle.world_steps.specs.declared.acting.Stepped.TheVariants.{Done, Waiting, NotRunning}
-use Rattle.world_steps.specs.Runs.{AnswersStep, FirstMoves, Passes, Settles, Steps}
+use Rattle.world_steps.specs.Draining.{Empties, StartsAgain, ticked_to}
+use Rattle.world_steps.specs.Runs.{after_step, AnswersStep, FirstMoves, Passes, Settles, Steps}
 use Rattle.world_steps.specs.Scripts.{StartsWhere, DeliversWhere, ListsWhere, Does, HasRun, IsRun, can_page, can_start, closing, page_node}
 use Rattle.task_top.specs.EachLine.{IsCancelAt, TellsReasons}
 
@@ -114,9 +118,9 @@ module _ (c : ℕ) (t : TaskId) where
     by_first None e same = not_naming e (first_step u None) refl same
     by_first (Some d) e same = not_naming e (first_step u (Some d)) refl same
 
-    by_mark : (d : ℕ) (asks : List Pending) (e : Event) → cancelled_step u d asks ≡ Some e → is_naming e ≡ false
-    by_mark d [] e same = subst (λ o. option_map_or is_naming o false ≡ false) same refl
-    by_mark d (ask ∷ asks) e same = absurd (cc)
+    by_mark : (d : ℕ) (counts : Counts) (asks : List Pending) (e : Event) → cancelled_step u d counts asks ≡ Some e → is_naming e ≡ false
+    by_mark d counts [] e same = subst (λ o. option_map_or is_naming o false ≡ false) same refl
+    by_mark d counts (ask ∷ asks) e same = absurd (cc)
 
     by_plan : (d : Do) (e : Event) → event_of cluster u h d ≡ Some e → is_naming e ≡ false
     by_plan (AskNext request) e same = subst (λ o. option_map_or is_naming o false ≡ false) same refl
@@ -124,17 +128,25 @@ module _ (c : ℕ) (t : TaskId) where
     by_plan (Wait due) e same = absurd (cc)
     by_plan (Finish reply) e same = subst (λ o. option_map_or is_naming o false ≡ false) same refl
 
-    by_step : (new : Bool) (mark : Option ℕ) (plan : Option Do) (e : Event) → cond new (Some (first_step u (ban_over u h))) (step_of_passed cluster u h mark plan) ≡ Some e → is_naming e ≡ false
-    by_step true mark plan e same = by_first (ban_over u h) e same
-    by_step false (Some d) plan e same = by_mark d (unanswered u h) e same
-    by_step false None None e same = absurd (cc)
-    by_step false None (Some d) e same = by_plan d e same
+    by_step : (new : Bool) (mark : Option ℕ) (counts : Counts) (plan : Option Do) (e : Event) → cond new (Some (first_step u (ban_over u h))) (step_of_passed cluster u h mark counts plan) ≡ Some e → is_naming e ≡ false
+    by_step true mark counts plan e same = by_first (ban_over u h) e same
+    by_step false (Some d) counts plan e same = by_mark d counts (unanswered u h) e same
+    by_step false None counts None e same = absurd (cc)
+    by_step false None counts (Some d) e same = by_plan d e same
+
+  notes_more : (notes : List WriteNote) (h : List Event) → NamesNoMore h (with_notes notes h)
+  notes_more [] h = refl
+  notes_more (note ∷ notes) h = notes_more notes (write_of note ∷ h)
 
   module _ (cluster : Cluster) (corpus : Corpus) (script : Script) where
+    step_more : (e : Event) (h : List Event) → is_naming e ≡ false → NamesNoMore h (after_step cluster corpus script e h)
+    step_more (Work u) h none = notes_more (option_map_or (λ request. turn_notes cluster (corpus_at corpus (scripted script) h) request (turns_of u h)) (request_of (scripted script) u h) []) (Work u ∷ h)
+    step_more e h none = due_more e h none
+
     steps_more : (u : TaskId) (h new : List Event) → Steps cluster corpus script u h new → NamesNoMore h new
     steps_more u h new (e, live, next, same) =
         ap (is_named c t) same
-        ∙ due_more e h (by_step cluster u h (is_new u h) (mark_of u h) (option_map (λ request. planned_step cluster corpus (scripted script) u request h) (request_of (scripted script) u h)) e next)
+        ∙ step_more e h (by_step cluster u h (is_new u h) (mark_of u h) (counted cluster corpus (scripted script) u h) (option_map (λ request. planned_step cluster corpus (scripted script) u request h) (request_of (scripted script) u h)) e next)
 
     answers_step_more : (u : TaskId) (h new : List Event) (stepped : Stepped) → AnswersStep cluster corpus script u h stepped new → NamesNoMore h new
     answers_step_more u h new Done steps = steps_more u h new steps
@@ -152,6 +164,13 @@ module _ (c : ℕ) (t : TaskId) where
 
     settles_more : (h new : List Event) → Settles cluster corpus script h new → NamesNoMore h new
     settles_more h new (rests, (between, p)) = passes_more h between new p
+
+    again_more : (h : List Event) (between : List (List Event)) (start : List Event) → StartsAgain cluster corpus script h between start → NamesNoMore h start
+    again_more h [] start same = ap (is_named c t) same
+    again_more h (settled ∷ later) start (settles, (due, soonest, goes)) = again_more (ticked_to due settled) later start goes ∙ settles_more h settled settles
+
+    drains_more : (h new : List Event) → Empties cluster corpus script h new → NamesNoMore h new
+    drains_more h new (none, (between, start, goes, settles)) = settles_more start new settles ∙ again_more h between start goes
 
     -- ---- commands
 
@@ -226,7 +245,7 @@ module _ (c : ℕ) (t : TaskId) where
         by_turn older (inr here) = here
 
     pub named_by_cancel : (h : List Event) → IsRun cluster corpus script h → is_named c t h ≡ true → IsCancelAt script c
-    named_by_cancel h (before, runs, drains) named = in_run (length script.commands) before runs (sym (settles_more (Begin (closing script) ∷ before) h drains) ∙ named)
+    named_by_cancel h (before, runs, drains) named = in_run (length script.commands) before runs (sym (drains_more (Begin (closing script) ∷ before) h drains) ∙ named)
 
 -- ---- marks and refusals
 

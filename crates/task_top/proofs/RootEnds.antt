@@ -9,6 +9,7 @@ use Rattle.task_events.specs.declared.event.Event.{Event}
 use Rattle.task_events.specs.declared.event.Event.TheVariants.{Root, Put, Refuse, End}
 use Rattle.task_events.specs.declared.reply.FailedShard.{FailedShard}
 use Rattle.task_events.specs.declared.reply.SearchReply.{SearchReply}
+use Rattle.task_events.specs.declared.reply.Counts.{Counts}
 use Rattle.task_events.specs.declared.reply.Reply.{Reply}
 use Rattle.task_events.specs.declared.reply.Reply.TheVariants.{Search, AllFailed, Cancelled}
 use Rattle.task_events.specs.declared.request.Request.{Request}
@@ -28,6 +29,8 @@ use Rattle.task_laws.proofs.Asks.{ask_facts}
 use Rattle.task_laws.proofs.Content.{answer_facts}
 use Rattle.task_laws.proofs.Same.{same_task_tells, same_tests}
 use Rattle.script_lang.specs.declared.command.Script.{Script}
+use Rattle.task_events.specs.Steps.{counted}
+use Rattle.world_moves.specs.Good.{so_far}
 use Rattle.world_moves.specs.Plain.{AnswersPlainly, EndsPlainly}
 use Rattle.command_roots.specs.Roots.{root_request, scripted}
 use Rattle.task_top.specs.EachLine.{IsSearchReply}
@@ -80,14 +83,14 @@ asks_for_hits (asks.Search ask) = true
 asks_for_hits (asks.Scroll ask) = true
 asks_for_hits _ = false
 
-module _ (cluster : Cluster) (corpus : Corpus) (t : TaskId) (h : List Event) where
-  ends_so : (page : Option Context) (mark : Option ℕ) (request : Request) (reply : Reply) → asks_for_hits request ≡ true → EndsPlainly cluster corpus t page mark (Some request) h reply → IsSearchReply t reply
-  ends_so page (Some c) request reply hits e = subst (IsSearchReply t) (sym e) refl
-  ends_so page None (asks.Search ask) reply hits e = subst (IsSearchReply t) (sym e.answer) (plain_reply t (search_reading t ask cluster.shards) _ _ _)
-  ends_so (Some c) None (asks.Scroll ask) reply hits e = subst (IsSearchReply t) (sym e.answer) (plain_reply t (page_reading c) _ _ _)
-  ends_so None None (asks.Scroll ask) reply hits e = absurd e
-  ends_so page None (asks.Query ask) reply hits e = absurd (cc)
-  ends_so page None (asks.Fetch ask) reply hits e = absurd (cc)
+module _ (cluster : Cluster) (look : List Event → Corpus) (t : TaskId) (h : List Event) where
+  ends_so : (page : Option Context) (mark : Option ℕ) (counts : Counts) (request : Request) (reply : Reply) → asks_for_hits request ≡ true → EndsPlainly cluster look t page mark counts (Some request) h reply → IsSearchReply t reply
+  ends_so page (Some c) counts request reply hits e = subst (IsSearchReply t) (sym e) refl
+  ends_so page None counts (asks.Search ask) reply hits e = subst (IsSearchReply t) (sym e.answer) (plain_reply t (search_reading t ask cluster.shards) _ _ _)
+  ends_so (Some c) None counts (asks.Scroll ask) reply hits e = subst (IsSearchReply t) (sym e.answer) (plain_reply t (page_reading c) _ _ _)
+  ends_so None None counts (asks.Scroll ask) reply hits e = absurd e
+  ends_so page None counts (asks.Query ask) reply hits e = absurd (cc)
+  ends_so page None counts (asks.Fetch ask) reply hits e = absurd (cc)
 
 module _ (cluster : Cluster) (corpus : Corpus) (script : Script) (k : ℕ) (t : TaskId) (base : List Event) (request : Request) (hits : asks_for_hits request ≡ true) (asked : root_request script k base ≡ Some request) where
   -- A task that a search or a scroll has started replies as a search does.
@@ -101,11 +104,12 @@ module _ (cluster : Cluster) (corpus : Corpus) (script : Script) (k : ℕ) (t : 
           let it : r ≡ reply = cc in
           let past = later ++ Root k t ∷ base in
           let page = page_of (scripted script) t past in
-          let mine : EndsPlainly cluster corpus t page (mark_of t past) (request_of (scripted script) t past) past r =
-          subst (λ v. EndsPlainly cluster corpus v (page_of (scripted script) v past) (mark_of v past) (request_of (scripted script) v past) past r) (sym same) p.0 in
-          let so : EndsPlainly cluster corpus t page (mark_of t past) (Some request) past r =
-          subst (λ o. EndsPlainly cluster corpus t page (mark_of t past) o past r) (asked_to k t base cluster (scripted script) later l.1 ∙ asked) mine in
-          subst (IsSearchReply t) it (ends_so cluster corpus t past page (mark_of t past) request r hits so)
+          let counts = counted cluster corpus (scripted script) t past in
+          let mine : EndsPlainly cluster (so_far corpus script) t page (mark_of t past) counts (request_of (scripted script) t past) past r =
+          subst (λ v. EndsPlainly cluster (so_far corpus script) v (page_of (scripted script) v past) (mark_of v past) (counted cluster corpus (scripted script) v past) (request_of (scripted script) v past) past r) (sym same) p.0 in
+          let so : EndsPlainly cluster (so_far corpus script) t page (mark_of t past) counts (Some request) past r =
+          subst (λ o. EndsPlainly cluster (so_far corpus script) t page (mark_of t past) counts o past r) (asked_to k t base cluster (scripted script) later l.1 ∙ asked) mine in
+          subst (IsSearchReply t) it (ends_so cluster (so_far corpus script) t past page (mark_of t past) counts request r hits so)
       by_task earlier (inr (differs, apart)) = earlier (rw differs at e)
   replies_so (Refuse u c ∷ later) reply l p e = by_task (replies_so later reply l.1 p) (same_task_tells t u)
     where

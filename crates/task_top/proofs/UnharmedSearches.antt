@@ -11,6 +11,7 @@ use Rattle.task_ids.specs.declared.task_id.TaskId.{TaskId}
 use Rattle.task_events.specs.declared.event.Event.{Event}
 use Rattle.task_events.specs.declared.event.Event.TheVariants.{Root, Put, Reject, Refuse, Mark, End}
 use Rattle.task_events.specs.declared.reply.SearchReply.{SearchReply}
+use Rattle.task_events.specs.declared.reply.Counts.{Counts}
 use Rattle.task_events.specs.declared.reply.Reply.{Reply}
 use Rattle.task_events.specs.declared.reply.Reply.TheVariants.{Search, Top, Hits, AllFailed, Cancelled, Rejected}
 use Rattle.task_events.specs.declared.request.Request.{Request}
@@ -39,6 +40,8 @@ use Rattle.task_laws.proofs.Content.{answer_facts}
 use Rattle.task_laws.proofs.Counts.{is_for}
 use Rattle.task_laws.proofs.Same.{same_task_tells, same_tests}
 use Rattle.script_lang.specs.declared.command.Script.{Script}
+use Rattle.task_events.specs.Steps.{counted}
+use Rattle.world_moves.specs.Good.{so_far}
 use Rattle.world_moves.specs.Plain.{AnswersPlainly, EndsPlainly, IsPlainReply}
 use Rattle.command_roots.specs.Roots.{scripted}
 use Rattle.task_events.specs.ShardOutcomes.{ask_for, answered_shards, failed_shards, failure_told, why_failed, is_query_of, is_fetch_of}
@@ -122,10 +125,10 @@ module _ (cluster : Cluster) (t : TaskId) (h : List Event) (lawful : Lawful clus
       by_count true is reply none = absurd (cc)
       by_count false is reply none = none
 
-  pub whole_answer : (corpus : Corpus) (ask : SearchAsk) (reply : Reply) → IsPlainReply cluster corpus t (search_reading t ask cluster.shards) h reply → IsWholeAnswer reply
-  whole_answer corpus ask reply plain =
+  pub whole_answer : (look : List Event → Corpus) (ask : SearchAsk) (reply : Reply) → IsPlainReply cluster look t (search_reading t ask cluster.shards) h reply → IsWholeAnswer reply
+  whole_answer look ask reply plain =
       let r = search_reading t ask cluster.shards in
-      let writes = writes_of corpus cluster.shards ask.index in
+      let writes = writes_of (look h) cluster.shards ask.index in
       let answer : reply ≡ plain_answer r writes (answered_shards r writes t h) [] = plain.answer ∙ ap (plain_answer r writes (answered_shards r writes t h)) (none_among r.shards) in
       let many : length r.shards ≡ cluster.shards = length-map-range_with_len Newest 0 cluster.shards in
       subst IsWholeAnswer (sym answer) (whole r writes (answered_shards r writes t h) (omega (arith, many, cluster.shards_in_range.0)))
@@ -151,13 +154,13 @@ module _ (cluster : Cluster) (corpus : Corpus) (script : Script) (causes : (h : 
   asked_then _ h l reply e = refl
 
   at_its_end : (h : List Event) → Lawful cluster h → IsUnharmed t h → (mark : Option ℕ) → mark_of t h ≡ mark → (request : Option Request) (ask : SearchAsk) → request ≡ Some (asks.Search ask)
-      → (page : Option Context) (reply : Reply) → EndsPlainly cluster corpus t page mark request h reply → IsWholeAnswer reply
-  at_its_end h l unharmed (Some c) e request ask asked page reply plain = absurd (let none = unharmed.unmarked in cc)
-  at_its_end h l unharmed None e None ask asked page reply plain = absurd (cc)
-  at_its_end h l unharmed None e (Some (asks.Search other)) ask asked page reply plain = whole_answer cluster t h l (causes h l) unharmed corpus other reply plain
-  at_its_end h l unharmed None e (Some (asks.Query other)) ask asked page reply plain = absurd (cc)
-  at_its_end h l unharmed None e (Some (asks.Fetch other)) ask asked page reply plain = absurd (cc)
-  at_its_end h l unharmed None e (Some (asks.Scroll other)) ask asked page reply plain = absurd (cc)
+      → (page : Option Context) (counts : Counts) (reply : Reply) → EndsPlainly cluster (so_far corpus script) t page mark counts request h reply → IsWholeAnswer reply
+  at_its_end h l unharmed (Some c) e request ask asked page counts reply plain = absurd (let none = unharmed.unmarked in cc)
+  at_its_end h l unharmed None e None ask asked page counts reply plain = absurd (cc)
+  at_its_end h l unharmed None e (Some (asks.Search other)) ask asked page counts reply plain = whole_answer cluster t h l (causes h l) unharmed (so_far corpus script) other reply plain
+  at_its_end h l unharmed None e (Some (asks.Query other)) ask asked page counts reply plain = absurd (cc)
+  at_its_end h l unharmed None e (Some (asks.Fetch other)) ask asked page counts reply plain = absurd (cc)
+  at_its_end h l unharmed None e (Some (asks.Scroll other)) ask asked page counts reply plain = absurd (cc)
 
   -- one event more
   step : (e : Event) (h : List Event) → Lawful cluster (e ∷ h) → AnswersPlainly cluster corpus script (e ∷ h) → (ask : SearchAsk) (reply : Reply) → request_of (scripted script) t (e ∷ h) ≡ Some (asks.Search ask) → reply_of t (e ∷ h) ≡ Some reply
@@ -168,8 +171,8 @@ module _ (cluster : Cluster) (corpus : Corpus) (script : Script) (causes : (h : 
       by_task (inl (is_one, same)) =
           let given : Some r ≡ Some reply = rw is_one at replied in
           let it : r ≡ reply = cc in
-          let mine : EndsPlainly cluster corpus t (page_of (scripted script) t h) (mark_of t h) (request_of (scripted script) t h) h r = subst (λ v. EndsPlainly cluster corpus v (page_of (scripted script) v h) (mark_of v h) (request_of (scripted script) v h) h r) (sym same) plain.0 in
-          subst IsWholeAnswer it (at_its_end h l.1 before (mark_of t h) refl (request_of (scripted script) t h) ask asked (page_of (scripted script) t h) r mine)
+          let mine : EndsPlainly cluster (so_far corpus script) t (page_of (scripted script) t h) (mark_of t h) (counted cluster corpus (scripted script) t h) (request_of (scripted script) t h) h r = subst (λ v. EndsPlainly cluster (so_far corpus script) v (page_of (scripted script) v h) (mark_of v h) (counted cluster corpus (scripted script) v h) (request_of (scripted script) v h) h r) (sym same) plain.0 in
+          subst IsWholeAnswer it (at_its_end h l.1 before (mark_of t h) refl (request_of (scripted script) t h) ask asked (page_of (scripted script) t h) (counted cluster corpus (scripted script) t h) r mine)
       by_task (inr (differs, apart)) = earlier plain.1 asked (rw differs at replied)
   step (Refuse u c) h l plain ask reply asked replied now before earlier = by_task (same_task_tells t u)
     where

@@ -1,6 +1,7 @@
 //! The run of a script in a serial world.
 
 ghost use Rattle.std.specs.Prelude.{◌≡◌, ◌+◌, ◌≤◌, [], None, Some, length, slice_get, OnOk, IfOk, IfErr};
+ghost use Rattle.task_events.specs.Cancels.{last_command};
 ghost use Rattle.task_events.specs.Lawful.{Lawful};
 ghost use Rattle.world_moves.specs.Plain.{AnswersPlainly};
 ghost use Rattle.world_steps.specs.Scripts.{CanDo, CanRun};
@@ -19,6 +20,7 @@ use world_steps::World;
 fn note_of(world: &World<'_>, command: &Command) -> Result<Option<Note>, Stop>
     requires goes_on { world.now.stopped ≡ None }
     requires can { CanDo world.now.cluster.nodes command.now }
+    requires before { last_command world.now.past ≤ length world.now.script.commands }
     ensures ok { IfOk result (λ note. note ≡ note_of world.now.cluster world.now.script command.now world.now.past) }
     ensures early { IfErr result (λ stop. stop ≡ Stop.Memory) }
 {

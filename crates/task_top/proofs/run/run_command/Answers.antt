@@ -1,4 +1,7 @@
-use Rattle.std.proofs.Common.{◌≡◌, ◌+◌, List, [], ◌∷◌, ◌++◌, Option, OnOk, subst, sym, rules}
+use Rattle.std.proofs.Common.{◌≡◌, ◌≤◌, ◌<◌, arith, length, ◌+◌, List, [], ◌∷◌, ◌++◌, Option, OnOk, subst, sym, rules}
+use Rattle.std.proofs.lemmas.Option.{slice_get_within}
+use Rattle.task_events.specs.Cancels.{last_command}
+use Rattle.script_lang.specs.declared.command.Script.{Script}
 use Rattle.line_print.specs.declared.note.Note.{Note}
 use Rattle.task_top.specs.Progress.{HasCome}
 use Rattle.task_top.proofs.ProgressLemmas.{has_come, stops_in_command}
@@ -14,3 +17,10 @@ returns-clause-ok c =
 pub returns-clause-early : goal.returns-clause-early
 returns-clause-early c =
     stops_in_command c.args.script.now c.args.place c.args.found.now.items c.args.world.now c.command.new.self.past c.requires.come c.command.result c.command.ensures.part c.command.ensures.cause
+
+-- a command that is still to come is one of the script
+pub note_of-requires-clause-before : goal.note_of-requires-clause-before
+note_of-requires-clause-before c =
+    let come = c.requires.come in
+    let there : c.args.place < length c.args.script.now.commands = slice_get_within c.args.script.now.commands c.args.place c.args.command.now c.requires.next in
+    subst (λ (script : Script). last_command c.args.world.now.past ≤ length script.commands) (sym come.reads) (omega (arith, come.last, there))
