@@ -7,7 +7,7 @@ ghost use Rattle.query_match.specs.Found.{found_view};
 ghost use Rattle.query_match.specs.Sorting.{goes_before, better};
 ghost use Rattle.query_match.specs.Values.{values_in, values_in_each, held_at, held_by_key, held_behind, held_behind_each};
 
-use crate::matching::after_key;
+use crate::field::{after_key, is_key, member};
 use query_match::{Found, value_in};
 use serde_json::{Map, Value};
 
@@ -63,10 +63,32 @@ fn best_in_each<'v>(
     best
 }
 
+/// The best of the values of a field of an object, and of the best before. A field without a dot is one look-up.
 #[cycle(best_held)]
 fn best_at<'v>(
     descending: bool,
-    field: &[u8],
+    field: &str,
+    best: Option<Found<'v>>,
+    members: &'v Map<String, Value>,
+) -> Option<Found<'v>>
+    ensures { option_map found_view result
+        ≡ fold (better descending) (option_map found_view best.entry)
+        (flat_map values_in (held_at field.now (members_view members.entry.now.entries))) }
+{
+    if is_key(field) {
+        return match member(members, field) {
+            Some(value) => best_in(descending, best, value),
+            None => best,
+        };
+    }
+    best_by_keys(descending, field, best, members)
+}
+
+/// The same, found by a walk over all keys.
+#[cycle(best_held)]
+fn best_by_keys<'v>(
+    descending: bool,
+    field: &str,
     best: Option<Found<'v>>,
     members: &'v Map<String, Value>,
 ) -> Option<Found<'v>>
@@ -84,7 +106,7 @@ fn best_at<'v>(
 #[cycle(best_held)]
 fn best_by_key<'v>(
     descending: bool,
-    field: &[u8],
+    field: &str,
     best: Option<Found<'v>>,
     key: &str,
     value: &'v Value,
@@ -93,7 +115,6 @@ fn best_by_key<'v>(
         ≡ fold (better descending) (option_map found_view best.entry)
         (flat_map values_in (held_by_key field.now key.now (view value.entry.now))) }
 {
-    let key = key.as_bytes();
     if field == key {
         return best_in(descending, best, value);
     }
@@ -107,7 +128,7 @@ fn best_by_key<'v>(
 #[cycle(best_held)]
 pub(crate) fn best_behind<'v>(
     descending: bool,
-    field: &[u8],
+    field: &str,
     best: Option<Found<'v>>,
     value: &'v Value,
 ) -> Option<Found<'v>>
@@ -125,7 +146,7 @@ pub(crate) fn best_behind<'v>(
 #[cycle(best_held)]
 fn best_behind_each<'v>(
     descending: bool,
-    field: &[u8],
+    field: &str,
     best: Option<Found<'v>>,
     items: &'v [Value],
 ) -> Option<Found<'v>>

@@ -29,7 +29,7 @@ fn part_of(alloc: Global, descending: bool, best: Option<Found<'_>>) -> Result<K
 fn key_part(alloc: Global, by: &SortBy, source: &Value) -> Result<KeyPart, AllocError>
     ensures { IfOk result (λ part. part ≡ part_at (view source.now) by.now) }
 {
-    let field = by.field.as_str().as_bytes();
+    let field = by.field.as_str();
     part_of(
         alloc,
         by.descending,

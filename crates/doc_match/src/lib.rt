@@ -2,6 +2,7 @@
 #![tactic(auto)]
 
 mod best;
+mod field;
 mod field_test;
 mod keys;
 mod matching;

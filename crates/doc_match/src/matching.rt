@@ -1,39 +1,34 @@
 //! Whether a document matches a query.
 
-ghost use Rattle.std.specs.Prelude.{◌≡◌, nat_le, option_map};
+ghost use Rattle.std.specs.Prelude.{◌≡◌, nat_le};
 ghost use Rattle.std.specs.List.{list_any};
 ghost use Rattle.serde_json.specs.View.{view, items_view, members_view};
 ghost use Rattle.query_match.specs.Matching.{holds, matches, all_match, none_matches, match_count};
-ghost use Rattle.query_match.specs.Values.{after_dot, after_key, same_bytes, held_at, held_by_key, held_behind, held_behind_each};
+ghost use Rattle.query_match.specs.Values.{same_bytes, held_at, held_by_key, held_behind, held_behind_each};
 ghost use Rattle.query_match.specs.View.{query_view, queries_view};
 
+use crate::field::{after_key, is_key, member};
 use crate::field_test::holds;
 use query_match::{Node, Query, Test, Text};
 use serde_json::{Map, Value};
 
-fn after_dot(name: &[u8]) -> Option<&[u8]>
-    ensures { option_map (λ r. r.now) result ≡ after_dot name.now }
-{
-    match name {
-        [b'.', rest @ ..] => Some(rest),
-        _ => None,
-    }
-}
-
-/// The rest of a field's name that begins with the key and a dot.
-pub(crate) fn after_key<'f>(key: &[u8], field: &'f [u8]) -> Option<&'f [u8]>
-    ensures { option_map (λ r. r.now) result ≡ after_key key.now field.now }
-{
-    if field.starts_with(key) {
-        after_dot(&field[key.len()..])
-    } else {
-        None
-    }
-}
-
-/// Something that lies at the field of an object passes the test.
+/// Something that lies at the field of an object passes the test. A field without a dot is one look-up.
 #[cycle(held)]
-fn holds_at(test: &Test, field: &[u8], members: &Map<String, Value>) -> bool
+fn holds_at(test: &Test, field: &str, members: &Map<String, Value>) -> bool
+    ensures { result ≡ list_any (holds test.now) (held_at field.now (members_view members.now.entries)) }
+{
+    if is_key(field) {
+        return match member(members, field) {
+            Some(value) => holds(test, value),
+            None => false,
+        };
+    }
+    holds_by_keys(test, field, members)
+}
+
+/// The same, found by a walk over all keys.
+#[cycle(held)]
+fn holds_by_keys(test: &Test, field: &str, members: &Map<String, Value>) -> bool
     ensures { result ≡ list_any (holds test.now) (held_at field.now (members_view members.now.entries)) }
 {
     for (key, value) in members.iter() {
@@ -45,10 +40,9 @@ fn holds_at(test: &Test, field: &[u8], members: &Map<String, Value>) -> bool
 }
 
 #[cycle(held)]
-fn holds_by_key(test: &Test, field: &[u8], key: &str, value: &Value) -> bool
+fn holds_by_key(test: &Test, field: &str, key: &str, value: &Value) -> bool
     ensures { result ≡ list_any (holds test.now) (held_by_key field.now key.now (view value.now)) }
 {
-    let key = key.as_bytes();
     if field == key {
         return holds(test, value);
     }
@@ -60,7 +54,7 @@ fn holds_by_key(test: &Test, field: &[u8], key: &str, value: &Value) -> bool
 
 /// Something that lies at the field of an object passes the test, in one object or in a list of them.
 #[cycle(held)]
-fn holds_behind(test: &Test, field: &[u8], value: &Value) -> bool
+fn holds_behind(test: &Test, field: &str, value: &Value) -> bool
     ensures { result ≡ list_any (holds test.now) (held_behind field.now (view value.now)) }
 {
     match value {
@@ -71,7 +65,7 @@ fn holds_behind(test: &Test, field: &[u8], value: &Value) -> bool
 }
 
 #[cycle(held)]
-fn holds_behind_one(test: &Test, field: &[u8], items: &[Value]) -> bool
+fn holds_behind_one(test: &Test, field: &str, items: &[Value]) -> bool
     ensures { result ≡ list_any (holds test.now) (held_behind_each field.now (items_view items.now)) }
 {
     for item in items {
@@ -95,7 +89,7 @@ fn node_matches(node: &Node, id: &[u8], source: &Value) -> bool
     match node {
         Node::All => true,
         Node::Nothing => false,
-        Node::Field(field, test) => holds_behind(test, field.as_str().as_bytes(), source),
+        Node::Field(field, test) => holds_behind(test, field.as_str(), source),
         Node::Ids(ids) => is_one_of(id, ids.as_slice()),
         Node::Bool {
             must,
@@ -155,7 +149,7 @@ fn enough_match(nodes: &[Node], least: u32, id: &[u8], source: &Value) -> bool
 
 /// Whether the document of this id and source matches.
 ///
-/// It takes no memory, and walks the source once for each field that the query names. A number with a fraction or an exponent is no value. A source is an object; of a list the objects in it would count.
+/// It takes no memory, and looks once into the source for each field without a dot that the query names; for one with dots it walks the keys. A number with a fraction or an exponent is no value. A source is an object; of a list the objects in it would count.
 pub fn matches(query: &Query, id: &[u8], source: &Value) -> bool
     ensures { result ≡ matches query.now id.now (view source.now) }
 {

@@ -6,8 +6,8 @@ use Rattle.query_match.specs.Sorting.{better}
 use Rattle.query_match.specs.Values.{values_in, held_at, held_behind_each}
 use Rattle.doc_match.proofs.best.+best_held.Given as goal
 
-abbrev pub invariant-best_at-loop-key : goal.invariant-best_at-loop-key
-invariant-best_at-loop-key l =
+abbrev pub invariant-best_by_keys-loop-key : goal.invariant-best_by_keys-loop-key
+invariant-best_by_keys-loop-key l =
     fold (better l.descending) (option_map found_view l.best) (flat_map values_in (held_at l.field (members_view l.key-iterator)))
     ≡ fold (better l.descending) (option_map found_view l.initial.best) (flat_map values_in (held_at l.field (members_view l.initial.key-iterator)))
 
