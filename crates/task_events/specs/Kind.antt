@@ -1,4 +1,4 @@
--- What a kind of task is, of one request of it. Each kind has a file of its own (SearchTask, ScrollTask, QueryTask, FetchTask), and Kinds lists them.
+-- What a kind of task is, of one request of it. Each kind has a file of its own (SearchTask, ReindexTask and so on), and Kinds lists them.
 use Rattle.std.specs.Prelude.{ℕ, List, Bool, Option}
 use Rattle.task_ids.specs.declared.action.Action.{Action}
 use Rattle.task_ids.specs.declared.cluster.Cluster.{Cluster}

@@ -1,5 +1,5 @@
 -- The next page of a search: it asks as a search does, of the shards of its context alone, at their versions and after the cursor.
-use Rattle.std.specs.Prelude.{ℕ, ◌^◌, List, [], length, ◌++◌, codes, Bool, true, false, ◌&&◌, nat_lt, Option, Some, None}
+use Rattle.std.specs.Prelude.{ℕ, ◌^◌, List, [], length, ◌++◌, codes, Bool, true, false, ◌&&◌, nat_lt, nat_le, Option, Some, None}
 use Rattle.std.specs.Option.{option_map_or}
 use Rattle.task_ids.specs.declared.action.Action.TheVariants as actions
 use Rattle.task_ids.specs.TaskId.{task_id_text}
@@ -22,9 +22,9 @@ abbrev pub scroll_step : Option Context → List Asked → Do
 scroll_step None asked = Wait None
 scroll_step (Some context) asked = search_step (page_reading context) asked
 
--- an answer that names the context, in which not all shards failed
+-- an answer that names the context, in which not all shards failed, with at most as many hits as any search shows
 abbrev pub is_page_for : ℕ → ScrollAsk → SearchReply → Bool
-is_page_for shards ask reply = option_map_or (same_task ask.id) reply.context false && nat_lt (length reply.failed) shards && nat_lt reply.total (2 ^ 36)
+is_page_for shards ask reply = option_map_or (same_task ask.id) reply.context false && nat_lt (length reply.failed) shards && nat_le (length reply.hits) 10000 && nat_lt reply.total (2 ^ 36)
 
 abbrev pub scroll_can_have : ScrollAsk → ℕ → Reply → Bool
 scroll_can_have ask shards (Search reply) = is_page_for shards ask reply

@@ -186,6 +186,10 @@ impl Request {
             Request::Query(ask) => Ok(Request::Query(ask.copy()?)),
             Request::Fetch(ask) => Ok(Request::Fetch(ask.copy()?)),
             Request::Scroll(ask) => Ok(Request::Scroll(*ask)),
+            Request::Reindex(ask) => Ok(Request::Reindex(ask.copy()?)),
+            Request::Slice(ask) => Ok(Request::Slice(ask.copy()?)),
+            Request::Bulk(ask) => Ok(Request::Bulk(ask.copy()?)),
+            Request::BulkShard(ask) => Ok(Request::BulkShard(ask.copy()?)),
         }
     }
 }
@@ -250,6 +254,7 @@ impl Reply {
             Reply::Top(top) => Ok(Reply::Top(top.copy()?)),
             Reply::Hits(hits) => Ok(Reply::Hits(hits.copy()?)),
             Reply::AllFailed(failed) => Ok(Reply::AllFailed(copy_values(failed)?)),
+            Reply::Wrote(counts) => Ok(Reply::Wrote(*counts)),
             Reply::Cancelled {
                 task,
                 cancel,

@@ -1,22 +1,32 @@
-ghost use Rattle.std.specs.Prelude.{◌≡◌, ◌∷◌, [], ◌<◌, ◌↔◌, length, reverse, slice_get, option_copied, IfErr, IsErrOf, IsTrue, OnOk, OnErr};
+ghost use Rattle.std.specs.Prelude.{◌≡◌, ◌∷◌, [], ◌++◌, ◌<◌, ◌+◌, ◌↔◌, length, reverse, slice_get, option_copied, IfErr, IsErrOf, IsTrue, OnOk, OnErr};
 
 use crate::event::Event;
-use std::alloc::Global;
+use crate::events::Events;
+use std::alloc::{AllocError, Global};
 use std::marker::Model;
+use std::mem;
 
 /// How many events a history holds at most.
 pub const MAX_EVENTS: usize = 4_000_000;
 
+/// How many events a piece of a history holds.
+const PIECE: usize = 4096;
+
 /// What happened, in order. Contracts see the list of the events with the newest first.
+///
+/// The events lie in pieces of 4,096, all but the last of which are full. So where a history grows none of them is moved, but for those
+/// of the first piece while it fills up, and no more memory is kept free than for one piece.
 #[derive(Drop)]
 pub struct History {
-    events: Vec<Event>,
+    full: Vec<Vec<Event>>,
+    last: Vec<Event>,
 }
 
 impl Model for History {
-    ghost use Rattle.std.specs.Prelude.{List, ◌≤◌, length, reverse};
+    ghost use Rattle.std.specs.Prelude.{List, ◌≡◌, ◌++◌, ◌≤◌, length, reverse, flat_map};
+    ghost use Rattle.std.specs.List.{All};
     ghost use Rattle.task_events.specs.declared.event.Event.{Event};
-    ghost use Rattle.task_events.specs.declared.history.TheConstants.{MAX_EVENTS};
+    ghost use Rattle.task_events.specs.declared.history.TheConstants.{MAX_EVENTS, PIECE};
     ghost use Rattle.task_events.specs.contracts.event.Event as events_row;
     ghost use Rattle.std.specs.Coded.{coded_list};
 
@@ -24,9 +34,10 @@ impl Model for History {
 
     ghost coded = { coded_list events_row.the_row.coded };
 
-    ghost view = { λ h. reverse h.events.items };
+    ghost view = { λ h. reverse (flat_map (λ piece. piece.items) h.full.items ++ h.last.items) };
 
-    ghost invariant = { λ h. length h.events.items ≤ MAX_EVENTS };
+    ghost invariant = { λ h. All (λ piece. length piece.items ≡ PIECE) h.full.items × (length h.last.items ≤ PIECE)
+        × (length (flat_map (λ piece. piece.items) h.full.items ++ h.last.items) ≤ MAX_EVENTS) };
 }
 
 /// Why an event was not added. The event comes back.
@@ -38,6 +49,22 @@ pub enum PushError {
     Memory(Event),
 }
 
+/// Puts a piece, which is to be full, behind the full ones, and an empty one into its place.
+fn begin_piece(full: &mut Vec<Vec<Event>>, last: &mut Vec<Event>) -> Result<(), AllocError>
+    ensures ok { OnOk result ((full.new.items ≡ full.old.items ++ last.old ∷ []) × (last.new.items ≡ [])) }
+    ensures err { OnErr result ((full.new.items ≡ full.old.items) × (last.new ≡ last.old)) }
+{
+    let empty = Vec::with_capacity(*full.allocator(), PIECE)?;
+    let filled = mem::replace(last, empty);
+    match full.push(filled) {
+        Ok(()) => Ok(()),
+        Err(failed) => {
+            *last = failed.value;
+            Err(AllocError)
+        }
+    }
+}
+
 impl History {
     ghost use Rattle.task_events.specs.History.{returned};
 
@@ -46,7 +73,8 @@ impl History {
         ensures { result ≡ [] }
     {
         History {
-            events: Vec::new(alloc),
+            full: Vec::new(alloc),
+            last: Vec::new(alloc),
         }
     }
 
@@ -58,10 +86,13 @@ impl History {
         ensures full { IsErrOf result (PushError.Full event) ↔ (length self.old ≡ MAX_EVENTS) }
         ensures given_back { IfErr result (λ e. returned e ≡ event) }
     {
-        if self.events.len() == MAX_EVENTS {
+        if self.len() == MAX_EVENTS {
             return Err(PushError::Full(event));
         }
-        match self.events.push(event) {
+        if self.last.len() == PIECE && begin_piece(&mut self.full, &mut self.last).is_err() {
+            return Err(PushError::Memory(event));
+        }
+        match self.last.push(event) {
             Ok(()) => Ok(()),
             Err(failed) => Err(PushError::Memory(failed.value)),
         }
@@ -71,34 +102,44 @@ impl History {
     pub fn get(&self, at: usize) -> Option<&Event>
         ensures { option_copied result ≡ slice_get (reverse self.now) at }
     {
-        self.events.get(at)
+        match self.full.get(at / PIECE) {
+            Some(piece) => piece.get(at % PIECE),
+            None => self.last.get(at - self.full.len() * PIECE),
+        }
     }
 
     /// The events, the oldest first.
-    pub fn as_slice(&self) -> &[Event]
-        ensures { result.now ≡ reverse self.now }
+    pub fn events(&self) -> Events<'_>
+        ensures { result ≡ reverse self.now }
     {
-        self.events.as_slice()
+        Events::of(self)
     }
 
     /// The newest event. There is none exactly where nothing has happened.
     pub fn newest(&self) -> Option<&Event>
         ensures { option_copied result ≡ slice_get self.now 0 }
     {
-        self.events.last()
+        self.get(self.len().checked_sub(1)?)
     }
 
     /// The number of events.
     pub fn len(&self) -> usize
         ensures { result ≡ length self.now }
     {
-        self.events.len()
+        self.full.len() * PIECE + self.last.len()
+    }
+
+    /// How many events it can still take.
+    pub fn left(&self) -> usize
+        ensures { length self.now + result ≡ MAX_EVENTS }
+    {
+        MAX_EVENTS - self.full.len() * PIECE - self.last.len()
     }
 
     /// Whether nothing has happened yet.
     pub fn is_empty(&self) -> bool
         ensures { IsTrue result ↔ (self.now ≡ []) }
     {
-        self.events.is_empty()
+        self.len() == 0
     }
 }

@@ -16,6 +16,8 @@ pub enum Reply {
     Hits(Shared<Items<Hit>>),
     /// Every shard of a search failed. The shards ascend.
     AllFailed(Items<FailedShard>),
+    /// What a task that writes has done: a reindex, a slice, a bulk or its part in a shard.
+    Wrote(Counts),
     /// The task was cancelled, or refused, by the cancellation of this number.
     Cancelled {
         task: TaskId,
@@ -36,13 +38,7 @@ impl Reply {
         Reply::Cancelled {
             task,
             cancel,
-            counts: Counts {
-                total: 0,
-                created: 0,
-                updated: 0,
-                batches: 0,
-                failures: 0,
-            },
+            counts: Counts::none(),
         }
     }
 }
@@ -60,6 +56,21 @@ pub struct Counts {
     pub batches: u64,
     /// How many parts failed.
     pub failures: u64,
+}
+
+impl Counts {
+    /// Nothing was done yet. It takes no memory.
+    pub fn none() -> Counts
+        ensures { result ≡ no_counts }
+    {
+        Counts {
+            total: 0,
+            created: 0,
+            updated: 0,
+            batches: 0,
+            failures: 0,
+        }
+    }
 }
 
 /// A search's answer, after Elasticsearch's search API.

@@ -16,6 +16,14 @@ pub enum Request {
     Fetch(Shared<FetchAsk>),
     /// The next page of a search that opened a context.
     Scroll(ScrollAsk),
+    /// A copy of documents of one index into another.
+    Reindex(Shared<ReindexAsk>),
+    /// One slice of such a copy.
+    Slice(Shared<SliceAsk>),
+    /// A batch of documents that are written to an index.
+    Bulk(Shared<BulkAsk>),
+    /// The documents of a batch that lie in one shard.
+    BulkShard(Shared<BulkShardAsk>),
 }
 
 /// A search of all shards of an index, after Elasticsearch's search API.
