@@ -4,10 +4,11 @@ ghost use Rattle.std.specs.Prelude.{◌≡◌, ◌++◌, codes, IfOk, option_map
 ghost use Rattle.task_ids.specs.TaskId.{task_id_text};
 ghost use Rattle.task_events.specs.Kinds.{kind_of, action_of, description_of, node_for};
 ghost use Rattle.task_events.specs.Looking.{shard_description};
+ghost use Rattle.task_events.specs.SliceTask.{reindex_description};
 
 use shard_docs::node_of;
 use std::alloc::{AllocError, Global};
-use task_events::Request;
+use task_events::{BulkAsk, BulkShardAsk, ReindexAsk, Request, SliceAsk};
 use task_ids::{Action, Cluster, TaskId, Text};
 
 /// The action of the task that a request asks for.
@@ -19,6 +20,9 @@ pub fn action_of(request: &Request) -> Action
         Request::Query(_) => Action::Query,
         Request::Fetch(_) => Action::Fetch,
         Request::Scroll(_) => Action::Scroll,
+        Request::Reindex(_) | Request::Slice(_) => Action::Reindex,
+        Request::Bulk(_) => Action::Bulk,
+        Request::BulkShard(_) => Action::BulkShard,
     }
 }
 
@@ -34,6 +38,43 @@ fn scroll_description(alloc: Global, id: TaskId) -> Result<Text, AllocError>
     ensures { IfOk result (λ text. text ≡ codes "scrollId[" ++ task_id_text id ++ codes "]") }
 {
     Ok(Text::new(format!(in alloc; "scrollId[n{}:{}]", id.node, id.number)?))
+}
+
+/// What a reindex is called.
+fn reindex_description(alloc: Global, ask: &ReindexAsk) -> Result<Text, AllocError>
+    ensures { IfOk result (λ text. text ≡ reindex_description ask.now) }
+{
+    let source = ask.source.get().as_str();
+    let dest = ask.dest.get().as_str();
+    Ok(Text::new(format!(in alloc; "reindex from [{source}] to [{dest}]")?))
+}
+
+/// What a slice is called: as its reindex, with its number.
+fn slice_description(alloc: Global, ask: &SliceAsk) -> Result<Text, AllocError>
+    ensures { IfOk result (λ text. text ≡ description_of (Request.Slice ask.now)) }
+{
+    let whole = reindex_description(alloc, &ask.reindex)?;
+    let (whole, slice, slices) = (whole.as_str(), ask.slice, ask.reindex.slices);
+    Ok(Text::new(format!(in alloc; "{whole} slice[{slice}/{slices}]")?))
+}
+
+/// What a bulk is called.
+fn bulk_description(alloc: Global, ask: &BulkAsk) -> Result<Text, AllocError>
+    ensures { IfOk result (λ text. text ≡ description_of (Request.Bulk ask.now)) }
+{
+    let docs = ask.docs.as_slice().len();
+    let dest = ask.dest.get().as_str();
+    Ok(Text::new(format!(in alloc; "requests[{docs}], indices[{dest}]")?))
+}
+
+/// What the part of a bulk in a shard is called.
+fn part_description(alloc: Global, ask: &BulkShardAsk) -> Result<Text, AllocError>
+    ensures { IfOk result (λ text. text ≡ description_of (Request.BulkShard ask.now)) }
+{
+    let docs = ask.docs.as_slice().len();
+    let dest = ask.dest.get().as_str();
+    let shard = ask.shard;
+    Ok(Text::new(format!(in alloc; "requests[{docs}], index[{dest}][{shard}]")?))
 }
 
 /// What the task that a request asks for works on, as a detailed task list shows it. It fails only for want of memory.
@@ -54,6 +95,10 @@ pub fn description_of(alloc: Global, request: &Request) -> Result<Text, AllocErr
             shard_description(alloc, ask.index.get().as_str(), ask.shard)
         }
         Request::Scroll(ask) => scroll_description(alloc, ask.id),
+        Request::Reindex(ask) => reindex_description(alloc, ask.get()),
+        Request::Slice(ask) => slice_description(alloc, ask.get()),
+        Request::Bulk(ask) => bulk_description(alloc, ask.get()),
+        Request::BulkShard(ask) => part_description(alloc, ask.get()),
     }
 }
 
@@ -63,8 +108,10 @@ pub fn shard_of(request: &Request) -> Option<u32>
 {
     match request {
         Request::Search(_) | Request::Scroll(_) => None,
+        Request::Reindex(_) | Request::Slice(_) | Request::Bulk(_) => None,
         Request::Query(ask) => Some(ask.get().shard),
         Request::Fetch(ask) => Some(ask.get().shard),
+        Request::BulkShard(ask) => Some(ask.get().shard),
     }
 }
 

@@ -55,6 +55,7 @@ impl Running {
     pub fn take_reply(&mut self, receipt: Receipt, reply: Reply, now: u64) -> Result<(), Stop>
         requires own { Answers receipt self.old.track }
         requires takes { work_takes self.old.work receipt.ask reply ≡ true }
+        requires moment { now < 2 ^ 60 }
         ensures taken { OnOk result (self.new ≡ running_with_answer self.old receipt.ask reply now) }
         ensures memory { IfErr result (λ stop. stop ≡ Stop.Memory) }
     {

@@ -1,10 +1,10 @@
 //! What a request makes: a task of its kind, with its work.
 
-ghost use Rattle.std.specs.Prelude.{◌≡◌, List, Some, IfOk, IfErr, is_some, option_copied};
+ghost use Rattle.std.specs.Prelude.{◌≡◌, List, IfOk, IfErr, is_some, option_copied};
 ghost use Rattle.child_track.specs.Track.{new_track};
 ghost use Rattle.node_parts.specs.Starting.{task_for, page_in};
 ghost use Rattle.task_ids.specs.declared.doc.Doc.{Doc};
-ghost use Rattle.task_work.specs.Works.{IsWorkOn, is_page, new_work};
+ghost use Rattle.task_work.specs.Works.{IsBegun, IsNewWork, IsWorkOn, is_page};
 
 use crate::kinds::{action_of, description_of};
 use crate::running::Running;
@@ -68,8 +68,9 @@ pub fn with_work(
       headers = headers;
     }) }
     ensures work { IfOk result (λ running.
-        new_work ticket.id request.now cluster.now.shards (option_copied context.entry) ≡ Some running.work) }
+        IsNewWork ticket.id request.now cluster.now.shards (option_copied context.entry) running.work) }
     ensures begun { (writes : List Doc) → IfOk result (λ running. IsWorkOn running.work writes) }
+    ensures tied { IfOk result (λ running. IsBegun ticket.id request.now cluster.now.shards running.work) }
     ensures err { IfErr result (λ stop. stop ≡ Stop.Memory) }
 {
     let task = ticket.id();

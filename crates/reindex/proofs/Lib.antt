@@ -1,5 +1,13 @@
+pub mod Answers
+pub mod AskLists
 pub mod BatchLemmas
+pub mod BulkRuns
+pub mod CutRuns
+pub mod FedSums
 pub mod RootLemmas
+pub mod RootRuns
+pub mod SliceFed
 pub mod SliceLemmas
-pub mod SumLemmas
+pub mod SliceRuns
 pub mod WriteLemmas
+pub mod WritingRuns

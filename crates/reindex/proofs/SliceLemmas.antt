@@ -1,71 +1,42 @@
--- What holds of the fields of a slice still holds once it has asked.
-use Rattle.std.proofs.Common.{◌≡◌, ℕ, ◌<◌, ◌≤◌, true, false, ltb, arith, ⊎_elim}
-use Rattle.std.proofs.lemmas.Bool.{cases_lt, le-ltb}
-use Rattle.reindex.specs.declared.phase.Phase.{Phase}
-use Rattle.reindex.specs.declared.phase.Phase.TheVariants.{First, Reads, Holds, Writes, Rests, Over}
-use Rattle.reindex.specs.Slices.{Slicing, plan_in, plan_of, can_ask, phase_with, pages_with, with_ask}
-use Rattle.reindex.specs.SliceFields.{IsSlice, most_pages}
-use Rattle.task_ids.specs.declared.task_id.TaskId.{TaskId}
+-- Which slices a reindex has, and which documents each of them reads.
+use Rattle.std.proofs.Common.{◌≡◌, ℕ, ◌<◌, ◌≤◌, Bool, true, false, refl, Some, None}
+use Rattle.std.specs.Prelude.{◌==◌, nat_lt}
+use Rattle.std.specs.Coded.{le_prop}
+use Rattle.std.proofs.lemmas.Bool.{lt-ltb, le-ltb, ltb-true}
+use Rattle.task_events.specs.declared.request.ReindexAsk.{ReindexAsk}
+use Rattle.task_events.specs.declared.request.SliceAsk.{SliceAsk}
+use Rattle.task_events.specs.declared.request.SlicePick.{SlicePick}
+use Rattle.task_events.specs.Slicing.{pick_if, pick_of, slice_if, slice_at}
 
--- it asks for no page after the last
-page_is_left : (s : Slicing) (now : ℕ) (context : TaskId) (until : ℕ) → can_ask (plan_in s (Rests context until)) now ≡ true → s.pages < 1000000
-page_is_left s now context until can =
-    ⊎_elim
-    (λ below. below)
-    (λ (past : 1000000 ≤ s.pages). let none : ltb s.pages 1000000 ≡ false = le-ltb s.pages 1000000 past in let no : false ≡ true = rw none at can in absurd cc)
-    (cases_lt s.pages 1000000)
+pick_if_is : (slice slices shards : ℕ) (p : 0 < shards) (q : slice < slices) (some : Bool) (hs : nat_lt 0 shards ≡ some) (within : Bool) (hw : nat_lt slice slices ≡ within)
+    → let pick : SlicePick = record { slice = slice; slices = slices; shards = shards; shards_in_range = p; slice_in_range = q } in Some pick ≡ pick_if slice slices shards some hs within hw
+pick_if_is slice slices shards p q true hs true hw =
+    λ i. Some (record {
+      slice = slice;
+      slices = slices;
+      shards = shards;
+      shards_in_range = le_prop p (ltb-true 0 shards hs) i;
+      slice_in_range = le_prop q (ltb-true slice slices hw) i;
+    })
+pick_if_is slice slices shards p q true hs false hw = let yes : nat_lt slice slices ≡ true = lt-ltb slice slices q in absurd cc
+pick_if_is slice slices shards p q false hs within hw = let yes : nat_lt 0 shards ≡ true = lt-ltb 0 shards p in absurd cc
 
-asked_in : (s : Slicing) (ask now : ℕ) (phase : Phase) → IsSlice (record s { phase = phase }) → can_ask (plan_in s phase) now ≡ true
-    → IsSlice (record s { phase = phase_with phase ask; pages = pages_with phase s.pages })
-asked_in s ask now First h can = record {
-  slices_in_range = h.slices_in_range;
-  few = omega arith;
-  rounds = omega arith;
-  docs = omega arith;
-  total = h.total;
-  created = omega arith;
-  updated = omega arith;
-  batches = omega arith;
-  failures = h.failures;
-}
-asked_in s ask now (Rests context until) h can =
-    let left = page_is_left s now context until can in
-    record {
-      slices_in_range = h.slices_in_range;
-      few = omega arith;
-      rounds = omega arith;
-      docs = omega arith;
-      total = h.total;
-      created = omega arith;
-      updated = omega arith;
-      batches = omega arith;
-      failures = h.failures;
-    }
-asked_in s ask now (Holds context docs came) h can = record {
-  slices_in_range = h.slices_in_range;
-  few = h.few;
-  rounds = h.rounds;
-  docs = h.docs;
-  total = h.total;
-  created = h.created;
-  updated = h.updated;
-  batches = h.batches;
-  failures = h.failures;
-}
-asked_in s ask now (Reads open_ask) h can = absurd cc
-asked_in s ask now (Writes open_ask context docs came) h can = absurd cc
-asked_in s ask now Over h can = absurd cc
+pub pick_is : (slice slices shards : ℕ) (p : 0 < shards) (q : slice < slices) → (slices == 1) ≡ false
+    → let pick : SlicePick = record { slice = slice; slices = slices; shards = shards; shards_in_range = p; slice_in_range = q } in Some pick ≡ pick_of slice slices shards
+pick_is slice slices shards p q more = rw more (pick_if_is slice slices shards p q (nat_lt 0 shards) refl (nat_lt slice slices) refl)
 
-pub slice_asked : (s : Slicing) (ask now : ℕ) → IsSlice s → can_ask (plan_of s) now ≡ true → IsSlice (with_ask s ask)
-slice_asked s ask now h can = asked_in s ask now s.phase h can
+slice_if_is : (ask : ReindexAsk) (slice : ℕ) (p : slice < ask.slices) (within : Bool) (hw : nat_lt slice ask.slices ≡ within)
+    → let a : SliceAsk = record { reindex = ask; slice = slice; slice_in_range = p } in slice_if ask slice within hw ≡ Some a
+slice_if_is ask slice p true hw = λ i. Some (record { reindex = ask; slice = slice; slice_in_range = le_prop (ltb-true slice ask.slices hw) p i })
+slice_if_is ask slice p false hw = let yes : nat_lt slice ask.slices ≡ true = lt-ltb slice ask.slices p in absurd cc
 
-pub few_pages : (s : Slicing) → IsSlice s → s.pages ≤ 1000000
-few_pages s h = few_in s.phase s.pages h.few
-  where
-    few_in : (phase : Phase) (pages : ℕ) → pages ≤ most_pages phase → pages ≤ 1000000
-    few_in First pages few = omega arith
-    few_in (Reads ask) pages few = few
-    few_in (Holds context docs came) pages few = few
-    few_in (Writes ask context docs came) pages few = few
-    few_in (Rests context until) pages few = few
-    few_in Over pages few = few
+-- the slice of a number below that of its slices
+pub slice_is : (ask : ReindexAsk) (slice : ℕ) (p : slice < ask.slices) → let a : SliceAsk = record { reindex = ask; slice = slice; slice_in_range = p } in slice_at ask slice ≡ Some a
+slice_is ask slice p = slice_if_is ask slice p (nat_lt slice ask.slices) refl
+
+slice_if_none : (ask : ReindexAsk) (slice : ℕ) → ask.slices ≤ slice → (within : Bool) (hw : nat_lt slice ask.slices ≡ within) → slice_if ask slice within hw ≡ None
+slice_if_none ask slice past true hw = let no : nat_lt slice ask.slices ≡ false = le-ltb slice ask.slices past in absurd cc
+slice_if_none ask slice past false hw = refl
+
+pub slice_none : (ask : ReindexAsk) (slice : ℕ) → ask.slices ≤ slice → slice_at ask slice ≡ None
+slice_none ask slice past = slice_if_none ask slice past (nat_lt slice ask.slices) refl

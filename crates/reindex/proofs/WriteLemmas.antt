@@ -7,7 +7,8 @@ use Rattle.std.proofs.lemmas.Bool.{cases_lt}
 use Rattle.std.proofs.lemmas.List.Sums.{sum_by-cons}
 use Rattle.std.proofs.lemmas.List.{take_all, drop_all, length-take, length-drop}
 use Rattle.task_events.specs.Looking.{rows_per_turn}
-use Rattle.reindex.specs.Writes.{note_of, notes_of, BreaksOff}
+use Rattle.task_events.specs.Written.{note_of, notes_of}
+use Rattle.reindex.specs.Writes.{BreaksOff}
 
 -- one document more
 pub notes_of-push : (index : List ℕ) (shard : ℕ) (writes docs : List Doc) (doc : Doc) → notes_of index shard writes (docs ++ doc ∷ []) ≡ notes_of index shard writes docs ++ note_of index shard (writes ++ docs) doc ∷ []
@@ -125,14 +126,14 @@ one_or_none true m n k h = omega arith
 one_or_none false m n k h = omega arith
 
 -- each note is of a document that was created, or of one that was updated
-created_or_updated : (notes : List WriteNote) → count_by (λ note. note.created) notes + count_by (λ note. not note.created) notes ≡ length notes
+pub created_or_updated : (notes : List WriteNote) → count_by (λ note. note.created) notes + count_by (λ note. not note.created) notes ≡ length notes
 created_or_updated [] = refl
 created_or_updated (note ∷ notes) =
     ap (λ m. m + count_by (λ note. not note.created) (note ∷ notes)) (sum_by-cons (λ note. cond note.created 1 0) note notes)
     ∙ ap (λ n. (cond note.created 1 0 + count_by (λ note. note.created) notes) + n) (sum_by-cons (λ note. cond (not note.created) 1 0) note notes)
     ∙ one_or_none note.created _ _ _ (created_or_updated notes)
 
-length-notes_of : (index : List ℕ) (shard : ℕ) (writes docs : List Doc) → length (notes_of index shard writes docs) ≡ length docs
+pub length-notes_of : (index : List ℕ) (shard : ℕ) (writes docs : List Doc) → length (notes_of index shard writes docs) ≡ length docs
 length-notes_of index shard writes [] = refl
 length-notes_of index shard writes (doc ∷ docs) = ap suc (length-notes_of index shard (writes ++ doc ∷ []) docs)
 

@@ -1,11 +1,15 @@
+pub mod Answers
 pub mod BulkFields
+pub mod BulkRuns
 pub mod Bulks
 pub mod Counts
+pub mod OpenAsks
 pub mod RootFields
 pub mod RootWork
 pub mod Roots
-pub mod Searching
 pub mod SliceFields
+pub mod SliceRuns
 pub mod Slices
+pub mod Waiting
 pub mod Writes
 pub mod Writing

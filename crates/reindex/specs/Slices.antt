@@ -1,25 +1,31 @@
--- A slice of a reindex: what it asks for next, and what it has counted.
-use Rattle.std.specs.Prelude.{◌≡◌, ℕ, ◌+◌, ◌-◌, ◌^◌, ◌<◌, ◌≤◌, List, Bool, true, false, not, ◌&&◌, ◌==◌, nat_lt, nat_le, length, if◌then◌else◌}
-use Rattle.task_ids.specs.declared.task_id.TaskId.{TaskId}
-use Rattle.task_events.specs.declared.request.SearchAsk.{SearchAsk}
-use Rattle.task_events.specs.declared.request.ReindexAsk.{ReindexAsk}
-use Rattle.task_events.specs.declared.reply.Counts.{Counts}
-use Rattle.task_events.specs.Tasks.{no_counts}
+-- A slice of a reindex: what it does next, and what it is after an ask and after an answer.
+use Rattle.std.specs.Prelude.{◌≡◌, ℕ, ◌+◌, ◌-◌, ◌^◌, List, Bool, true, false, ◌&&◌, ◌==◌, nat_lt, length, Option, None, Some, if◌then◌else◌}
 use Rattle.throttle.specs.declared.rate.Rate.{Rate}
 use Rattle.throttle.specs.Waits.{per_second, wait_of}
-use Rattle.reindex.specs.declared.answer.WriteAnswer.{WriteAnswer}
-use Rattle.reindex.specs.declared.ask.MachinePlan.{MachinePlan}
-use Rattle.reindex.specs.declared.ask.MachinePlan.TheVariants as plans
-use Rattle.reindex.specs.declared.ask.ReindexDo.TheVariants as asks
-use Rattle.reindex.specs.declared.page.Page.{Page}
-use Rattle.reindex.specs.declared.page.PageAnswer.{PageAnswer}
-use Rattle.reindex.specs.declared.page.PageAnswer.TheVariants.{Good, Bad}
+use Rattle.task_ids.specs.declared.task_id.TaskId.{TaskId}
+use Rattle.task_events.specs.declared.request.ReindexAsk.{ReindexAsk}
+use Rattle.task_events.specs.declared.request.Request.{Request}
+use Rattle.task_events.specs.declared.request.Request.TheVariants as asks
+use Rattle.task_events.specs.declared.request.SearchAsk.{SearchAsk}
+use Rattle.task_events.specs.declared.reply.Counts.{Counts}
+use Rattle.task_events.specs.declared.reply.Reply.{Reply}
+use Rattle.task_events.specs.declared.reply.Reply.TheVariants.{Wrote}
+use Rattle.task_events.specs.declared.step.Do.{Do}
+use Rattle.task_events.specs.declared.step.Do.TheVariants.{AskNext, Turn, Wait, Finish}
+use Rattle.task_events.specs.Counting.{carried, failures_of, is_batch}
+use Rattle.task_events.specs.Kinds.{can_have}
+use Rattle.task_events.specs.SliceTask.{first_page, later_page, docs_on, context_in, total_in, is_clean, page_from}
+pub use Rattle.task_events.specs.Waiting.{due_in}
+use Rattle.task_events.specs.Tasks.{no_counts}
+use Rattle.reindex.specs.Answers.{writer_can_have}
 use Rattle.reindex.specs.declared.phase.Phase.{Phase}
 use Rattle.reindex.specs.declared.phase.Phase.TheVariants.{First, Reads, Holds, Writes, Rests, Over}
-use Rattle.reindex.specs.Counts.{carried, is_good, failures_in}
-use Rattle.reindex.specs.Searching.{IsFirstSearch}
 
 pub record Slicing : Type 0 where
+  -- the slice's task
+  pub task : TaskId
+  -- how many shards the index has that it reads
+  pub shards : ℕ
   -- the search of its first page
   pub first : SearchAsk
   -- the index to which it writes
@@ -27,132 +33,120 @@ pub record Slicing : Type 0 where
   -- how many slices there are
   pub slices : ℕ
   pub rate : Rate
+  -- the context that its first page opened
+  pub context : Option TaskId
   pub phase : Phase
-  -- how many pages it has asked for
-  pub pages : ℕ
+  -- how many asks it has made, by turns for a page and for a bulk
+  pub made : ℕ
   pub counts : Counts
 
--- this slice of a reindex has asked for nothing yet
+-- this slice of a reindex of an index with so many shards has asked for nothing yet
 pub record IsNewSlice (task : TaskId) (ask : ReindexAsk) (slice shards : ℕ) (s : Slicing) : Type 0 where
-  pub first_is : IsFirstSearch task ask slice shards s.first
+  pub task_is : s.task ≡ task
+  pub shards_are : s.shards ≡ shards
+  pub first_is : asks.Search s.first ≡ first_page task ask slice shards
   pub dest_is : s.dest ≡ ask.dest
-  pub slices_is : s.slices ≡ ask.slices
+  pub slices_are : s.slices ≡ ask.slices
   pub rate_is : per_second s.rate ≡ ask.rate
+  pub context_is : s.context ≡ None
   pub phase_is : s.phase ≡ First
-  pub pages_is : s.pages ≡ 0
-  pub counts_is : s.counts ≡ no_counts
+  pub made_is : s.made ≡ 0
+  pub counts_are : s.counts ≡ no_counts
 
 -- ---- what it does next
 
--- it asks for a page, and then for the bulk of its documents; the next page it asks for from a moment on
-abbrev pub plan_in : Slicing → Phase → MachinePlan
-plan_in s First = plans.Ask (asks.Search s.first)
-plan_in s (Reads ask) = plans.Wait
-plan_in s (Holds context docs came) = plans.Ask (asks.Bulk (record { dest = s.dest; docs = docs }))
-plan_in s (Writes ask context docs came) = plans.Wait
-plan_in s (Rests context until) = if nat_lt s.pages 1000000 then plans.Until until (asks.Scroll context) else plans.Wait
-plan_in s Over = plans.Finish
+-- it waits for an answer
+abbrev pub is_open : Phase → Bool
+is_open (Reads ask) = true
+is_open (Writes ask docs came) = true
+is_open First = false
+is_open (Holds docs came) = false
+is_open (Rests until) = false
+is_open Over = false
 
-abbrev pub plan_of : Slicing → MachinePlan
-plan_of s = plan_in s s.phase
+-- It asks for a page, and then for the bulk of its documents. The next page it asks for from a moment on, where asks are left.
+abbrev pub next_in : Slicing → ℕ → Phase → Do
+next_in s now First = AskNext (asks.Search s.first)
+next_in s now (Reads ask) = Wait None
+next_in s now (Holds docs came) = AskNext (asks.Bulk (record { dest = s.dest; docs = docs }))
+next_in s now (Writes ask docs came) = Wait None
+next_in s now (Rests until) = if nat_lt s.made 2000000 then page_from s.task s.context until now else Wait None
+next_in s now Over = Finish (Wrote s.counts)
 
--- it asks at this moment
-abbrev pub can_ask : MachinePlan → ℕ → Bool
-can_ask (plans.Ask request) now = true
-can_ask (plans.Until due request) now = nat_le due now
-can_ask plans.Wait now = false
-can_ask plans.Finish now = false
+abbrev pub slice_next : Slicing → ℕ → Do
+slice_next s now = next_in s now s.phase
 
 -- ---- asks
 
+-- it asks at some moment
+abbrev pub may_ask_in : ℕ → Phase → Bool
+may_ask_in made First = true
+may_ask_in made (Holds docs came) = true
+may_ask_in made (Rests until) = nat_lt made 2000000
+may_ask_in made (Reads ask) = false
+may_ask_in made (Writes ask docs came) = false
+may_ask_in made Over = false
+
+abbrev pub slice_may_ask : Slicing → Bool
+slice_may_ask s = may_ask_in s.made s.phase
+
 abbrev pub phase_with : Phase → ℕ → Phase
 phase_with First ask = Reads ask
-phase_with (Rests context until) ask = Reads ask
-phase_with (Holds context docs came) ask = Writes ask context (length docs) came
+phase_with (Rests until) ask = Reads ask
+phase_with (Holds docs came) ask = Writes ask (length docs) came
 phase_with (Reads open_ask) ask = Reads open_ask
-phase_with (Writes open_ask context docs came) ask = Writes open_ask context docs came
+phase_with (Writes open_ask docs came) ask = Writes open_ask docs came
 phase_with Over ask = Over
 
--- one more page, where it asks for one
-abbrev pub pages_with : Phase → ℕ → ℕ
-pages_with First pages = pages + 1
-pages_with (Rests context until) pages = pages + 1
-pages_with (Holds context docs came) pages = pages
-pages_with (Reads ask) pages = pages
-pages_with (Writes ask context docs came) pages = pages
-pages_with Over pages = pages
+abbrev pub slice_with_ask : Slicing → ℕ → Slicing
+slice_with_ask s ask = record s { phase = phase_with s.phase ask; made = s.made + 1 }
 
-abbrev pub with_ask : Slicing → ℕ → Slicing
-with_ask s ask = record s { phase = phase_with s.phase ask; pages = pages_with s.phase s.pages }
+-- ---- answers
 
--- it waits for the page of this ask
-abbrev pub awaits_page : ℕ → Phase → Bool
-awaits_page ask (Reads open_ask) = open_ask == ask
-awaits_page ask First = false
-awaits_page ask (Holds context docs came) = false
-awaits_page ask (Writes open_ask context docs came) = false
-awaits_page ask (Rests context until) = false
-awaits_page ask Over = false
+-- the page for which it has asked: the first, or a later one of its context
+abbrev pub page_asked : Slicing → Option TaskId → Request
+page_asked s None = asks.Search s.first
+page_asked s (Some context) = later_page s.task context
 
--- it waits for the bulk of this ask
-abbrev pub awaits_bulk : ℕ → Phase → Bool
-awaits_bulk ask (Writes open_ask context docs came) = open_ask == ask
-awaits_bulk ask First = false
-awaits_bulk ask (Reads open_ask) = false
-awaits_bulk ask (Holds context docs came) = false
-awaits_bulk ask (Rests context until) = false
-awaits_bulk ask Over = false
+-- the ask has no answer yet, and the reply is one that its request can have
+abbrev pub takes_in : Slicing → ℕ → Reply → Phase → Bool
+takes_in s ask reply (Reads open_ask) = (open_ask == ask) && can_have s.shards (page_asked s s.context) reply
+takes_in s ask reply (Writes open_ask docs came) = (open_ask == ask) && writer_can_have (2 ^ 22) reply
+takes_in s ask reply First = false
+takes_in s ask reply (Holds docs came) = false
+takes_in s ask reply (Rests until) = false
+takes_in s ask reply Over = false
 
--- ---- pages
+abbrev pub slice_takes : Slicing → ℕ → Reply → Bool
+slice_takes s ask reply = takes_in s ask reply s.phase
 
--- what the answer to a search or scroll of a batch can be
-abbrev pub AreInRange : PageAnswer → Type 0
-AreInRange (Good page) = (page.total < 2 ^ 36) × (page.failed < 2 ^ 32) × (length page.docs ≤ 10000)
-AreInRange Bad = Unit {0}
+-- It goes on with a page that is a batch, and with a bulk that is clean, from the due moment on. Any other answer ends it.
+abbrev pub phase_after : (slices : ℕ) → Rate → Phase → Reply → (now : ℕ) → Phase
+phase_after slices rate (Reads ask) reply now = if is_batch reply then Holds (docs_on reply) now else Over
+phase_after slices rate (Writes ask docs came) reply now = if is_clean reply then Rests (now + wait_of docs slices rate (now - came)) else Over
+phase_after slices rate First reply now = Over
+phase_after slices rate (Holds docs came) reply now = Over
+phase_after slices rate (Rests until) reply now = Over
+phase_after slices rate Over reply now = Over
 
--- a page is a batch where it has hits and no shard failed
-abbrev pub is_batch : Page → Bool
-is_batch page = (page.failed == 0) && not (length page.docs == 0)
+-- the context is that of the first page
+abbrev pub context_after : (made : ℕ) → Option TaskId → Reply → Option TaskId
+context_after made context reply = if made == 1 then context_in reply else context
 
--- the total is that of the first page; failed shards are failures
-abbrev pub page_counts : Counts → ℕ → Page → Counts
-page_counts counts pages page = record counts {
-  total = if pages == 1 then page.total else counts.total;
-  batches = counts.batches + (if is_batch page then 1 else 0);
-  failures = counts.failures + page.failed;
+-- the total is that of the first page, and the rest are sums
+abbrev pub counts_after : (made : ℕ) → Counts → Reply → Counts
+counts_after made counts reply = record {
+  total = if made == 1 then total_in reply else counts.total;
+  created = counts.created + (carried reply).created;
+  updated = counts.updated + (carried reply).updated;
+  batches = counts.batches + (if is_batch reply then 1 else 0);
+  failures = counts.failures + failures_of reply;
 }
 
-abbrev pub with_failure : Counts → Counts
-with_failure counts = record counts { failures = counts.failures + 1 }
-
--- it goes on with a batch, and ends at any other page
-abbrev pub after_page : Slicing → PageAnswer → ℕ → Slicing
-after_page s (Good page) now = record s {
-  phase = if is_batch page then Holds page.context page.docs now else Over;
-  counts = page_counts s.counts s.pages page;
+-- after the answer to an ask at a moment
+abbrev pub slice_with_answer : Slicing → ℕ → Reply → ℕ → Slicing
+slice_with_answer s ask reply now = record s {
+  context = context_after s.made s.context reply;
+  phase = phase_after s.slices s.rate s.phase reply now;
+  counts = counts_after s.made s.counts reply;
 }
-after_page s Bad now = record s { phase = Over; counts = with_failure s.counts }
-
--- ---- bulks
-
-abbrev pub bulk_counts : Counts → WriteAnswer → Counts
-bulk_counts counts answer = record counts {
-  created = counts.created + (carried answer).created;
-  updated = counts.updated + (carried answer).updated;
-  failures = counts.failures + failures_in answer;
-}
-
-abbrev pub is_clean : WriteAnswer → Bool
-is_clean answer = is_good answer && ((carried answer).failures == 0)
-
--- After a bulk without a failure it rests until the due moment, by what was spent since the page came. Any other ends it.
-abbrev pub phase_after : Slicing → Phase → WriteAnswer → ℕ → Phase
-phase_after s (Writes ask context docs came) answer now = if is_clean answer then Rests context (now + wait_of docs s.slices s.rate (now - came)) else Over
-phase_after s First answer now = Over
-phase_after s (Reads ask) answer now = Over
-phase_after s (Holds context docs came) answer now = Over
-phase_after s (Rests context until) answer now = Over
-phase_after s Over answer now = Over
-
-abbrev pub after_bulk : Slicing → WriteAnswer → ℕ → Slicing
-after_bulk s answer now = record s { phase = phase_after s s.phase answer now; counts = bulk_counts s.counts answer }

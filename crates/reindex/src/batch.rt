@@ -1,8 +1,7 @@
 //! A batch of documents, by the shards in which they lie.
 
-ghost use Rattle.std.specs.Prelude.{◌≡◌, ◌<◌, ◌≤◌, ◌==◌, ◌++◌, filter, length, IfOk, OnOk};
-ghost use Rattle.task_ids.specs.Placing as placed;
-ghost use Rattle.reindex.specs.Bulks.{part_list, parts_of};
+ghost use Rattle.std.specs.Prelude.{◌≡◌, ◌<◌, ◌≤◌, ◌++◌, length, IfOk, OnOk};
+ghost use Rattle.task_events.specs.BulkTask.{docs_in, part_with, parts_of};
 
 use shard_docs::shard_of;
 use shared_value::Shared;
@@ -13,8 +12,7 @@ use task_ids::{Doc, Items, Text};
 /// Copies of the documents that lie in a shard, where their index has so many.
 fn docs_in(alloc: Global, docs: &[Doc], shards: u32, shard: u32) -> Result<Vec<Doc>, AllocError>
     requires { 0 < shards }
-    ensures { IfOk result (λ found. found.items
-        ≡ filter (λ doc. placed.shard_of doc.id shards == shard) docs.now) }
+    ensures { IfOk result (λ found. found.items ≡ docs_in docs.now shards shard) }
 {
     let mut found = Vec::new(alloc);
     for doc in docs {
@@ -27,19 +25,20 @@ fn docs_in(alloc: Global, docs: &[Doc], shards: u32, shard: u32) -> Result<Vec<D
 
 /// Adds the part of a shard, where it has a document.
 fn add_part(
-    parts: &mut Vec<BulkShardAsk>,
+    alloc: Global,
+    parts: &mut Vec<Shared<BulkShardAsk>>,
     index: &Shared<Text>,
     shard: u32,
     docs: Vec<Doc>,
 ) -> Result<(), AllocError>
-    ensures { OnOk result (parts.new.items ≡ parts.old.items ++ part_list index.now shard docs.items) }
+    ensures { OnOk result (parts.new.items ≡ parts.old.items ++ part_with index.now shard docs.items) }
 {
     if docs.is_empty() {
         return Ok(());
     }
     let dest = index.copy()?;
     let docs = Items::from_vec(docs);
-    parts.push(BulkShardAsk { dest, shard, docs })?;
+    parts.push(Shared::new(alloc, BulkShardAsk { dest, shard, docs })?)?;
     Ok(())
 }
 
@@ -48,7 +47,7 @@ pub(crate) fn parts_of(
     alloc: Global,
     ask: &BulkAsk,
     shards: u32,
-) -> Result<Vec<BulkShardAsk>, AllocError>
+) -> Result<Vec<Shared<BulkShardAsk>>, AllocError>
     requires { 0 < shards }
     ensures parts { IfOk result (λ parts. parts.items ≡ parts_of ask.now shards) }
     ensures few { IfOk result (λ parts. length parts.items ≤ shards) }
@@ -56,7 +55,7 @@ pub(crate) fn parts_of(
     let mut parts = Vec::new(alloc);
     for shard in 0..shards {
         let docs = docs_in(alloc, ask.docs.as_slice(), shards, shard)?;
-        add_part(&mut parts, &ask.dest, shard, docs)?;
+        add_part(alloc, &mut parts, &ask.dest, shard, docs)?;
     }
     Ok(parts)
 }

@@ -1,23 +1,27 @@
 //! A batch of documents that are written to an index.
 
-ghost use Rattle.std.specs.Prelude.{◌≡◌, ◌<◌, ◌≤◌, ◌^◌, List, [], ◌∷◌, ◌++◌, IfOk, true, length};
-ghost use Rattle.reindex.specs.declared.answer.WriteAnswer.{WriteAnswer};
-ghost use Rattle.reindex.specs.Counts.{AreBelow, carried};
-ghost use Rattle.reindex.specs.Bulks.{new_bulk, plan_of, wants_to_ask, is_open, with_ask, writes_in, with_answer, HasSums};
+ghost use Rattle.std.specs.Prelude.{◌≡◌, ◌<◌, ◌≤◌, ◌^◌, IfOk, true, length};
+ghost use Rattle.task_events.specs.Counting.{are_below};
+ghost use Rattle.reindex.specs.Bulks.{new_bulk, bulk_next, bulk_may_ask, bulk_with_ask, bulk_takes, bulk_with_answer};
+ghost use Rattle.reindex.specs.Waiting.{does_wait};
 
-use crate::answer::{WriteAnswer, no_counts, sum_of};
-use crate::ask::{MachinePlan, ReindexDo};
+use crate::answer::no_counts;
 use crate::batch::parts_of;
 use crate::open_asks::close;
+use crate::told::{with_written, writer_can_have};
+use shared_value::Shared;
 use std::alloc::{AllocError, Global};
 use std::marker::Model;
-use task_events::{BulkAsk, BulkShardAsk, Counts};
+use task_events::{BulkAsk, BulkShardAsk, Counts, Do, Reply, Request};
+
+/// Each number that a part of a bulk counts is below this.
+const PART_LIMIT: u64 = 1 << 18;
 
 /// A batch of documents that are written to an index, after Elasticsearch's bulk API: it asks for the documents of each
 /// shard that has some, in the order of the shards, and adds up what they did.
 #[derive(Drop)]
 pub struct Bulk {
-    parts: Vec<BulkShardAsk>,
+    parts: Vec<Shared<BulkShardAsk>>,
     /// How many parts were asked for.
     made: usize,
     /// The asks that have no answer yet.
@@ -47,24 +51,12 @@ impl Model for Bulk {
     }) (vec_capacity b.open) };
 }
 
-/// Of what a part did, the writes and the failures: it read no page.
-fn writes_in(counts: Counts) -> Counts
-    ensures { result ≡ writes_in counts }
-{
-    Counts {
-        total: 0,
-        batches: 0,
-        ..counts
-    }
-}
-
 impl Bulk {
     /// A bulk that has asked for nothing yet, over an index with so many shards. It copies the documents, shard by
     /// shard. It fails only for want of memory.
     pub fn new(alloc: Global, ask: &BulkAsk, shards: u32) -> Result<Bulk, AllocError>
         requires { 0 < shards }
         ensures new { IfOk result (λ bulk. bulk ≡ new_bulk ask.now shards) }
-        ensures sums { IfOk result (λ bulk. HasSums bulk []) }
     {
         let parts = parts_of(alloc, ask, shards)?;
         let open = Vec::with_capacity(alloc, parts.len())?;
@@ -76,21 +68,29 @@ impl Bulk {
         })
     }
 
-    /// What it does next. It fails only for want of memory.
-    pub fn plan(&self) -> Result<MachinePlan, AllocError>
-        ensures { IfOk result (λ plan. plan ≡ plan_of self.now) }
+    /// What it does next: it asks for a part, waits for an answer, or ends with what its parts did. It fails only for want
+    /// of memory.
+    pub fn next(&self) -> Result<Do, AllocError>
+        ensures { IfOk result (λ step. step ≡ bulk_next self.now) }
     {
         match self.parts.get(self.made) {
-            Some(part) => Ok(MachinePlan::Ask(ReindexDo::BulkShard(part.copy()?))),
-            None if self.open.is_empty() => Ok(MachinePlan::Finish),
-            None => Ok(MachinePlan::Wait),
+            Some(part) => Ok(Do::AskNext(Request::BulkShard(part.copy()?))),
+            None if self.open.is_empty() => Ok(Do::Finish(Reply::Wrote(self.counts))),
+            None => Ok(Do::Wait(None)),
         }
     }
 
-    /// Notes that the part which it planned was asked for, under this number. It takes no memory.
+    /// Whether it waits for an answer. It takes no memory.
+    pub fn waits(&self) -> bool
+        ensures { result ≡ does_wait (bulk_next self.now) }
+    {
+        self.made >= self.parts.len() && !self.open.is_empty()
+    }
+
+    /// Notes that the part which comes next was asked for, under this number. It takes no memory.
     pub fn asked(&mut self, ask: u32)
-        requires { wants_to_ask (plan_of self.old) ≡ true }
-        ensures { self.new ≡ with_ask self.old ask }
+        requires { bulk_may_ask self.old ≡ true }
+        ensures { self.new ≡ bulk_with_ask self.old ask }
     {
         match self.open.push(ask) {
             Ok(()) => {}
@@ -99,29 +99,26 @@ impl Bulk {
         self.made += 1;
     }
 
-    /// Whether an ask of this number has no answer yet.
-    pub fn awaits(&self, ask: u32) -> bool
-        ensures { result ≡ is_open ask self.now.open_asks }
+    /// Whether an ask of this number has no answer yet, and the reply is one that a part can have.
+    pub fn takes(&self, ask: u32, reply: &Reply) -> bool
+        ensures { result ≡ bulk_takes self.now ask reply.now }
     {
-        self.open.contains(&ask)
+        self.open.contains(&ask) && writer_can_have(reply, PART_LIMIT)
     }
 
-    /// Takes the answer to an ask, each number of which is below 2^18. It takes no memory.
-    pub fn feed(&mut self, ask: u32, answer: &WriteAnswer)
-        requires open { is_open ask self.old.open_asks ≡ true }
-        requires below { AreBelow (2 ^ 18) (carried answer.now) }
-        ensures answered { self.new ≡ with_answer self.old ask answer.now }
-        ensures sums { (answers : List WriteAnswer) → HasSums self.old answers
-            → HasSums self.new (answers ++ answer.now ∷ []) }
+    /// Takes the answer to an ask. It takes no memory.
+    pub fn feed(&mut self, ask: u32, reply: &Reply)
+        requires takes { bulk_takes self.old ask reply.now ≡ true }
+        ensures { self.new ≡ bulk_with_answer self.old ask reply.now }
     {
         close(&mut self.open, ask);
-        self.counts = writes_in(sum_of(self.counts, answer));
+        self.counts = with_written(self.counts, reply);
     }
 
     /// What its parts did so far: the writes and the failures of those that have answered. It takes no memory.
     pub fn counts(&self) -> Counts
         ensures counts { result ≡ self.now.counts }
-        ensures below { length self.now.parts ≤ 15 → AreBelow (2 ^ 22) result }
+        ensures below { length self.now.parts ≤ 15 → are_below (2 ^ 22) result ≡ true }
     {
         self.counts
     }

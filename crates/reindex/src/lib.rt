@@ -2,23 +2,21 @@
 #![tactic(auto)]
 
 mod answer;
-mod ask;
 mod batch;
 mod bulk;
 mod open_asks;
-mod page;
 mod phase;
+mod possible;
+mod replies;
 mod root;
 mod searching;
 mod shard_work;
 mod slice;
 mod slices;
+mod told;
 mod writing;
 
-pub use answer::WriteAnswer;
-pub use ask::{MachinePlan, ReindexDo};
 pub use bulk::Bulk;
-pub use page::{Page, PageAnswer};
 pub use phase::Phase;
 pub use root::ReindexRoot;
 pub use shard_work::BulkShardWork;

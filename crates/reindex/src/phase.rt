@@ -1,4 +1,4 @@
-use task_ids::{Doc, Items, TaskId};
+use task_ids::{Doc, Items};
 
 /// How far a slice has come.
 #[derive(Drop)]
@@ -6,27 +6,13 @@ pub enum Phase {
     /// It asks for its first page.
     First,
     /// It waits for a page, for which it asked under this number.
-    Reads {
-        ask: u32,
-    },
+    Reads { ask: u32 },
     /// It has these documents of a page, which came at this moment, and asks for their bulk.
-    Holds {
-        context: TaskId,
-        docs: Items<Doc>,
-        came: u64,
-    },
+    Holds { docs: Items<Doc>, came: u64 },
     /// It waits for the bulk of so many documents of a page, which came at this moment.
-    Writes {
-        ask: u32,
-        context: TaskId,
-        docs: u32,
-        came: u64,
-    },
+    Writes { ask: u32, docs: u32, came: u64 },
     /// It asks for the next page from this moment on.
-    Rests {
-        context: TaskId,
-        until: u64,
-    },
+    Rests { until: u64 },
     /// It has ended.
     Over,
 }

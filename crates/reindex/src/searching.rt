@@ -1,14 +1,15 @@
 //! The search with which a slice begins.
 
-ghost use Rattle.std.specs.Prelude.{◌≡◌, ◌<◌, ◌≤◌, IfOk, option_map};
+ghost use Rattle.std.specs.Prelude.{◌≡◌, ◌<◌, ◌≤◌, IfOk};
 ghost use Rattle.std.specs.Option.{ForSome};
 ghost use Rattle.throttle.specs.Waits.{per_second};
-ghost use Rattle.reindex.specs.Searching.{IsFirstSearch, pick_of};
+ghost use Rattle.task_events.specs.SliceTask.{first_page};
+ghost use Rattle.task_events.specs.Slicing.{pick_of};
 
 use query_match::{Items, SearchBody};
 use shared_value::Shared;
 use std::alloc::{AllocError, Global};
-use task_events::{ReindexAsk, SearchAsk, SlicePick};
+use task_events::{ReindexAsk, Request, SearchAsk, SlicePick};
 use task_ids::TaskId;
 use throttle::Rate;
 
@@ -16,7 +17,7 @@ use throttle::Rate;
 fn pick_of(slice: u32, slices: u32, shards: u32) -> Option<SlicePick>
     requires shards { 0 < shards }
     requires slice { slice < slices }
-    ensures { option_map (λ p. (p.slice, p.slices, p.shards)) result ≡ pick_of slice slices shards }
+    ensures { result ≡ pick_of slice slices shards }
 {
     if slices == 1 {
         return None;
@@ -35,10 +36,11 @@ pub(crate) fn first_search(
     reindex: &ReindexAsk,
     slice: u32,
     shards: u32,
-) -> Result<SearchAsk, AllocError>
+) -> Result<Shared<SearchAsk>, AllocError>
     requires shards { 0 < shards }
     requires slice { slice < reindex.now.slices }
-    ensures { IfOk result (λ search. IsFirstSearch task reindex.now slice shards search) }
+    ensures { IfOk result (λ search.
+        Request.Search search ≡ first_page task reindex.now slice shards) }
 {
     let index = reindex.source.copy()?;
     let query = reindex.query.copy()?;
@@ -49,13 +51,14 @@ pub(crate) fn first_search(
         size: reindex.batch,
     };
     let body = Shared::new(alloc, body)?;
-    Ok(SearchAsk {
+    let search = SearchAsk {
         index,
         body,
         scroll: None,
         slice: pick_of(slice, reindex.slices, shards),
         owner: Some(task),
-    })
+    };
+    Ok(Shared::new(alloc, search)?)
 }
 
 /// The rate of so many documents a second, where that is bounded.

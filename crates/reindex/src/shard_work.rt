@@ -1,10 +1,8 @@
 //! The documents of a batch in one shard.
 
-ghost use Rattle.std.specs.Prelude.{◌≡◌, ◌++◌, ◌+◌, ℕ, false, length, IfOk, OnOk, OnErr};
-ghost use Rattle.task_events.specs.declared.request.BulkShardAsk.{BulkShardAsk};
-ghost use Rattle.task_events.specs.Looking.{is_done};
-ghost use Rattle.reindex.specs.Writing.{IsWritingOf, StopsShort, new_writing, next_docs, is_written, after_turn, counts_of};
-ghost use Rattle.reindex.specs.Writes.{notes_of};
+ghost use Rattle.std.specs.Prelude.{◌≡◌, ◌++◌, false, IfOk, OnOk, OnErr};
+ghost use Rattle.task_events.specs.Written.{notes_of};
+ghost use Rattle.reindex.specs.Writing.{StopsShort, new_writing, next_docs, is_written, writing_next, writing_counts, after_turn};
 
 use crate::writing::{number_created, number_updated, write_next};
 use shard_docs::Shard;
@@ -12,7 +10,7 @@ use shared_value::Shared;
 use std::alloc::{AllocError, Global};
 use std::collections::VecDeque;
 use std::marker::Model;
-use task_events::{BulkShardAsk, Counts, WriteNote};
+use task_events::{BulkShardAsk, Counts, Do, Reply, WriteNote};
 use task_ids::{Doc, Text};
 
 /// The documents of a batch that lie in one shard, after Elasticsearch's bulk API: they are written there in order, turn
@@ -54,8 +52,7 @@ impl Model for BulkShardWork {
 impl BulkShardWork {
     /// No turn yet, which takes no memory.
     pub fn new(alloc: Global, ask: BulkShardAsk) -> BulkShardWork
-        ensures new { result ≡ new_writing ask }
-        ensures begun { IsWritingOf ask 0 result }
+        ensures { result ≡ new_writing ask }
     {
         let BulkShardAsk { dest, shard, docs } = ask;
         BulkShardWork {
@@ -93,8 +90,6 @@ impl BulkShardWork {
         ensures notes { IfOk result (λ notes. notes.items
             ≡ notes_of self.old.index self.old.shard shard.old (next_docs self.old)) }
         ensures ok { OnOk result (self.new ≡ after_turn self.old shard.old) }
-        ensures goes_on { (ask : BulkShardAsk) (turns : ℕ) → IsWritingOf ask turns self.old
-            → OnOk result (IsWritingOf ask (turns + 1) self.new) }
         ensures err { OnErr result (StopsShort self.old self.new shard.old shard.new) }
     {
         let notes = write_next(self.alloc, &self.index, self.shard, shard, &mut self.left)?;
@@ -104,19 +99,21 @@ impl BulkShardWork {
         Ok(notes)
     }
 
-    /// Whether it has taken a turn that left no document. Before the first turn it is not done, also where there is no
-    /// document.
-    pub fn is_done(&self) -> bool
-        ensures done { result ≡ is_written self.now }
-        ensures turns { (ask : BulkShardAsk) (turns : ℕ) → IsWritingOf ask turns self.now
-            → result ≡ is_done turns (length ask.docs) }
+    /// What it does next: it takes a turn, or ends with its counts once a turn has left no document. Before the first
+    /// turn it does not end, also where there is no document. It takes no memory.
+    pub fn next(&self) -> Do
+        ensures { result ≡ writing_next self.now }
     {
-        self.has_turned && self.left.is_empty()
+        if self.has_turned && self.left.is_empty() {
+            Do::Finish(Reply::Wrote(self.counts()))
+        } else {
+            Do::Turn
+        }
     }
 
     /// How many documents its turns so far created and updated; the other counts are 0. It takes no memory.
     pub fn counts(&self) -> Counts
-        ensures { result ≡ counts_of self.now }
+        ensures { result ≡ writing_counts self.now }
     {
         Counts {
             total: 0,

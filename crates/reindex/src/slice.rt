@@ -1,25 +1,34 @@
 //! A slice of a reindex.
 
-ghost use Rattle.std.specs.Prelude.{◌≡◌, ◌<◌, ◌≤◌, ◌^◌, IfOk, true};
-ghost use Rattle.reindex.specs.Counts.{AreBelow, carried};
+ghost use Rattle.std.specs.Prelude.{◌≡◌, ◌<◌, ◌≤◌, ◌^◌, IfOk, OnOk, OnErr, true, if◌then◌else◌};
+ghost use Rattle.task_events.specs.Counting.{are_below, is_batch};
+ghost use Rattle.task_events.specs.SliceTask.{docs_on, later_page, page_from};
 ghost use Rattle.reindex.specs.SliceFields.{in_hand};
-ghost use Rattle.reindex.specs.Slices.{IsNewSlice, AreInRange, plan_of, can_ask, phase_with, pages_with, with_ask, awaits_page, awaits_bulk, is_batch, page_counts, with_failure, after_page, bulk_counts, is_clean, after_bulk};
+ghost use Rattle.reindex.specs.Slices.{IsNewSlice, slice_next, due_in, slice_may_ask, phase_with, slice_with_ask, slice_takes, phase_after, page_asked, slice_with_answer};
+ghost use Rattle.task_events.specs.Kinds.{can_have};
+ghost use Rattle.reindex.specs.Waiting.{does_wait};
 
-use crate::answer::{WriteAnswer, no_counts};
-use crate::ask::{MachinePlan, ReindexDo};
-use crate::page::{Page, PageAnswer};
+use crate::answer::no_counts;
 use crate::phase::Phase;
+use crate::possible::{scroll_can_have, search_can_have};
+use crate::replies::{context_after, counts_after, docs_of, is_batch, is_clean};
 use crate::searching::{first_search, rate_of};
+use crate::told::writer_can_have;
 use shared_value::Shared;
 use std::alloc::{AllocError, Global};
 use std::marker::Model;
 use std::mem::replace;
-use task_events::{BulkAsk, Counts, ReindexAsk, SearchAsk, SliceAsk, copy_docs};
-use task_ids::{TaskId, Text};
+use task_events::{
+    BulkAsk, Counts, Do, ReindexAsk, Reply, Request, ScrollAsk, SearchAsk, SliceAsk, copy_docs,
+};
+use task_ids::{Doc, Items, TaskId, Text};
 use throttle::{Rate, wait_ms};
 
-/// How many pages a slice asks for, at most. A history and the numbers of a node end before that.
-const MAX_PAGES: u32 = 1_000_000;
+/// How many asks a slice makes, at most. A history and the numbers of a node end before that.
+const MAX_ASKS: u32 = 2_000_000;
+
+/// Each number that a bulk counts is below this.
+const BULK_LIMIT: u64 = 4_194_304;
 
 /// A slice of a reindex, after Elasticsearch's reindex API: it reads the documents page by page from a context of its
 /// own, and writes each page by a bulk before it asks for the next. After a bulk it waits as long as its rate asks for.
@@ -27,13 +36,18 @@ const MAX_PAGES: u32 = 1_000_000;
 /// It ends at a page without hits, and where a page or a bulk fails wholly or in part.
 #[derive(Drop)]
 pub struct Slice {
-    first: SearchAsk,
+    task: TaskId,
+    /// How many shards the index has that it reads.
+    shards: u32,
+    first: Shared<SearchAsk>,
     dest: Shared<Text>,
     slices: u32,
     rate: Rate,
+    /// The context that its first page opened.
+    context: Option<TaskId>,
     phase: Phase,
-    /// How many pages it has asked for.
-    pages: u32,
+    /// How many asks it has made, by turns for a page and for a bulk.
+    made: u32,
     counts: Counts,
 }
 
@@ -41,6 +55,7 @@ impl Model for Slice {
     ghost use Rattle.std.specs.Coded.{codes};
     ghost use Rattle.task_events.specs.contracts.request.SearchAsk as search_ask;
     ghost use Rattle.task_events.specs.contracts.reply.Counts as counts_row;
+    ghost use Rattle.task_ids.specs.contracts.task_id.TaskId as task_id;
     ghost use Rattle.throttle.specs.contracts.rate.Rate as rate_row;
     ghost use Rattle.reindex.specs.contracts.phase.Phase as phase_row;
     ghost use Rattle.reindex.specs.Slices.{Slicing};
@@ -48,96 +63,65 @@ impl Model for Slice {
 
     ghost Value = { Slicing };
 
-    ghost coded = { Prim.hlevel (codes, search_ask.the_row.coded, counts_row.the_row.coded, rate_row.the_row.coded, phase_row.the_row.coded) };
+    ghost coded = { Prim.hlevel (codes, search_ask.the_row.coded, counts_row.the_row.coded, task_id.the_row.coded, rate_row.the_row.coded, phase_row.the_row.coded) };
 
     ghost view = { λ s. record {
+      task = s.task;
+      shards = s.shards;
       first = s.first;
       dest = s.dest;
       slices = s.slices;
       rate = s.rate;
+      context = s.context;
       phase = s.phase;
-      pages = s.pages;
+      made = s.made;
       counts = s.counts;
     } };
 
     ghost invariant = { λ s. IsSlice (record {
+      task = s.task;
+      shards = s.shards;
       first = s.first;
       dest = s.dest;
       slices = s.slices;
       rate = s.rate;
+      context = s.context;
       phase = s.phase;
-      pages = s.pages;
+      made = s.made;
       counts = s.counts;
     }) };
 }
 
-/// Whether the documents of a page are written: it has some, and no shard failed.
-fn is_batch(page: &Page) -> bool
-    ensures { result ≡ is_batch page.now }
+/// The bulk of some documents, which are copied.
+fn bulk_of(dest: &Shared<Text>, docs: &Items<Doc>) -> Result<Do, AllocError>
+    ensures { IfOk result (λ step. step ≡ Do.AskNext (Request.Bulk (record { dest = dest.now; docs = docs.now }))) }
 {
-    page.failed == 0 && !page.docs.as_slice().is_empty()
+    let alloc = docs.allocator();
+    let docs = copy_docs(docs)?;
+    let dest = dest.copy()?;
+    let bulk = Shared::new(alloc, BulkAsk { dest, docs })?;
+    Ok(Do::AskNext(Request::Bulk(bulk)))
 }
 
-/// The counts after a page. The total is that of the first.
-fn page_counts(counts: Counts, pages: u32, page: &Page) -> Counts
-    requires batches { counts.batches < 2 ^ 63 }
-    requires failures { counts.failures < 2 ^ 63 }
-    requires failed { page.now.failed < 2 ^ 32 }
-    ensures { result ≡ page_counts counts pages page.now }
+/// The next page of a context that belongs to a task.
+fn later_page(task: TaskId, context: TaskId) -> ScrollAsk
+    ensures { Request.Scroll result ≡ later_page task context }
 {
-    let total = if pages == 1 { page.total } else { counts.total };
-    let batch = if is_batch(page) { 1 } else { 0 };
-    Counts {
-        total,
-        batches: counts.batches + batch,
-        failures: counts.failures + page.failed,
-        ..counts
+    ScrollAsk {
+        id: context,
+        keep: None,
+        owner: Some(task),
     }
 }
 
-/// The counts after an answer that is not good and carries none.
-fn with_failure(counts: Counts) -> Counts
-    requires { counts.failures < 2 ^ 63 }
-    ensures { result ≡ with_failure counts }
+/// The next page of a context, from a moment on.
+fn page_from(task: TaskId, context: Option<TaskId>, due: u64, now: u64) -> Do
+    ensures { result ≡ page_from task context due now }
 {
-    Counts {
-        failures: counts.failures + 1,
-        ..counts
-    }
-}
-
-/// The counts after a bulk: its writes and its failures.
-fn bulk_counts(counts: Counts, answer: &WriteAnswer) -> Counts
-    requires created { counts.created < 2 ^ 63 }
-    requires updated { counts.updated < 2 ^ 63 }
-    requires failures { counts.failures < 2 ^ 63 }
-    requires below { AreBelow (2 ^ 22) (carried answer.now) }
-    ensures { result ≡ bulk_counts counts answer.now }
-{
-    let carried = answer.carried();
-    Counts {
-        created: counts.created + carried.created,
-        updated: counts.updated + carried.updated,
-        failures: counts.failures + answer.failures(),
-        ..counts
-    }
-}
-
-/// Whether a bulk ended without a failure.
-fn is_clean(answer: &WriteAnswer) -> bool
-    ensures { result ≡ is_clean answer.now }
-{
-    answer.is_good() && answer.carried().failures == 0
-}
-
-/// How many pages were asked for, once it has asked for what comes next.
-fn pages_with(phase: &Phase, pages: u32) -> u32
-    requires { pages ≤ 1000000 }
-    ensures { result ≡ pages_with phase.now pages }
-{
-    match phase {
-        Phase::First | Phase::Rests { .. } => pages + 1,
-        _ => pages,
+    match context {
+        None => Do::Wait(None),
+        Some(context) if due <= now => Do::AskNext(Request::Scroll(later_page(task, context))),
+        Some(_) => Do::Wait(Some(due)),
     }
 }
 
@@ -148,17 +132,48 @@ fn phase_with(phase: Phase, ask: u32) -> Phase
 {
     match phase {
         Phase::First | Phase::Rests { .. } => Phase::Reads { ask },
-        Phase::Holds {
-            context,
-            docs,
-            came,
-        } => Phase::Writes {
+        Phase::Holds { docs, came } => Phase::Writes {
             ask,
-            context,
             docs: docs.as_slice().len() as u32,
             came,
         },
         Phase::Reads { .. } | Phase::Writes { .. } | Phase::Over => phase,
+    }
+}
+
+/// How far it has come after a page, which came at this moment.
+fn after_page(reply: &Reply, now: u64) -> Result<Phase, AllocError>
+    ensures { IfOk result (λ phase. phase ≡ (if is_batch reply.now then Phase.Holds (docs_on reply.now) now else Phase.Over)) }
+{
+    match reply {
+        Reply::Search(page) if is_batch(reply) => Ok(Phase::Holds {
+            docs: docs_of(&page.get().hits)?,
+            came: now,
+        }),
+        _ => Ok(Phase::Over),
+    }
+}
+
+/// How far it has come after an answer at this moment.
+fn phase_after(
+    slices: u32,
+    rate: Rate,
+    phase: &Phase,
+    reply: &Reply,
+    now: u64,
+) -> Result<Phase, AllocError>
+    requires slices { slices ≤ 32 }
+    requires docs { in_hand phase.now ≤ 10000 }
+    requires moment { now < 2 ^ 60 }
+    ensures { IfOk result (λ after. after ≡ phase_after slices rate phase.now reply.now now) }
+{
+    match phase {
+        Phase::Reads { .. } => after_page(reply, now),
+        Phase::Writes { docs, came, .. } if is_clean(reply) => {
+            let wait = wait_ms(*docs, slices, rate, now.saturating_sub(*came));
+            Ok(Phase::Rests { until: now + wait })
+        }
+        _ => Ok(Phase::Over),
     }
 }
 
@@ -191,125 +206,111 @@ impl Slice {
         let first = first_search(alloc, task, reindex, slice, shards)?;
         let dest = reindex.dest.copy()?;
         Ok(Slice {
+            task,
+            shards,
             first,
             dest,
             slices: reindex.slices,
             rate: rate_of(reindex.rate),
+            context: None,
             phase: Phase::First,
-            pages: 0,
+            made: 0,
             counts: no_counts(),
         })
     }
 
-    /// What it does next. It fails only for want of memory.
-    pub fn plan(&self) -> Result<MachinePlan, AllocError>
-        ensures { IfOk result (λ plan. plan ≡ plan_of self.now) }
+    /// What it does next at this moment. It fails only for want of memory.
+    pub fn next(&self, now: u64) -> Result<Do, AllocError>
+        ensures { IfOk result (λ step. step ≡ slice_next self.now now) }
     {
         match &self.phase {
-            Phase::First => Ok(MachinePlan::Ask(ReindexDo::Search(self.first.copy()?))),
-            Phase::Holds { docs, .. } => {
-                let docs = copy_docs(docs)?;
-                let dest = self.dest.copy()?;
-                Ok(MachinePlan::Ask(ReindexDo::Bulk(BulkAsk { dest, docs })))
+            Phase::First => Ok(Do::AskNext(Request::Search(self.first.copy()?))),
+            Phase::Holds { docs, .. } => bulk_of(&self.dest, docs),
+            Phase::Rests { until } if self.made < MAX_ASKS => {
+                Ok(page_from(self.task, self.context, *until, now))
             }
-            Phase::Rests { context, until } if self.pages < MAX_PAGES => {
-                Ok(MachinePlan::Until(*until, ReindexDo::Scroll(*context)))
-            }
-            Phase::Over => Ok(MachinePlan::Finish),
-            Phase::Reads { .. } | Phase::Writes { .. } | Phase::Rests { .. } => {
-                Ok(MachinePlan::Wait)
+            Phase::Over => Ok(Do::Finish(Reply::Wrote(self.counts))),
+            Phase::Reads { .. } | Phase::Writes { .. } | Phase::Rests { .. } => Ok(Do::Wait(None)),
+        }
+    }
+
+    /// Whether it waits at this moment, for an answer or for a moment. It takes no memory.
+    pub fn waits(&self, now: u64) -> bool
+        ensures { result ≡ does_wait (slice_next self.now now) }
+    {
+        match &self.phase {
+            Phase::Reads { .. } | Phase::Writes { .. } => true,
+            Phase::First | Phase::Holds { .. } | Phase::Over => false,
+            Phase::Rests { until } => {
+                self.made >= MAX_ASKS || self.context.is_none() || now < *until
             }
         }
     }
 
-    /// Notes that what it planned was asked for at this moment, under this number. It takes no memory.
-    pub fn asked(&mut self, ask: u32, now: u64)
-        requires { can_ask (plan_of self.old) now ≡ true }
-        ensures { self.new ≡ with_ask self.old ask }
+    /// The moment for which it waits at this one, where it waits for one. It takes no memory.
+    pub fn due(&self, now: u64) -> Option<u64>
+        ensures { result ≡ due_in (slice_next self.now now) }
     {
-        self.pages = pages_with(&self.phase, self.pages);
+        match &self.phase {
+            Phase::Rests { until }
+                if self.made < MAX_ASKS && self.context.is_some() && now < *until => {
+                Some(*until)
+            }
+            _ => None,
+        }
+    }
+
+    /// Notes that what comes next was asked for, under this number. It takes no memory.
+    pub fn asked(&mut self, ask: u32, now: u64)
+        requires { slice_may_ask self.old ≡ true }
+        ensures { self.new ≡ slice_with_ask self.old ask }
+    {
         let phase = replace(&mut self.phase, Phase::Over);
         self.phase = phase_with(phase, ask);
+        self.made += 1;
     }
 
-    /// Whether it waits for the page for which it asked under this number.
-    pub fn awaits_page(&self, ask: u32) -> bool
-        ensures { result ≡ awaits_page ask self.now.phase }
+    /// Whether a page for which it has asked can have this reply.
+    fn takes_page(&self, reply: &Reply) -> bool
+        ensures { result ≡ can_have self.now.shards (page_asked self.now self.now.context) reply.now }
+    {
+        match self.context {
+            None => search_can_have(self.shards, self.first.get(), reply),
+            Some(context) => scroll_can_have(self.shards, &later_page(self.task, context), reply),
+        }
+    }
+
+    /// Whether an ask of this number has no answer yet, and the reply is one that its request can have.
+    pub fn takes(&self, ask: u32, reply: &Reply) -> bool
+        ensures { result ≡ slice_takes self.now ask reply.now }
     {
         match &self.phase {
-            Phase::Reads { ask: open } => *open == ask,
+            Phase::Reads { ask: open } => *open == ask && self.takes_page(reply),
+            Phase::Writes { ask: open, .. } => {
+                *open == ask && writer_can_have(reply, BULK_LIMIT)
+            }
             _ => false,
         }
     }
 
-    /// Whether it waits for the bulk for which it asked under this number.
-    pub fn awaits_bulk(&self, ask: u32) -> bool
-        ensures { result ≡ awaits_bulk ask self.now.phase }
-    {
-        match &self.phase {
-            Phase::Writes { ask: open, .. } => *open == ask,
-            _ => false,
-        }
-    }
-
-    /// Takes a page, at this moment. It has at most 10,000 hits, fewer than 2^32 failed shards and a total below 2^36.
-    /// It takes no memory.
-    pub fn feed_page(&mut self, ask: u32, answer: PageAnswer, now: u64)
-        requires open { awaits_page ask self.old.phase ≡ true }
-        requires in_range { AreInRange answer }
-        ensures { self.new ≡ after_page self.old answer now }
-    {
-        match answer {
-            PageAnswer::Bad => {
-                self.counts = with_failure(self.counts);
-                self.phase = Phase::Over;
-            }
-            PageAnswer::Good(page) => {
-                self.counts = page_counts(self.counts, self.pages, &page);
-                self.phase = if is_batch(&page) {
-                    let Page { context, docs, .. } = page;
-                    Phase::Holds {
-                        context,
-                        docs,
-                        came: now,
-                    }
-                } else {
-                    Phase::Over
-                };
-            }
-        }
-    }
-
-    /// Takes the answer of a bulk, at this moment, each number of which is below 2^22. It takes no memory.
-    pub fn feed_bulk(&mut self, ask: u32, answer: &WriteAnswer, now: u64)
-        requires open { awaits_bulk ask self.old.phase ≡ true }
-        requires below { AreBelow (2 ^ 22) (carried answer.now) }
+    /// Takes the answer to an ask, at this moment. Where memory runs out nothing has changed, and the reply is lost.
+    pub fn feed(&mut self, ask: u32, reply: Reply, now: u64) -> Result<(), AllocError>
+        requires takes { slice_takes self.old ask reply ≡ true }
         requires moment { now < 2 ^ 60 }
-        ensures { self.new ≡ after_bulk self.old answer.now now }
+        ensures ok { OnOk result (self.new ≡ slice_with_answer self.old ask reply now) }
+        ensures err { OnErr result (self.new ≡ self.old) }
     {
-        self.counts = bulk_counts(self.counts, answer);
-        let phase = replace(&mut self.phase, Phase::Over);
-        if let Phase::Writes {
-            context,
-            docs,
-            came,
-            ..
-        } = phase
-        {
-            if is_clean(answer) {
-                let wait = wait_ms(docs, self.slices, self.rate, now.saturating_sub(came));
-                self.phase = Phase::Rests {
-                    context,
-                    until: now + wait,
-                };
-            }
-        }
+        let phase = phase_after(self.slices, self.rate, &self.phase, &reply, now)?;
+        self.context = context_after(self.made, self.context, &reply);
+        self.counts = counts_after(self.made, self.counts, &reply);
+        self.phase = phase;
+        Ok(())
     }
 
     /// What it did so far. It takes no memory.
     pub fn counts(&self) -> Counts
         ensures counts { result ≡ self.now.counts }
-        ensures below { AreBelow (2 ^ 50) result }
+        ensures below { are_below (2 ^ 50) result ≡ true }
     {
         self.counts
     }

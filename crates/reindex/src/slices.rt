@@ -1,17 +1,21 @@
 //! A reindex that is cut into slices.
 
-ghost use Rattle.std.specs.Prelude.{◌≡◌, ◌<◌, ◌^◌, List, [], ◌∷◌, ◌++◌, IfOk, true};
-ghost use Rattle.reindex.specs.declared.answer.WriteAnswer.{WriteAnswer};
-ghost use Rattle.reindex.specs.Counts.{AreBelow, carried, sums_of};
-ghost use Rattle.reindex.specs.Bulks.{is_open};
-ghost use Rattle.reindex.specs.Roots.{IsNewCut, IsCutPlan, cut_with_ask, cut_with_answer};
+ghost use Rattle.std.specs.Prelude.{◌≡◌, ◌^◌, IfOk, true};
+ghost use Rattle.task_events.specs.Counting.{are_below};
+ghost use Rattle.reindex.specs.Roots.{IsNewCut, cut_next, cut_may_ask, cut_with_ask, cut_takes, cut_with_answer};
+ghost use Rattle.reindex.specs.Waiting.{does_wait};
 
-use crate::answer::{WriteAnswer, no_counts, sum_of};
-use crate::ask::{MachinePlan, ReindexDo};
+use crate::answer::no_counts;
 use crate::open_asks::close;
+use crate::replies::sum_with;
+use crate::told::writer_can_have;
+use shared_value::Shared;
 use std::alloc::{AllocError, Global};
 use std::marker::Model;
-use task_events::{Counts, ReindexAsk, SliceAsk};
+use task_events::{Counts, Do, ReindexAsk, Reply, Request, SliceAsk};
+
+/// Each number that a slice counts is below this.
+const SLICE_LIMIT: u64 = 1 << 50;
 
 /// A reindex that is cut into slices: it asks for each slice, in order, waits for all, and adds up what they did.
 #[derive(Drop)]
@@ -44,8 +48,7 @@ impl Model for Slices {
 impl Slices {
     /// No slice was asked for yet. It copies what is asked for. It fails only for want of memory.
     pub fn new(alloc: Global, ask: &ReindexAsk) -> Result<Slices, AllocError>
-        ensures new { IfOk result (λ slices. IsNewCut ask.now slices) }
-        ensures sums { IfOk result (λ slices. slices.counts ≡ sums_of []) }
+        ensures { IfOk result (λ slices. IsNewCut ask.now slices) }
     {
         let ask = ask.copy()?;
         let open = Vec::with_capacity(alloc, ask.slices as usize)?;
@@ -58,24 +61,35 @@ impl Slices {
     }
 
     /// What it does next. It fails only for want of memory.
-    pub fn plan(&self) -> Result<MachinePlan, AllocError>
-        ensures { IfOk result (λ plan. IsCutPlan self.now plan) }
+    pub fn next(&self) -> Result<Do, AllocError>
+        ensures { IfOk result (λ step. step ≡ cut_next self.now) }
     {
         if self.made < self.ask.slices {
             let reindex = self.ask.copy()?;
-            let slice = self.made;
-            return Ok(MachinePlan::Ask(ReindexDo::Slice(SliceAsk { reindex, slice })));
+            let slice = SliceAsk {
+                reindex,
+                slice: self.made,
+            };
+            let slice = Shared::new(*self.open.allocator(), slice)?;
+            return Ok(Do::AskNext(Request::Slice(slice)));
         }
         if self.open.is_empty() {
-            Ok(MachinePlan::Finish)
+            Ok(Do::Finish(Reply::Wrote(self.counts)))
         } else {
-            Ok(MachinePlan::Wait)
+            Ok(Do::Wait(None))
         }
     }
 
-    /// Notes that the slice which it planned was asked for, under this number. It takes no memory.
+    /// Whether it waits for an answer. It takes no memory.
+    pub fn waits(&self) -> bool
+        ensures { result ≡ does_wait (cut_next self.now) }
+    {
+        self.made >= self.ask.slices && !self.open.is_empty()
+    }
+
+    /// Notes that the slice which comes next was asked for, under this number. It takes no memory.
     pub fn asked(&mut self, ask: u32)
-        requires { self.old.made < self.old.ask.slices }
+        requires { cut_may_ask self.old ≡ true }
         ensures { self.new ≡ cut_with_ask self.old ask }
     {
         match self.open.push(ask) {
@@ -85,28 +99,26 @@ impl Slices {
         self.made += 1;
     }
 
-    /// Whether an ask of this number has no answer yet.
-    pub fn awaits(&self, ask: u32) -> bool
-        ensures { result ≡ is_open ask self.now.open_asks }
+    /// Whether an ask of this number has no answer yet, and the reply is one that a slice can have.
+    pub fn takes(&self, ask: u32, reply: &Reply) -> bool
+        ensures { result ≡ cut_takes self.now ask reply.now }
     {
-        self.open.contains(&ask)
+        self.open.contains(&ask) && writer_can_have(reply, SLICE_LIMIT)
     }
 
-    /// Takes the answer of a slice, each number of which is below 2^50. It takes no memory.
-    pub fn feed(&mut self, ask: u32, answer: &WriteAnswer)
-        requires open { is_open ask self.old.open_asks ≡ true }
-        requires below { AreBelow (2 ^ 50) (carried answer.now) }
-        ensures answered { self.new ≡ cut_with_answer self.old ask answer.now }
-        ensures sums { (answers : List WriteAnswer) → self.old.counts ≡ sums_of answers
-            → self.new.counts ≡ sums_of (answers ++ answer.now ∷ []) }
+    /// Takes the answer to an ask. It takes no memory.
+    pub fn feed(&mut self, ask: u32, reply: &Reply)
+        requires { cut_takes self.old ask reply.now ≡ true }
+        ensures { self.new ≡ cut_with_answer self.old ask reply.now }
     {
         close(&mut self.open, ask);
-        self.counts = sum_of(self.counts, answer);
+        self.counts = sum_with(self.counts, reply);
     }
 
     /// What its slices did so far: the sums over those that have answered. It takes no memory.
     pub fn counts(&self) -> Counts
-        ensures { result ≡ self.now.counts }
+        ensures counts { result ≡ self.now.counts }
+        ensures below { are_below (2 ^ 56) result ≡ true }
     {
         self.counts
     }

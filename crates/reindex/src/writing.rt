@@ -2,7 +2,8 @@
 
 ghost use Rattle.std.specs.Prelude.{◌≡◌, ◌∷◌, [], ◌++◌, take, drop, count_by, not, IfOk, OnOk, OnErr};
 ghost use Rattle.task_events.specs.Looking.{rows_per_turn};
-ghost use Rattle.reindex.specs.Writes.{note_of, notes_of, BreaksOff};
+ghost use Rattle.task_events.specs.Written.{note_of, notes_of};
+ghost use Rattle.reindex.specs.Writes.{BreaksOff};
 
 use shard_docs::{Shard, Written};
 use shared_value::Shared;

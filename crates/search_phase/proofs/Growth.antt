@@ -18,7 +18,7 @@ use Rattle.task_events.specs.declared.request.Request.TheVariants as asks
 use Rattle.task_events.specs.declared.reply.ShardCount.{ShardCount}
 use Rattle.task_events.specs.declared.reply.FailedShard.{FailedShard}
 use Rattle.task_events.specs.declared.reply.Reply.{Reply}
-use Rattle.task_events.specs.declared.reply.Reply.TheVariants.{Search, Top, Hits, AllFailed, Cancelled, Rejected}
+use Rattle.task_events.specs.declared.reply.Reply.TheVariants.{Search, Top, Hits, AllFailed, Wrote, Cancelled, Rejected}
 use Rattle.task_events.specs.Answers.{ShardVersion, matching_keys, shard_top, hit_at, fetched, found_keys, winners, has_failed, hit_of, read_at, plain_answer}
 use Rattle.task_events.specs.Documents.{writes_of}
 use Rattle.task_events.specs.HitOrder.{in_hit_order, is_after}
@@ -81,15 +81,21 @@ module _ (earlier later : ℕ → List Doc) (grown : HaveGrown earlier later) wh
   IsHonest-grow (asks.Query ask) (Search reply) h = tt
   IsHonest-grow (asks.Query ask) (Hits hits) h = tt
   IsHonest-grow (asks.Query ask) (AllFailed failed) h = tt
+  IsHonest-grow (asks.Query ask) (Wrote counts) h = tt
   IsHonest-grow (asks.Query ask) (Cancelled task cancel counts) h = tt
   IsHonest-grow (asks.Query ask) (Rejected node) h = tt
   IsHonest-grow (asks.Fetch ask) (Search reply) h = tt
   IsHonest-grow (asks.Fetch ask) (Top top) h = tt
   IsHonest-grow (asks.Fetch ask) (AllFailed failed) h = tt
+  IsHonest-grow (asks.Fetch ask) (Wrote counts) h = tt
   IsHonest-grow (asks.Fetch ask) (Cancelled task cancel counts) h = tt
   IsHonest-grow (asks.Fetch ask) (Rejected node) h = tt
   IsHonest-grow (asks.Search ask) reply h = tt
   IsHonest-grow (asks.Scroll ask) reply h = tt
+  IsHonest-grow (asks.Reindex ask) reply h = tt
+  IsHonest-grow (asks.Slice ask) reply h = tt
+  IsHonest-grow (asks.Bulk ask) reply h = tt
+  IsHonest-grow (asks.BulkShard ask) reply h = tt
 
   pub AllHonest-grow : (s : Searching) → AllHonest earlier s → AllHonest later s
   AllHonest-grow s h = EachAnswer-weaker (IsHonest earlier) (IsHonest later) s IsHonest-grow h
@@ -153,6 +159,10 @@ module _ (earlier later : ℕ → List Doc) (grown : HaveGrown earlier later) wh
   AsksWithin-grow (asks.Fetch ask) within = within_later ask.shard ask.version within
   AsksWithin-grow (asks.Search ask) within = tt
   AsksWithin-grow (asks.Scroll ask) within = tt
+  AsksWithin-grow (asks.Reindex ask) within = tt
+  AsksWithin-grow (asks.Slice ask) within = tt
+  AsksWithin-grow (asks.Bulk ask) within = tt
+  AsksWithin-grow (asks.BulkShard ask) within = tt
 
   pub ReadsWithin-grow : (r : Reading) → ReadsWithin earlier r → ReadsWithin later r
   ReadsWithin-grow r within = each_read r.shards within

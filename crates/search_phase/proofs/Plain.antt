@@ -11,7 +11,7 @@ use Rattle.task_events.specs.declared.reply.ShardCount.{ShardCount}
 use Rattle.task_events.specs.declared.reply.ShardTop.{ShardTop}
 use Rattle.task_events.specs.declared.reply.FailedShard.{FailedShard}
 use Rattle.task_events.specs.declared.reply.Reply.{Reply}
-use Rattle.task_events.specs.declared.reply.Reply.TheVariants.{Search, Top, Hits, AllFailed, Cancelled, Rejected}
+use Rattle.task_events.specs.declared.reply.Reply.TheVariants.{Search, Top, Hits, AllFailed, Wrote, Cancelled, Rejected}
 use Rattle.task_events.specs.declared.step.Asked.{Asked}
 use Rattle.task_events.specs.HitOrder.{is_after}
 use Rattle.task_events.specs.Answers.{ShardVersion, has_failed, hit_of, found_keys, winners, read_at}
@@ -63,6 +63,7 @@ module _ (writes : ℕ → List Doc) (s : Searching) (sound : IsSearching s) (en
   fetch_reply top (Rejected node) p h = tt
   fetch_reply top (Search reply) p h = absurd cc
   fetch_reply top (AllFailed failed) p h = absurd cc
+  fetch_reply top (Wrote counts) p h = absurd cc
   fetch_reply top (Top other) p h = absurd cc
 
   fetch_answers : Paired (IsFetchAnswer s.reading.ask writes won) (won_tops s.reading.ask.body tops) (drop (length s.reading.shards) s.asked)

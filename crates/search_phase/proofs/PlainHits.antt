@@ -16,7 +16,7 @@ use Rattle.task_events.specs.declared.reply.ShardTop.{ShardTop}
 use Rattle.task_events.specs.declared.reply.FailedShard.{FailedShard}
 use Rattle.task_events.specs.declared.reply.ShardFailure.{ShardFailure}
 use Rattle.task_events.specs.declared.reply.Reply.{Reply}
-use Rattle.task_events.specs.declared.reply.Reply.TheVariants.{Search, Top, Hits, AllFailed, Cancelled, Rejected}
+use Rattle.task_events.specs.declared.reply.Reply.TheVariants.{Search, Top, Hits, AllFailed, Wrote, Cancelled, Rejected}
 use Rattle.task_events.specs.declared.step.Asked.{Asked}
 use Rattle.task_events.specs.HitOrder.{in_hit_order, is_after}
 use Rattle.task_events.specs.Answers.{window, hit_key, hit_at, fetched, has_failed, hit_of, is_found}
@@ -75,6 +75,7 @@ IsFetchReply ask writes won top (Cancelled task cancel counts) = Unit {0}
 IsFetchReply ask writes won top (Rejected node) = Unit {0}
 IsFetchReply ask writes won top (Search reply) = ⊥
 IsFetchReply ask writes won top (AllFailed failed) = ⊥
+IsFetchReply ask writes won top (Wrote counts) = ⊥
 IsFetchReply ask writes won top (Top other) = ⊥
 
 abbrev pub IsFetchAnswer : SearchAsk → (ℕ → List Doc) → List HitKey → ShardTop → Asked → Type 0
@@ -100,6 +101,7 @@ hit_of_reply ask writes won top key (Cancelled task cancel counts) here same h =
 hit_of_reply ask writes won top key (Rejected node) here same h = refl
 hit_of_reply ask writes won top key (Search reply) here same h = absurd h
 hit_of_reply ask writes won top key (AllFailed failed) here same h = absurd h
+hit_of_reply ask writes won top key (Wrote counts) here same h = absurd h
 hit_of_reply ask writes won top key (Top other) here same h = absurd h
 
 -- ---- the shards that failed
@@ -221,6 +223,7 @@ module _ (r : Reading) (writes : ℕ → List Doc) where
     no_failure (Some (Search reply)) top e = absurd cc
     no_failure (Some (Hits hits)) top e = absurd cc
     no_failure (Some (AllFailed failed)) top e = absurd cc
+    no_failure (Some (Wrote counts)) top e = absurd cc
     no_failure (Some (Cancelled task cancel counts)) top e = absurd cc
     no_failure (Some (Rejected node)) top e = absurd cc
 

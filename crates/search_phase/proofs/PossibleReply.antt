@@ -1,7 +1,7 @@
 -- The reply of a search, and of a page of one, is one that it can have.
 use Rattle.std.specs.Prelude.{◌≡◌, ℕ, ◌^◌, ◌<◌, ◌≤◌, ◌==◌, List, Bool, true, false, not, ◌&&◌, nat_lt, nat_le, cond, Some, None, is_some, filter_map, zip, drop, length, min, refl}
 use Rattle.std.proofs.Common.{sym, ◌∙◌, ap, arith, lit<}
-use Rattle.std.proofs.lemmas.Bool.{lt-ltb, le-leb, eqb-false, eq-eqb}
+use Rattle.std.proofs.lemmas.Bool.{lt-ltb, le-leb, leb-true, eqb-false, eq-eqb}
 use Rattle.std.proofs.lemmas.List.{length-take, length-map}
 use Rattle.std.proofs.lemmas.List.FromFn.{length-map-range_with_len}
 use Rattle.std.proofs.lemmas.Slice.Zip.{length-zip}
@@ -89,16 +89,18 @@ module _ (s : Searching) (h : IsSearching s) where
       all_true : {a b c d : Bool} → a ≡ true → b ≡ true → c ≡ true → d ≡ true → (a && b && c && d) ≡ true
       all_true ha hb hc hd = rw (ha, hb, hc, hd) refl
 
-  pub page_is_possible : (context : Context) (ask : ScrollAsk) (shards : ℕ) → ask.id ≡ context.id → length context.shards ≤ shards → shards ≤ 15 → s.reading ≡ page_reading context
+  pub page_is_possible : (context : Context) (ask : ScrollAsk) (shards : ℕ) → ask.id ≡ context.id → length context.shards ≤ shards → shards ≤ 15 → context.ask.body.size ≤ 10000 → s.reading ≡ page_reading context
       → can_have shards (asks.Scroll ask) (reply_of s) ≡ true
-  page_is_possible context ask shards own few most is =
+  page_is_possible context ask shards own few most bounded is =
       let long : length s.reading.shards ≡ length context.shards = ap (λ (r : Reading). length r.shards) is ∙ length-map context.shards Kept in
       let within : length s.reading.shards ≤ shards = omega arith in
+      let size : s.reading.ask.body.size ≡ context.ask.body.size = ap (λ (r : Reading). r.ask.body.size) is in
+      let shown : nat_le (length hits) 10000 ≡ true = le-leb (length hits) 10000 (omega (arith, leb-true (length hits) s.reading.ask.body.size few_hits)) in
       let named : option_map_or (same_task ask.id) s.reading.context false ≡ true =
       ap (λ (r : Reading). option_map_or (same_task ask.id) r.context false) is ∙ ap (same_task ask.id) (sym own) ∙ same_itself ask.id in
       by_test (length failed == length s.reading.shards)
       (λ all. rw all refl)
-      (λ some. rw some (all_true named (some_left shards within some) (few_rows shards within most)))
+      (λ some. rw some (all_true named (some_left shards within some) shown (few_rows shards within most)))
     where
-      all_true : {a b c : Bool} → a ≡ true → b ≡ true → c ≡ true → (a && b && c) ≡ true
-      all_true ha hb hc = rw (ha, hb, hc) refl
+      all_true : {a b c d : Bool} → a ≡ true → b ≡ true → c ≡ true → d ≡ true → (a && b && c && d) ≡ true
+      all_true ha hb hc hd = rw (ha, hb, hc, hd) refl

@@ -9,7 +9,7 @@ use Rattle.task_events.specs.declared.request.HitKey.{HitKey}
 use Rattle.task_events.specs.declared.request.Request.TheVariants as asks
 use Rattle.task_events.specs.declared.reply.ShardTop.{ShardTop}
 use Rattle.task_events.specs.declared.reply.Reply.{Reply}
-use Rattle.task_events.specs.declared.reply.Reply.TheVariants.{Search, Top, Hits, AllFailed, Cancelled, Rejected}
+use Rattle.task_events.specs.declared.reply.Reply.TheVariants.{Search, Top, Hits, AllFailed, Wrote, Cancelled, Rejected}
 use Rattle.task_events.specs.declared.step.Asked.{Asked}
 use Rattle.task_events.specs.Answers.{window}
 use Rattle.task_events.specs.HitOrder.{is_after}
@@ -27,6 +27,7 @@ answer_of_top (Some (Top other)) top e = let f : other ≡ top = cc in ap (λ t.
 answer_of_top (Some (Search reply)) top e = absurd cc
 answer_of_top (Some (Hits hits)) top e = absurd cc
 answer_of_top (Some (AllFailed failed)) top e = absurd cc
+answer_of_top (Some (Wrote counts)) top e = absurd cc
 answer_of_top (Some (Cancelled task cancel counts)) top e = absurd cc
 answer_of_top (Some (Rejected node)) top e = absurd cc
 

@@ -26,6 +26,7 @@ use Rattle.task_events.specs.Kinds.{can_have}
 use Rattle.task_events.specs.Readings.{Reading, search_reading, page_reading, shard_read}
 use Rattle.task_events.specs.Searches.{requests_of, top_of, tops_in, winners_among, failed_in, hit_in, counts_in, search_reply}
 use Rattle.task_events.specs.SearchTask.{search_step}
+pub use Rattle.task_events.specs.Waiting.{does_wait}
 
 pub record Searching : Type 0 where
   -- what it looks through
@@ -78,12 +79,6 @@ has_ended (Finish reply) = true
 has_ended (AskNext request) = false
 has_ended Turn = false
 has_ended (Wait until) = false
-
-abbrev pub does_wait : Do → Bool
-does_wait (Wait until) = true
-does_wait (AskNext request) = false
-does_wait Turn = false
-does_wait (Finish reply) = false
 
 -- ---- asks and answers
 

@@ -7,7 +7,8 @@ ghost use Rattle.std.specs.Str.{bytes_eq};
 ghost use Rattle.task_events.specs.FetchTask.{are_among};
 ghost use Rattle.task_events.specs.HitOrder.{is_after};
 ghost use Rattle.task_events.specs.QueryTask.{ascend, is_top_for};
-ghost use Rattle.task_events.specs.Kinds.{are_below, can_have};
+ghost use Rattle.task_events.specs.Counting.{are_below};
+ghost use Rattle.task_events.specs.Kinds.{can_have};
 ghost use Rattle.task_events.specs.Readings.{version_read};
 ghost use Rattle.task_events.specs.Searches.{query_of};
 
@@ -82,7 +83,7 @@ pub(crate) fn query_can_have(reading: &Reading, at: ShardRead, reply: &Reply) ->
         Reply::Cancelled { counts, .. } => are_zero(*counts),
         Reply::Rejected { .. } => true,
         Reply::Top(top) => is_top_for(reading, at, top.get()),
-        Reply::Search(_) | Reply::Hits(_) | Reply::AllFailed(_) => false,
+        Reply::Search(_) | Reply::Hits(_) | Reply::AllFailed(_) | Reply::Wrote(_) => false,
     }
 }
 
@@ -117,6 +118,6 @@ pub(crate) fn fetch_can_have(fetch: &FetchAsk, reply: &Reply) -> bool
             are_of_index(hits, fetch.index.get().as_str())
                 && are_among(hits, fetch.places.as_slice())
         }
-        Reply::Search(_) | Reply::Top(_) | Reply::AllFailed(_) => false,
+        Reply::Search(_) | Reply::Top(_) | Reply::AllFailed(_) | Reply::Wrote(_) => false,
     }
 }

@@ -234,7 +234,7 @@ impl SearchRoot {
             → self.now.reading ≡ search_reading task ask shards → IfOk result (λ answer.
             can_have shards (Request.Search ask) (reply_with (length self.now.reading.shards) answer) ≡ true) }
         ensures page_possible { (context : Context) (ask : ScrollAsk) (shards : ℕ) → ask.id ≡ context.id
-            → length context.shards ≤ shards → shards ≤ 15 → self.now.reading ≡ page_reading context → IfOk result (λ answer.
+            → length context.shards ≤ shards → shards ≤ 15 → context.ask.body.size ≤ 10000 → self.now.reading ≡ page_reading context → IfOk result (λ answer.
             can_have shards (Request.Scroll ask) (reply_with (length self.now.reading.shards) answer) ≡ true) }
     {
         let Some(fetching) = &self.fetching else {

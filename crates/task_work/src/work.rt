@@ -1,16 +1,18 @@
-ghost use Rattle.std.specs.Prelude.{◌≡◌, ℕ, ◌++◌, List, IfOk, OnOk, OnErr, Some, true, is_some, option_map, option_copied};
+ghost use Rattle.std.specs.Prelude.{◌≡◌, ℕ, ◌<◌, ◌^◌, ◌++◌, List, IfOk, OnOk, OnErr, true, is_some, option_map, option_copied};
 ghost use Rattle.task_ids.specs.declared.doc.Doc.{Doc};
-ghost use Rattle.task_work.specs.Works.{is_page, new_work, IsWorkOn, HasTurned, next_of, with_turn, can_ask, work_with_ask, work_takes, work_with_answer, EndsPlainly, does_wait, due_in, place_of, docs_next, work_notes, counts_of};
+ghost use Rattle.task_work.specs.Works.{is_page, IsNewWork, IsBegun, IsWorkOn, HasTurned, BrokeOff, next_of, with_turn, can_ask, work_with_ask, work_takes, work_with_answer, EndsPlainly, does_wait, due_in, place_of, docs_next, work_notes, counts_of};
 
+use crate::bulk_shard::{new_part, turn_of_part};
 use crate::fetch::{hits_reply, turn_of_fetch};
 use crate::query::{top_reply, turn_of_query};
 use crate::scroll::new_page;
 use crate::search::next_of_search;
+use reindex::{Bulk, BulkShardWork, ReindexRoot, Slice};
 use search_phase::{Context, SearchRoot, ShardFetch, ShardQuery};
 use shard_docs::Shard;
 use shared_value::Shared;
 use std::alloc::{AllocError, Global};
-use task_events::{Do, Hit, Reply, Request, ShardTop, WriteNote};
+use task_events::{Counts, Do, Hit, Reply, Request, ShardTop, WriteNote};
 use task_ids::{Cluster, Items, TaskId, Text};
 
 /// The work of a task.
@@ -24,6 +26,14 @@ pub enum Work {
     Fetch(ShardFetch, Option<Items<Hit>>),
     /// A page of a search, which asks for queries and fetches as the search does.
     Scroll(SearchRoot),
+    /// A reindex, which does the work of its one slice itself or asks for its slices.
+    Reindex(ReindexRoot),
+    /// A slice of a reindex, which asks for pages and bulks by turns.
+    Slice(Slice),
+    /// A bulk, which asks for its part in each shard.
+    Bulk(Bulk),
+    /// The part of a bulk in one shard, which writes there.
+    BulkShard(BulkShardWork),
 }
 
 impl Work {
@@ -38,8 +48,9 @@ impl Work {
     ) -> Result<Work, AllocError>
         requires given { is_some context ≡ is_page request.now }
         ensures work { IfOk result (λ work.
-            new_work task request.now cluster.now.shards (option_copied context.entry) ≡ Some work) }
+            IsNewWork task request.now cluster.now.shards (option_copied context.entry) work) }
         ensures begun { (writes : List Doc) → IfOk result (λ work. IsWorkOn work writes) }
+        ensures tied { IfOk result (λ work. IsBegun task request.now cluster.now.shards work) }
     {
         match request {
             Request::Search(ask) => {
@@ -61,15 +72,27 @@ impl Work {
                 let root = new_page(alloc, task, cluster.shards, context)?;
                 Ok(Work::Scroll(root))
             }
+            Request::Reindex(ask) => {
+                let root = ReindexRoot::new(alloc, task, ask.get(), cluster.shards)?;
+                Ok(Work::Reindex(root))
+            }
+            Request::Slice(ask) => {
+                let slice = Slice::new(alloc, task, ask.get(), cluster.shards)?;
+                Ok(Work::Slice(slice))
+            }
+            Request::Bulk(ask) => Ok(Work::Bulk(Bulk::new(alloc, ask.get(), cluster.shards)?)),
+            Request::BulkShard(ask) => Ok(Work::BulkShard(new_part(alloc, ask.get())?)),
         }
     }
 
-    /// The index and the shard, from 0, of which it looks at the documents. A search and a page look at none.
+    /// The index and the shard, from 0, of which it looks at the documents, or to which it writes, where it works on one.
     pub fn place(&self) -> Option<(&Shared<Text>, u32)>
         ensures { option_map (λ place. (place.0.now, place.1)) result ≡ place_of self.now }
     {
         match self {
-            Work::Search(_) | Work::Scroll(_) => None,
+            Work::Search(_) | Work::Scroll(_) | Work::Reindex(_) | Work::Slice(_) | Work::Bulk(_) =>
+                None,
+            Work::BulkShard(part) => Some((part.index(), part.shard())),
             Work::Query(query, _) => {
                 let ask = query.ask();
                 Some((&ask.index, ask.shard))
@@ -93,6 +116,10 @@ impl Work {
             Work::Query(_, Some(top)) => Ok(Do::Finish(top_reply(top)?)),
             Work::Fetch(_, Some(hits)) => Ok(Do::Finish(hits_reply(hits)?)),
             Work::Query(_, None) | Work::Fetch(_, None) => Ok(Do::Turn),
+            Work::Reindex(root) => root.next(now),
+            Work::Slice(slice) => slice.next(now),
+            Work::Bulk(bulk) => bulk.next(),
+            Work::BulkShard(part) => Ok(part.next()),
         }
     }
 
@@ -103,7 +130,10 @@ impl Work {
     {
         match self {
             Work::Search(root) | Work::Scroll(root) => root.waits(),
-            Work::Query(_, _) | Work::Fetch(_, _) => false,
+            Work::Reindex(root) => root.waits(now),
+            Work::Slice(slice) => slice.waits(now),
+            Work::Bulk(bulk) => bulk.waits(),
+            Work::Query(_, _) | Work::Fetch(_, _) | Work::BulkShard(_) => false,
         }
     }
 
@@ -112,20 +142,26 @@ impl Work {
         ensures { (writes : List Doc) → result ≡ due_in (next_of self.now writes now) }
     {
         match self {
+            Work::Reindex(root) => root.due(now),
+            Work::Slice(slice) => slice.due(now),
             Work::Search(_) | Work::Query(_, _) | Work::Fetch(_, _) | Work::Scroll(_) => None,
+            Work::Bulk(_) | Work::BulkShard(_) => None,
         }
     }
 
     /// Notes that the child which comes next was asked for, under this number and at this moment in milliseconds. It
     /// takes no memory.
-    pub fn asked(&mut self, ask: u32, _now: u64)
+    pub fn asked(&mut self, ask: u32, now: u64)
         requires { can_ask self.old ask ≡ true }
         ensures { self.new ≡ work_with_ask self.old ask }
     {
         match self {
             Work::Search(root) => root.asked(ask),
             Work::Scroll(root) => root.asked(ask),
-            Work::Query(_, _) | Work::Fetch(_, _) => unreachable!(),
+            Work::Reindex(root) => root.asked(ask, now),
+            Work::Slice(slice) => slice.asked(ask, now),
+            Work::Bulk(bulk) => bulk.asked(ask),
+            Work::Query(_, _) | Work::Fetch(_, _) | Work::BulkShard(_) => unreachable!(),
         }
     }
 
@@ -135,26 +171,36 @@ impl Work {
     {
         match self {
             Work::Search(root) | Work::Scroll(root) => root.takes(ask, reply),
-            Work::Query(_, _) | Work::Fetch(_, _) => false,
+            Work::Reindex(root) => root.takes(ask, reply),
+            Work::Slice(slice) => slice.takes(ask, reply),
+            Work::Bulk(bulk) => bulk.takes(ask, reply),
+            Work::Query(_, _) | Work::Fetch(_, _) | Work::BulkShard(_) => false,
         }
     }
 
     /// Takes the answer to an ask, at this moment in milliseconds. Where memory runs out nothing has changed, and the
     /// reply is lost.
     pub fn feed(&mut self, ask: u32, reply: Reply, now: u64) -> Result<(), AllocError>
-        requires { work_takes self.old ask reply ≡ true }
+        requires takes { work_takes self.old ask reply ≡ true }
+        requires moment { now < 2 ^ 60 }
         ensures ok { OnOk result (self.new ≡ work_with_answer self.old ask reply now) }
         ensures err { OnErr result (self.new ≡ self.old) }
     {
         match self {
             Work::Search(root) => root.feed(ask, reply),
             Work::Scroll(root) => root.feed(ask, reply),
-            Work::Query(_, _) | Work::Fetch(_, _) => unreachable!(),
+            Work::Reindex(root) => root.feed(ask, reply, now),
+            Work::Slice(slice) => slice.feed(ask, reply, now),
+            Work::Bulk(bulk) => {
+                bulk.feed(ask, &reply);
+                Ok(())
+            }
+            Work::Query(_, _) | Work::Fetch(_, _) | Work::BulkShard(_) => unreachable!(),
         }
     }
 
-    /// Takes a turn over its shard, and gives the notes of what it has written there. It fails only for want of memory, and then
-    /// nothing has changed.
+    /// Takes a turn over its shard, and gives the notes of what it has written there. It fails only for want of memory. Then a
+    /// first part of its documents may have been written, and what writes is used no more.
     ///
     /// What it finds is what is asked for where all turns are over one shard, which may grow between them.
     pub fn turn(&mut self, shard: &mut Shard) -> Result<Vec<WriteNote>, AllocError>
@@ -164,11 +210,12 @@ impl Work {
         ensures turned { OnOk result (HasTurned self.old shard.old self.new) }
         ensures ok { IsWorkOn self.old shard.old → OnOk result (self.new ≡ with_turn self.old shard.old) }
         ensures holds_on { IsWorkOn self.old shard.old → OnOk result (IsWorkOn self.new shard.new) }
-        ensures err { OnErr result (self.new ≡ self.old) }
-        ensures err_shard { OnErr result (shard.new ≡ shard.old) }
+        ensures err { OnErr result (BrokeOff self.old self.new shard.old shard.new) }
     {
         match self {
-            Work::Search(_) | Work::Scroll(_) => unreachable!(),
+            Work::Search(_) | Work::Scroll(_) | Work::Reindex(_) | Work::Slice(_) | Work::Bulk(_) =>
+                unreachable!(),
+            Work::BulkShard(part) => turn_of_part(part, shard),
             Work::Query(query, top) => {
                 turn_of_query(query, top, shard)?;
                 Ok(Vec::new(query.ask().body.get().sort.allocator()))
@@ -180,11 +227,34 @@ impl Work {
         }
     }
 
+    /// What it has counted so far. It takes no memory.
+    fn counts(&self) -> Counts
+        ensures { result ≡ counts_of self.now }
+    {
+        match self {
+            Work::Reindex(root) => root.counts(),
+            Work::Slice(slice) => slice.counts(),
+            Work::Bulk(bulk) => bulk.counts(),
+            Work::BulkShard(part) => part.counts(),
+            Work::Search(_) | Work::Query(_, _) | Work::Fetch(_, _) | Work::Scroll(_) => Counts {
+                total: 0,
+                created: 0,
+                updated: 0,
+                batches: 0,
+                failures: 0,
+            },
+        }
+    }
+
     /// The reply of a task that ends since it was cancelled, by the cancellation of this number, with what it has counted. It
     /// takes no memory.
     pub fn cancelled(&self, task: TaskId, cancel: u32) -> Reply
         ensures { result ≡ Reply.Cancelled task cancel (counts_of self.now) }
     {
-        Reply::cancelled(task, cancel)
+        Reply::Cancelled {
+            task,
+            cancel,
+            counts: self.counts(),
+        }
     }
 }

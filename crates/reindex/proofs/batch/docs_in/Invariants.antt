@@ -1,7 +1,6 @@
-use Rattle.std.proofs.Common.{◌≡◌, take, filter}
-use Rattle.std.specs.Prelude.{◌==◌}
-use Rattle.task_ids.specs.Placing.{shard_of}
+use Rattle.std.proofs.Common.{◌≡◌, take}
+use Rattle.task_events.specs.BulkTask.{docs_in}
 use Rattle.reindex.proofs.batch.docs_in.Given as goal
 
 abbrev pub invariant-loop-doc : goal.invariant-loop-doc
-invariant-loop-doc l = l.found.items ≡ filter (λ doc. shard_of doc.id l.shards == l.shard) (take l.doc-index l.docs)
+invariant-loop-doc l = l.found.items ≡ docs_in (take l.doc-index l.docs) l.shards l.shard

@@ -46,9 +46,9 @@ returns-clause-possible c = λ task ask shards few is.
     IfOk-weaker c.answer.result _ _ (λ answer e. subst P (sym (e ∙ same)) (search_is_possible c.args.self.now sound task ask shards few is)) c.answer.ensures
 
 pub returns-clause-page_possible : goal.returns-clause-page_possible
-returns-clause-page_possible c = λ context ask shards own few most is.
+returns-clause-page_possible c = λ context ask shards own few most size is.
     let s : Searching = record { reading = c.self.inside.reading; asked = c.self.inside.asked.items } in
     let sound : IsSearching c.args.self.now = subst IsSearching c.self.view_is c.self.invariant.search in
     let same : search_answer s.reading c.as_slice.result.now ≡ answer_of c.args.self.now = ap (search_answer s.reading) c.as_slice.ensures.value ∙ ap answer_of c.self.view_is in
     let P : SearchReply → Type 0 = λ answer. can_have shards (asks.Scroll ask) (reply_with (length c.args.self.now.reading.shards) answer) ≡ true in
-    IfOk-weaker c.answer.result _ _ (λ answer e. subst P (sym (e ∙ same)) (page_is_possible c.args.self.now sound context ask shards own few most is)) c.answer.ensures
+    IfOk-weaker c.answer.result _ _ (λ answer e. subst P (sym (e ∙ same)) (page_is_possible c.args.self.now sound context ask shards own few most size is)) c.answer.ensures
