@@ -1,5 +1,6 @@
 pub mod Appended
 pub mod Cases
+mod Known
 mod Made
 mod PlacedLines
 mod Replaced

@@ -1,6 +1,6 @@
 -- An index gets shards without a document: nothing that is written changes.
 use Rattle.std.proofs.Common.{◌≡◌, ℕ, zero, suc, ◌+◌, inl, inr, Bool, true, false, not, ◌&&◌, ◌||◌, cond, List, [], length, map, get_or, Option, Some, None, sym, subst, ap, ◌∙◌, refl}
-use Rattle.std.specs.Prelude.{IfSome, is_some}
+use Rattle.std.specs.Prelude.{IfSome, is_some, Result, Ok, Err, OnOk, OnErr}
 use Rattle.std.specs.Option.{option_map_or}
 use Rattle.std.specs.List.{range_with_len}
 use Rattle.std.specs.Str.{bytes_eq}
@@ -20,7 +20,7 @@ use Rattle.task_ids.specs.declared.corpus.Corpus.{Corpus}
 use Rattle.task_ids.specs.declared.doc.Doc.{Doc}
 use Rattle.shard_docs.proofs.Ids.{same_or_other}
 use Rattle.corpus_shards.specs.declared.Shards.{Shards}
-use Rattle.corpus_shards.specs.Stored.{HasWritten, writes_in, has_shards, is_of_corpus}
+use Rattle.corpus_shards.specs.Stored.{HasWritten, writes_in, has_shards, was_there}
 use Rattle.corpus_shards.proofs.Cases.{AreSameOrOther}
 
 -- nothing lies in shards without a document
@@ -39,17 +39,28 @@ pub entered : {X : Type 0} (old new : HashMap (String Global) X (BuildHasherDefa
 entered old new name index value named updates =
     subst (λ (i : List ℕ). (q : List ℕ) → get_by_text new q ≡ cond (bytes_eq i q) (Some value) (get_by_text old q)) named (hash_map_updates_text (string_bytes name) old new (Some value) updates)
 
+-- whether or not it gets them, the others are as they were
+pub others_either : {T E : Type 0} (s t : Shards) (index : List ℕ) (r : Result T E) → OnOk r ((q : List ℕ) → has_shards t q ≡ bytes_eq index q || has_shards s q)
+    → OnErr r ((q : List ℕ) → has_shards t q ≡ has_shards s q) → (q : List ℕ) → bytes_eq index q ≡ false → has_shards t q ≡ has_shards s q
+others_either s t index (Ok x) ok err q off = ok q ∙ ap (λ b. b || has_shards s q) off
+others_either s t index (Err e) ok err q off = err q
+
+-- what is written does not tell which were made
+pub noted_written : (s : Shards) (made : HashSet (String Global) (BuildHasherDefault FoldHasher)) (corpus : Corpus) (shards : ℕ)
+    → HasWritten corpus shards s → HasWritten corpus shards (record s { made = made })
+noted_written s made corpus shards has = record { count = has.count; some = has.some; each = has.each; as_many = has.as_many; few = has.few; empty = has.empty }
+
 module _ (s t : Shards) (index : List ℕ) (none : has_shards s index ≡ false) where
   -- an index that had no shards is noted as one that was made
-  pub of_corpus_still : ((q : List ℕ) → bytes_eq index q ≡ false → has_shards t q ≡ has_shards s q)
-      → ((q : List ℕ) → contains_text t.made q ≡ cond (bytes_eq index q) true (contains_text s.made q)) → (q : List ℕ) → is_of_corpus t q ≡ is_of_corpus s q
-  of_corpus_still others noted q = by_case (same_or_other index q)
+  pub start_still : ((q : List ℕ) → bytes_eq index q ≡ false → has_shards t q ≡ has_shards s q)
+      → ((q : List ℕ) → contains_text t.made q ≡ cond (bytes_eq index q) true (contains_text s.made q)) → (q : List ℕ) → was_there t q ≡ was_there s q
+  start_still others noted q = by_case (same_or_other index q)
     where
       and_false : (b : Bool) → (b && false) ≡ false
       and_false true = refl
       and_false false = refl
 
-      by_case : AreSameOrOther index q → is_of_corpus t q ≡ is_of_corpus s q
+      by_case : AreSameOrOther index q → was_there t q ≡ was_there s q
       by_case (inl (hit, back, same)) =
           ap (λ made. has_shards t q && not made) (noted q ∙ ap (λ b. cond b true (contains_text s.made q)) hit) ∙ and_false (has_shards t q)
           ∙ sym (ap (λ has. has && not (contains_text s.made q)) (ap (has_shards s) (sym same) ∙ none))

@@ -44,7 +44,7 @@ module _ (s : Shards) (index : List ℕ) (shard : ℕ) (list : Vec (List Doc)) (
         ∙ get_or-set_same list.items shard writes [] within;
     elsewhere = λ q k other. elsewhere q k other (at_index q);
     as_many = λ q. as_many q (at_index q);
-    of_corpus = λ q. ap (λ has. has && not (contains_text s.made q)) (has_as q (at_index q));
+    from_start = λ q. ap (λ has. has && not (contains_text s.made q)) (has_as q (at_index q));
     count = refl;
     empty = refl;
   }

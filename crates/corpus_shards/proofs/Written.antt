@@ -13,7 +13,7 @@ use Rattle.task_ids.specs.declared.doc.Doc.{Doc}
 use Rattle.task_events.specs.Documents.{writes_of}
 use Rattle.corpus_shards.specs.declared.Shards.{Shards}
 use Rattle.corpus_shards.specs.Placed.{has_index, AreShards}
-use Rattle.corpus_shards.specs.Stored.{HasWritten, writes_in, is_of_corpus}
+use Rattle.corpus_shards.specs.Stored.{HasWritten, writes_in, was_there}
 use Rattle.corpus_shards.proofs.PlacedLines.{found_shards, none_found, as_many_shards, unknown_index, past_shards}
 
 -- ---- once the corpus is placed
@@ -43,7 +43,7 @@ module _ (lines : List CorpusLine) (shards : ℕ) (s : Shards) (are : AreShards 
     empty = empty;
   }
 
-  pub placed_indices : s.made.keys ≡ [] → (index : List ℕ) → is_of_corpus s index ≡ has_index lines index
+  pub placed_indices : s.made.keys ≡ [] → (index : List ℕ) → was_there s index ≡ has_index lines index
   placed_indices none index = ap (λ keys. is_some (get_by_text s.by_index index) && not (list_any (λ key. bytes_eq index (string_bytes key)) keys)) none
       ∙ and_true (is_some (get_by_text s.by_index index)) ∙ sym (is_some_map (get_by_text s.by_index index)) ∙ ap is_some (are.by_index index) ∙ is_some_if _ (has_index lines index)
     where

@@ -15,9 +15,13 @@ use Rattle.corpus_shards.specs.declared.Shards.{Shards}
 abbrev pub has_shards : Shards → List ℕ → Bool
 has_shards s index = is_some (get_by_text s.by_index index)
 
--- it has them from the corpus
-abbrev pub is_of_corpus : Shards → List ℕ → Bool
-is_of_corpus s index = has_shards s index && not (contains_text s.made index)
+-- it has had them from the start
+abbrev pub was_there : Shards → List ℕ → Bool
+was_there s index = has_shards s index && not (contains_text s.made index)
+
+-- no index was made yet
+abbrev pub NoneMade : Shards → Type 0
+NoneMade s = (index : List ℕ) → contains_text s.made index ≡ false
 
 -- the writes of a shard of an index, which are none where there is no such shard
 abbrev pub writes_in : Shards → List ℕ → ℕ → List Doc
@@ -42,6 +46,6 @@ pub record Replaces (index : List ℕ) (shard : ℕ) (writes : List Doc) (s t : 
   pub here : writes_in t index shard ≡ writes
   pub elsewhere : (q : List ℕ) (k : ℕ) → (bytes_eq index q && (shard == k)) ≡ false → writes_in t q k ≡ writes_in s q k
   pub as_many : (q : List ℕ) → option_map (λ list. length list.items) (get_by_text t.by_index q) ≡ option_map (λ list. length list.items) (get_by_text s.by_index q)
-  pub of_corpus : (q : List ℕ) → is_of_corpus t q ≡ is_of_corpus s q
+  pub from_start : (q : List ℕ) → was_there t q ≡ was_there s q
   pub count : t.count ≡ s.count
   pub empty : t.empty ≡ s.empty

@@ -1,8 +1,8 @@
 //! The shards of indices: where each document lies that the corpus has or that was written since.
 #![tactic(auto)]
 
-ghost use Rattle.std.specs.Prelude.{◌≡◌, ℕ, List, ◌++◌, ◌∷◌, [], ◌<◌, ◌^◌, ◌||◌, length, map, IfOk, IfSome, OnOk, OnErr, is_some};
-ghost use Rattle.std.specs.List.{range_with_len};
+ghost use Rattle.std.specs.Prelude.{◌≡◌, ℕ, List, ◌++◌, ◌∷◌, [], ◌<◌, ◌^◌, ◌||◌, false, length, map, IfOk, IfSome, OnOk, OnErr, is_some};
+ghost use Rattle.std.specs.List.{list_any, range_with_len};
 ghost use Rattle.std.specs.HashMap.{get_by_text};
 ghost use Rattle.std.specs.Str.{bytes_eq};
 ghost use Rattle.task_ids.specs.Placing as placing;
@@ -11,22 +11,22 @@ ghost use Rattle.task_ids.specs.declared.corpus.CorpusLine.{CorpusLine};
 ghost use Rattle.std.specs.Borrow.{sem};
 ghost use Rattle.corpus_shards.specs.Lent.{LendsShard};
 ghost use Rattle.corpus_shards.specs.Placed.{AreShards, has_index};
-ghost use Rattle.corpus_shards.specs.Stored.{HasWritten, writes_in, has_shards, is_of_corpus};
+ghost use Rattle.corpus_shards.specs.Stored.{HasWritten, writes_in, has_shards, was_there, NoneMade};
 
 use shard_docs::{Shard, shard_of};
 use std::alloc::{AllocError, Global};
 use std::collections::{HashMap, HashSet};
-use task_ids::{Corpus, CorpusLine, Doc};
+use task_ids::{Corpus, CorpusLine, Doc, Text};
 
-/// The shards of each index that a document is of, or that was made. The contracts of this crate say when they have
-/// what was written (`HasWritten`).
+/// The shards of each index that a document is of, that is known from the start, or that was made. The contracts of
+/// this crate say when they have what was written (`HasWritten`).
 #[derive(Drop)]
 pub struct Shards {
     /// How many shards each index has.
     pub count: u32,
     /// The shards of an index, from 0.
     pub by_index: HashMap<String, Vec<Shard>>,
-    /// The indices that were made: no document of the corpus is of them.
+    /// The indices that were made: they were not there from the start.
     pub made: HashSet<String>,
     /// The shard of an index that has none: no document.
     pub empty: Shard,
@@ -89,8 +89,9 @@ impl Shards {
     pub fn new(alloc: Global, corpus: &Corpus, count: u32) -> Result<Shards, AllocError>
         requires { 0 < count }
         ensures written { IfOk result (λ shards. HasWritten corpus.now count shards) }
-        ensures of_corpus { IfOk result (λ shards. (index : List ℕ)
-            → is_of_corpus shards index ≡ has_index corpus.now.lines index) }
+        ensures from_start { IfOk result (λ shards. (index : List ℕ)
+            → was_there shards index ≡ has_index corpus.now.lines index) }
+        ensures none_made { IfOk result (λ shards. NoneMade shards) }
     {
         let mut by_index = HashMap::new(alloc);
         for line in corpus.lines.as_slice() {
@@ -104,9 +105,9 @@ impl Shards {
         })
     }
 
-    /// Whether some document of the corpus is of the index.
+    /// Whether the index was there from the start: some document of the corpus is of it, or it was known.
     pub fn has(&self, index: &str) -> bool
-        ensures { result ≡ is_of_corpus self.now index.now }
+        ensures { result ≡ was_there self.now index.now }
     {
         self.by_index.contains_key(index) && !self.made.contains(index)
     }
@@ -136,6 +137,54 @@ impl Shards {
         Some(&mut shards[shard as usize])
     }
 
+    /// Gives an index that has none its shards, without a document. It fails only for want of memory.
+    fn add(&mut self, alloc: Global, index: &str) -> Result<(), AllocError>
+        requires none { has_shards self.old index.now ≡ false }
+        ensures added { OnOk result ((q : List ℕ) → has_shards self.new q
+            ≡ (bytes_eq index.now q || has_shards self.old q)) }
+        ensures err { OnErr result ((q : List ℕ) → has_shards self.new q ≡ has_shards self.old q) }
+        ensures same { (q : List ℕ) (shard : ℕ) → writes_in self.new q shard ≡ writes_in self.old q shard }
+        ensures made { self.new.made ≡ self.old.made }
+        ensures written { (corpus : Corpus) (shards : ℕ) → HasWritten corpus shards self.old
+            → HasWritten corpus shards self.new }
+    {
+        let shards = empty_shards(alloc, self.count)?;
+        self.by_index
+            .insert(String::from_str(alloc, index)?, shards)?;
+        Ok(())
+    }
+
+    /// The index is there from the start, though no document of the corpus may be of it: it has its shards. It fails
+    /// only for want of memory. In either case no shard has another document than before.
+    pub fn know(&mut self, alloc: Global, index: &str) -> Result<(), AllocError>
+        requires none_made { NoneMade self.old }
+        ensures known { OnOk result ((q : List ℕ) → was_there self.new q ≡ (bytes_eq index.now q || was_there self.old q)) }
+        ensures err { OnErr result ((q : List ℕ) → was_there self.new q ≡ was_there self.old q) }
+        ensures same { (q : List ℕ) (shard : ℕ) → writes_in self.new q shard ≡ writes_in self.old q shard }
+        ensures none_made { NoneMade self.new }
+        ensures written { (corpus : Corpus) (shards : ℕ) → HasWritten corpus shards self.old
+            → HasWritten corpus shards self.new }
+    {
+        if self.by_index.contains_key(index) {
+            return Ok(());
+        }
+        self.add(alloc, index)
+    }
+
+    /// Each of some indices is there from the start. It fails only for want of memory. In either case no shard has another
+    /// document than before.
+    pub fn know_all(&mut self, alloc: Global, indices: &[Text]) -> Result<(), AllocError>
+        requires none_made { NoneMade self.old }
+        ensures known { OnOk result ((q : List ℕ) → was_there self.new q ≡ (was_there self.old q || list_any (bytes_eq q) indices.now)) }
+        ensures written { (corpus : Corpus) (shards : ℕ) → HasWritten corpus shards self.old
+            → HasWritten corpus shards self.new }
+    {
+        for index in indices {
+            self.know(alloc, index.as_str())?;
+        }
+        Ok(())
+    }
+
     /// Gives an index its shards, without a document, where it has none yet. It fails only for want of memory. In
     /// either case no shard has another document than before.
     pub fn make(&mut self, alloc: Global, index: &str) -> Result<(), AllocError>
@@ -143,7 +192,7 @@ impl Shards {
             ≡ (bytes_eq index.now q || has_shards self.old q)) }
         ensures err { OnErr result ((q : List ℕ) → has_shards self.new q ≡ has_shards self.old q) }
         ensures same { (q : List ℕ) (shard : ℕ) → writes_in self.new q shard ≡ writes_in self.old q shard }
-        ensures of_corpus { (q : List ℕ) → is_of_corpus self.new q ≡ is_of_corpus self.old q }
+        ensures from_start { (q : List ℕ) → was_there self.new q ≡ was_there self.old q }
         ensures written { (corpus : Corpus) (shards : ℕ) → HasWritten corpus shards self.old
             → HasWritten corpus shards self.new }
     {
@@ -151,9 +200,6 @@ impl Shards {
             return Ok(());
         }
         self.made.insert(String::from_str(alloc, index)?)?;
-        let shards = empty_shards(alloc, self.count)?;
-        self.by_index
-            .insert(String::from_str(alloc, index)?, shards)?;
-        Ok(())
+        self.add(alloc, index)
     }
 }
