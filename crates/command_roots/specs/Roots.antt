@@ -1,8 +1,10 @@
 -- What the root of a command is asked to do, and what its request carries.
 use Rattle.std.specs.Prelude.{ℕ, zero, suc, ◌==◌, List, [], ◌∷◌, Option, Some, None, is_some, option_map, option_and_then, slice_get, Result, Ok, Err, if◌then◌else◌}
+use Rattle.std.specs.Result.{result_ok}
 use Rattle.query_parse.specs.declared.fault.BodyError.{BodyError}
 use Rattle.query_match.specs.declared.body.SearchBody.{SearchBody}
 use Rattle.query_parse.specs.Bodies.{body_at}
+use Rattle.query_parse.specs.Reindexes.{reindex_at}
 use Rattle.task_ids.specs.declared.cluster.Cluster.{Cluster}
 use Rattle.task_ids.specs.declared.task_id.TaskId.{TaskId}
 use Rattle.task_ids.specs.declared.task_info.Headers.{Headers}
@@ -10,6 +12,7 @@ use Rattle.task_ids.specs.declared.task_info.TaskInfo.{TaskInfo}
 use Rattle.task_events.specs.declared.context.Context.{Context}
 use Rattle.task_events.specs.declared.event.Event.{Event}
 use Rattle.task_events.specs.declared.event.Event.TheVariants.{Root}
+use Rattle.task_events.specs.declared.request.ReindexAsk.{ReindexAsk}
 use Rattle.task_events.specs.declared.request.SearchAsk.{SearchAsk}
 use Rattle.task_events.specs.declared.request.Request.{Request}
 use Rattle.task_events.specs.declared.request.Request.TheVariants as asks
@@ -21,10 +24,11 @@ use Rattle.scroll_table.specs.declared.context.PageError.{PageError}
 use Rattle.scroll_table.specs.declared.context.PageError.TheVariants.{Missing}
 use Rattle.scroll_table.specs.Contexts.{answer_for}
 use Rattle.script_lang.specs.declared.command.Command.{Command}
-use Rattle.script_lang.specs.declared.command.Command.TheVariants.{Search, Scroll, ClearScroll}
+use Rattle.script_lang.specs.declared.command.Command.TheVariants.{Search, Scroll, ClearScroll, Reindex}
 use Rattle.script_lang.specs.declared.command.ContextTarget.{ContextTarget}
 use Rattle.script_lang.specs.declared.command.ContextTarget.TheVariants as contexts
 use Rattle.script_lang.specs.declared.command.Script.{Script}
+use Rattle.command_roots.specs.Reindexes.{reindex_ask}
 
 -- ---- the tasks and the contexts of earlier commands
 
@@ -58,9 +62,15 @@ abbrev pub search_of : Command → Option SearchAsk
 search_of (Search index node scroll body opaque_id) = option_map (search_ask index scroll) (body_or_none (body_at (is_some scroll) (least_size scroll) body))
 search_of _ = None
 
+-- the copy that a command asks for, where it is a reindex whose body has no fault
+abbrev pub reindex_of : Command → Option ReindexAsk
+reindex_of (Reindex node body slices rate opaque_id) = option_and_then (λ read. reindex_ask read slices rate) (result_ok (reindex_at body))
+reindex_of _ = None
+
 -- what the root of a command is asked to do, by what happened before
 abbrev pub request_in : Command → List Event → Option Request
 request_in (Scroll context keep opaque_id) h = option_map (λ id. asks.Scroll (record { id = id; keep = keep; owner = None })) (context_named context h)
+request_in (Reindex node body slices rate opaque_id) h = option_map asks.Reindex (reindex_of (Reindex node body slices rate opaque_id))
 request_in command h = option_map asks.Search (search_of command)
 
 -- the command of a number, from 1
@@ -75,6 +85,7 @@ root_request script k h = option_and_then (λ command. request_in command h) (co
 abbrev pub opaque_id_in : Command → Option (List ℕ)
 opaque_id_in (Search index node scroll body opaque_id) = opaque_id
 opaque_id_in (Scroll context keep opaque_id) = opaque_id
+opaque_id_in (Reindex node body slices rate opaque_id) = opaque_id
 opaque_id_in _ = None
 
 -- what the request of a command's root carries

@@ -1,12 +1,15 @@
 //! What the commands of a script ask their roots to do.
 #![tactic(auto)]
 
+mod reindexes;
+
 ghost use Rattle.std.specs.Prelude.{◌≡◌, ◌↔◌, true, IfOk, if◌then◌else◌};
 ghost use Rattle.query_parse.specs.Bodies.{body_at};
 ghost use Rattle.command_roots.specs.Roots.{body_or_none, search_ask, opaque_id_in};
 
 use query_match::SearchBody;
 use query_parse::{BodyError, read_body};
+pub use reindexes::{dests_of, reindex_ask, reindex_body};
 use script_lang::Command;
 use shared_value::Shared;
 use std::alloc::{AllocError, Global};
@@ -77,6 +80,10 @@ pub fn headers_of(command: &Command) -> Result<Headers, AllocError>
             ..
         }
         | Command::Scroll {
+            opaque_id: Some(opaque_id),
+            ..
+        }
+        | Command::Reindex {
             opaque_id: Some(opaque_id),
             ..
         } => Ok(Headers {

@@ -31,7 +31,9 @@ fn write_end(task: Id, reply: &Reply, out: &mut String) -> Result<(), AllocError
     match reply {
         Reply::Cancelled { cancel, .. } => write!(out, "end {task} cancelled {cancel}"),
         Reply::AllFailed(_) | Reply::Rejected { .. } => write!(out, "end {task} failed"),
-        Reply::Search(_) | Reply::Top(_) | Reply::Hits(_) => write!(out, "end {task} done"),
+        Reply::Search(_) | Reply::Top(_) | Reply::Hits(_) | Reply::Wrote(_) => {
+            write!(out, "end {task} done")
+        }
     }
 }
 

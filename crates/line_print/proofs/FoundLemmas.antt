@@ -1,10 +1,10 @@
 -- What the lines tell of a note is what the caller of the printing noted.
-use Rattle.std.proofs.Common.{◌≡◌, ℕ, ◌+◌, ◌-◌, ◌<◌, List, [], ◌∷◌, ◌++◌, length, get_or, drop, reverse, slice_get, Option, Some, None, unwrap_or, option_and_then, refl, sym, ap, ◌∙◌, subst, add-zero, add-one, append_assoc, arith}
-use Rattle.std.proofs.lemmas.List.{reverse-reverse, drop_more}
+use Rattle.std.proofs.Common.{◌≡◌, ℕ, ◌+◌, ◌-◌, ◌<◌, List, [], ◌∷◌, ◌++◌, length, get_or, drop, slice_get, Option, Some, None, unwrap_or, option_and_then, refl, sym, ap, ◌∙◌, subst, add-zero, add-one, append_assoc, arith}
+use Rattle.std.proofs.lemmas.List.{drop_more}
 use Rattle.task_ids.specs.declared.cluster.Cluster.{Cluster}
 use Rattle.task_ids.specs.declared.corpus.Corpus.{Corpus}
 use Rattle.script_lang.specs.declared.command.Command.{Command}
-use Rattle.script_lang.specs.declared.command.Command.TheVariants.{Search, Scroll, ClearScroll, Tick, Cancel, ListTasks, Deliver, Step, ListStep, Settle, History}
+use Rattle.script_lang.specs.declared.command.Command.TheVariants.{Search, Scroll, ClearScroll, Reindex, Tick, Cancel, ListTasks, Deliver, Step, ListStep, Settle, History}
 use Rattle.script_lang.specs.declared.command.Script.{Script}
 use Rattle.task_events.specs.declared.event.Event.{Event}
 use Rattle.task_events.specs.Printed.{shards_read}
@@ -12,10 +12,6 @@ use Rattle.task_events.specs.Tasks.{reply_of}
 use Rattle.task_events.specs.Turns.{events_of, history_before}
 use Rattle.line_print.specs.declared.note.Note.{Note}
 use Rattle.line_print.specs.Lines.{first_in, full_node_in, started, search_line, page_refusal, clear_line, tick_line, idle_error, idle_line, list_line, moved_line, line_of, lines_from, note_of, printed, printed_by, TellsNote, IsFound}
-
--- the events in order, from the newest on
-turned : (events history : List Event) → events ≡ reverse history → reverse events ≡ history
-turned events history e = ap reverse e ∙ reverse-reverse history
 
 -- lines that are the same at each place
 same_lines : (f g : ℕ → Command → List ℕ) (k : ℕ) (commands : List Command) → ((i : ℕ) (command : Command) → slice_get commands i ≡ Some command → f (k + i) command ≡ g (k + i) command) → lines_from f k commands ≡ lines_from g k commands
@@ -34,6 +30,7 @@ same_line : (cluster : Cluster) (corpus : Corpus) (script : List Command) (histo
 same_line cluster corpus script history k (Search index node scroll body opaque_id) noted other h = refl
 same_line cluster corpus script history k (Scroll target keep opaque_id) noted other h =
     ap (λ (n : Option Note). search_line shards_read script k (page_refusal n (first_in full_node_in (events_of k history))) (option_and_then (λ t. reply_of t history) (started k history))) (h tt)
+same_line cluster corpus script history k (Reindex node body slices rate opaque_id) noted other h = refl
 same_line cluster corpus script history k (ClearScroll target) noted other h = ap (clear_line k) (h tt)
 same_line cluster corpus script history k (Tick ms) noted other h = ap (tick_line k) (h tt)
 same_line cluster corpus script history k (Cancel target reason wait) noted other h = refl
@@ -58,11 +55,11 @@ module _ (found : List (Option Note)) (cluster : Cluster) (corpus : Corpus) (scr
       (λ i command s. same_line cluster corpus script.commands history (1 + i) command _ _ (told_at i command s))
 
 -- the output is that of what was handed in
-pub output_of : (found : List (Option Note)) (cluster cluster' : Cluster) (corpus corpus' : Corpus) (script script' : List Command) (events history : List Event) → cluster ≡ cluster' → corpus ≡ corpus' → script ≡ script' → events ≡ reverse history
-    → printed_by found cluster corpus script (reverse events) ≡ printed_by found cluster' corpus' script' history
-output_of found cluster cluster' corpus corpus' script script' events history a b c d =
-    ap (λ x. printed_by found x corpus script (reverse events)) a ∙ ap (λ x. printed_by found cluster' x script (reverse events)) b
-    ∙ ap (λ x. printed_by found cluster' corpus' x (reverse events)) c ∙ ap (printed_by found cluster' corpus' script') (turned events history d)
+pub output_of : (found : List (Option Note)) (cluster cluster' : Cluster) (corpus corpus' : Corpus) (script script' : List Command) (history history' : List Event) → cluster ≡ cluster' → corpus ≡ corpus' → script ≡ script' → history ≡ history'
+    → printed_by found cluster corpus script history ≡ printed_by found cluster' corpus' script' history'
+output_of found cluster cluster' corpus corpus' script script' history history' a b c d =
+    ap (λ x. printed_by found x corpus script history) a ∙ ap (λ x. printed_by found cluster' x script history) b
+    ∙ ap (λ x. printed_by found cluster' corpus' x history) c ∙ ap (printed_by found cluster' corpus' script') d
 
 -- one more line is appended
 pub lines_more : (line : ℕ → Command → List ℕ) (place : ℕ) (script : List Command) (command : Command) (before after all : List ℕ) → place < length script → command ≡ get_or script place command → after ≡ before ++ line (place + 1) command

@@ -1,6 +1,6 @@
 -- The texts of a reply's parts, as they are appended one after another.
-use Rattle.std.proofs.Common.{◌≡◌, ℕ, ◌+◌, ◌-◌, ◌<◌, ◌≤◌, Bool, true, false, List, [], ◌∷◌, ◌++◌, Option, Some, None, length, get_or, drop, map, codes, refl, sym, ap, ◌∙◌, append_assoc, decimal}
-use Rattle.std.proofs.lemmas.List.{drop_all, drop_more}
+use Rattle.std.proofs.Common.{◌≡◌, ℕ, ◌+◌, ◌-◌, ◌<◌, Bool, true, false, List, [], ◌∷◌, ◌++◌, Option, Some, None, length, get_or, drop, map, codes, refl, sym, ap, ◌∙◌, append_assoc, decimal}
+use Rattle.std.proofs.lemmas.List.{drop_more}
 use Rattle.json.specs.Print.{quoted, escape_byte}
 use Rattle.serde_json.specs.Data.{Data, Items, array, string}
 use Rattle.serde_json.specs.View.{items_of}
@@ -130,13 +130,3 @@ here_first xs i x h is = drop_more xs i x h ∙ ap (λ next. next ∷ drop (i + 
 pub items_more : {X : Type 0} (json : X → Data) (xs : List X) (i : ℕ) (x : X) (later : Bool) (before between after all : List ℕ) → i < length xs → x ≡ get_or xs i x → between ≡ before ++ comma_if later → after ≡ between ++ compact_text (json x)
     → before ++ items_text later (items_of (map json (drop i xs))) ≡ all → after ++ items_text true (items_of (map json (drop (i + 1) xs))) ≡ all
 items_more json xs i x later before between after all h is = item_more json x (drop (i + 1) xs) (drop i xs) later before between after all (here_first xs i x h is)
-
--- the same where more items come after the list
-pub items_before_more : {X : Type 0} (json : X → Data) (xs more : List X) (i : ℕ) (x : X) (later : Bool) (before between after all : List ℕ) → i < length xs → x ≡ get_or xs i x → between ≡ before ++ comma_if later → after ≡ between ++ compact_text (json x)
-    → before ++ items_text later (items_of (map json (drop i xs ++ more))) ≡ all → after ++ items_text true (items_of (map json (drop (i + 1) xs ++ more))) ≡ all
-items_before_more json xs more i x later before between after all h is =
-    item_more json x (drop (i + 1) xs ++ more) (drop i xs ++ more) later before between after all (ap (λ items. items ++ more) (here_first xs i x h is))
-
-pub items_after : {X : Type 0} (json : X → Data) (xs more : List X) (i : ℕ) (later : Bool) (before all : List ℕ) → length xs ≤ i
-    → before ++ items_text later (items_of (map json (drop i xs ++ more))) ≡ all → before ++ items_text later (items_of (map json more)) ≡ all
-items_after json xs more i later before all h so_far = ap (λ items. before ++ items_text later (items_of (map json (items ++ more)))) (sym (drop_all i xs h)) ∙ so_far

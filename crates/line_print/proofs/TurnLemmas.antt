@@ -1,13 +1,14 @@
 -- The events of each command, where the events are read from the oldest on.
-use Rattle.std.proofs.Common.{◌≡◌, ℕ, zero, suc, ◌+◌, ◌<◌, ◌≤◌, Bool, true, false, cond, not, ◌&&◌, ◌||◌, flat_map, get_or, slice_get, ◌==◌, nat_lt, List, [], ◌∷◌, ◌++◌, reverse, take, drop, length, position, Some, None, option_map, unwrap_or, Bor, refl, sym, ap, ◌∙◌, append_assoc, append-nil, map, zero-add, add-one, one-add, arith}
+use Rattle.std.proofs.Common.{◌≡◌, ℕ, zero, suc, ◌+◌, ◌<◌, ◌≤◌, Bool, true, false, cond, not, ◌&&◌, ◌||◌, flat_map, get_or, slice_get, ◌==◌, nat_lt, List, [], ◌∷◌, ◌++◌, reverse, take, drop, length, position, Option, Some, None, unwrap_or, Bor, refl, sym, ap, ◌∙◌, append_assoc, append-nil, map, zero-add, add-one, one-add, arith}
 use mathlib.Core.List.{reverse-cons}
+use Rattle.std.specs.Iterator.{YieldsFirstRef}
 use Rattle.std.specs.List.{position_or_len, before_first, after_first, range_with_len}
 use Rattle.std.proofs.lemmas.Bool.Decides.{nat_tests}
 use Rattle.std.proofs.lemmas.Bool.{ltb-false, le-ltb, eqb-true}
 use Rattle.std.proofs.lemmas.List.Sums.{prefix_len-le-length}
 use Rattle.std.proofs.lemmas.List.FromFn.{map-range_with_len_more, take-map-range_with_len, length-map-range_with_len, get_or-map-range_with_len}
-use Rattle.std.proofs.lemmas.Option.{slice_get-get_or, slice_get-map}
-use Rattle.std.proofs.lemmas.List.{length-map, take-map}
+use Rattle.std.proofs.lemmas.Option.{slice_get-get_or, get_or_from_slice_get}
+use Rattle.std.proofs.lemmas.List.{reverse-reverse, drop-drop}
 use Rattle.std.proofs.lemmas.Grind.{flat_map-append}
 use Rattle.task_events.specs.declared.event.Event.{Event}
 use Rattle.task_events.specs.Turns.{is_begin, begun, events_while, events_of, events_before}
@@ -36,6 +37,9 @@ place_or false place length h = h refl
 pub place_or_len : (es : List Event) → unwrap_or (position is_begin es) (length es) ≡ position_or_len is_begin es
 place_or_len es =
     place_or (nat_lt (position_or_len is_begin es) (length es)) (position_or_len is_begin es) (length es) (λ past. omega (arith, ltb-false (position_or_len is_begin es) (length es) past, prefix_len-le-length (λ e. not (is_begin e)) es))
+
+pub place_within : (es : List Event) → position_or_len is_begin es ≤ length es
+place_within es = prefix_len-le-length (λ e. not (is_begin e)) es
 
 -- ---- what is left after so many beginnings
 
@@ -112,10 +116,10 @@ pub turn_at : (k : ℕ) (es : List Event) → before_first is_begin (rest_at k e
 turn_at k es = sym (ap (events_of k) (sym (append-nil (reverse es))) ∙ from_newest (λ m. m == k) es [] ∙ turn_from k 0 k es (omega arith))
 
 -- one more turn
-pub turn_more : (told : List (List Event)) (turn rest : List Event) (n : ℕ) (es : List Event) → told ≡ map (λ k. events_of k (reverse es)) (range_with_len 0 n) → rest ≡ rest_at n es → turn ≡ before_first is_begin rest
-    → told ++ turn ∷ [] ≡ map (λ k. events_of k (reverse es)) (range_with_len 0 (n + 1))
-turn_more told turn rest n es t r h =
-    rw (t, h, r, turn_at n es) (sym (map-range_with_len_more (λ k. events_of k (reverse es)) 0 n n (zero-add n)))
+pub turn_more : (told : List (List Event)) (turn rest : List Event) (n : ℕ) (history : List Event) → told ≡ map (λ k. events_of k history) (range_with_len 0 n) → rest ≡ rest_at n (reverse history) → turn ≡ before_first is_begin rest
+    → told ++ turn ∷ [] ≡ map (λ k. events_of k history) (range_with_len 0 (n + 1))
+turn_more told turn rest n history t r h =
+    rw (t, h, r, turn_at n (reverse history), reverse-reverse history) (sym (map-range_with_len_more (λ k. events_of k history) 0 n n (zero-add n)))
 
 pub rest_more : (n : ℕ) (es : List Event) → after_first is_begin (rest_at n es) ≡ rest_at (n + 1) es
 rest_more n es = ap (λ k. rest_at k es) (sym (add-one n))
@@ -163,36 +167,27 @@ gathered (suc k) es =
 pub told_before : (turns : List (List Event)) (n k : ℕ) (es : List Event) → turns ≡ map (λ j. events_of j (reverse es)) (range_with_len 0 n) → k ≤ n → flat_map (λ events. events) (take k turns) ≡ events_before k (reverse es)
 told_before turns n k es h le = ap (λ ts. flat_map (λ events. events) (take k ts)) h ∙ ap (flat_map (λ events. events)) (take-map-range_with_len (λ j. events_of j (reverse es)) 0 n k le) ∙ gathered k es
 
-pub turn_in : (turns : List (List Event)) (n k : ℕ) (es : List Event) → turns ≡ map (λ j. events_of j (reverse es)) (range_with_len 0 n) → k < n → slice_get turns k ≡ Some (events_of k (reverse es))
-turn_in turns n k es h lt =
-    let short : k < length turns = omega (arith, ap length h ∙ length-map-range_with_len (λ j. events_of j (reverse es)) 0 n) in
-    slice_get-get_or turns k [] short ∙ ap Some (ap (λ ts. get_or ts k []) h ∙ get_or-map-range_with_len (λ j. events_of j (reverse es)) 0 n k k [] lt (zero-add k))
+pub turn_in : (turns : List (List Event)) (n k : ℕ) (history : List Event) → turns ≡ map (λ j. events_of j history) (range_with_len 0 n) → k < n → slice_get turns k ≡ Some (events_of k history)
+turn_in turns n k history h lt =
+    let short : k < length turns = omega (arith, ap length h ∙ length-map-range_with_len (λ j. events_of j history) 0 n) in
+    slice_get-get_or turns k [] short ∙ ap Some (ap (λ ts. get_or ts k []) h ∙ get_or-map-range_with_len (λ j. events_of j history) 0 n k k [] lt (zero-add k))
 
-pub enough : (turns : List (List Event)) (n : ℕ) (es : List Event) → turns ≡ map (λ j. events_of j (reverse es)) (range_with_len 0 n) → length turns ≡ n
-enough turns n es h = ap length h ∙ length-map-range_with_len (λ j. events_of j (reverse es)) 0 n
+pub many_turns : (turns : List (List Event)) (n : ℕ) (history : List Event) → turns ≡ map (λ j. events_of j history) (range_with_len 0 n) → length turns ≡ n
+many_turns turns n history h = ap length h ∙ length-map-range_with_len (λ j. events_of j history) 0 n
 
--- ---- turns that are lent
+-- the turn that is lent from its place
+pub turn_lent : (turns : List (List Event)) (n k : ℕ) (history turn : List Event) → turns ≡ map (λ j. events_of j history) (range_with_len 0 n) → k < n → turn ≡ get_or turns k turn → turn ≡ events_of k history
+turn_lent turns n k history turn h lt is =
+    is ∙ get_or_from_slice_get turns k (events_of k history) turn (turn_in turns n k history h lt)
 
-pub many_turns : (turns : List (Bor (List Event))) (n : ℕ) (es : List Event) → map (λ turn. turn.now) turns ≡ map (λ j. events_of j (reverse es)) (range_with_len 0 n) → length turns ≡ n
-many_turns turns n es h = simp length-map at (enough (map (λ (turn : Bor (List Event)). turn.now) turns) n es h)
+pub told_in : (turns : List (List Event)) (n k : ℕ) (history : List Event) → turns ≡ map (λ j. events_of j history) (range_with_len 0 n) → k ≤ n → flat_map (λ events. events) (take k turns) ≡ events_before k history
+told_in turns n k history h le =
+    told_before turns n k (reverse history) (h ∙ ap (λ past. map (λ j. events_of j past) (range_with_len 0 n)) (sym (reverse-reverse history))) le ∙ ap (events_before k) (reverse-reverse history)
 
-some_is : (x y : List Event) → Some x ≡ Some y → x ≡ y
-some_is x y h = cc
+-- ---- the next turn is taken away
 
-pub turn_lent : (turns : List (Bor (List Event))) (n k : ℕ) (es : List Event) (turn : Bor (List Event)) → map (λ t. t.now) turns ≡ map (λ j. events_of j (reverse es)) (range_with_len 0 n) → k < n
-    → turn ≡ get_or turns k turn → turn.now ≡ events_of k (reverse es)
-turn_lent turns n k es turn h lt is =
-    let short : k < length turns = omega (arith, many_turns turns n es h) in
-    some_is turn.now (events_of k (reverse es))
-    (ap (λ (t : Bor (List Event)). Some t.now) is ∙ ap (option_map (λ (t : Bor (List Event)). t.now)) (sym (slice_get-get_or turns k turn short)) ∙ sym (slice_get-map (λ (t : Bor (List Event)). t.now) turns k)
-    ∙ turn_in (map (λ (t : Bor (List Event)). t.now) turns) n k es h lt)
-
-flat_now : (turns : List (Bor (List Event))) → flat_map (λ turn. turn.now) turns ≡ flat_map (λ events. events) (map (λ turn. turn.now) turns)
-flat_now [] = refl
-flat_now (turn ∷ turns) = ap (λ l. turn.now ++ l) (flat_now turns)
-
-pub told_lent : (turns : List (Bor (List Event))) (n k : ℕ) (es : List Event) → map (λ t. t.now) turns ≡ map (λ j. events_of j (reverse es)) (range_with_len 0 n) → k ≤ n
-    → flat_map (λ turn. turn.now) (take k turns) ≡ events_before k (reverse es)
-told_lent turns n k es h le =
-    flat_now (take k turns) ∙ ap (flat_map (λ events. events)) (sym (take-map (λ (t : Bor (List Event)). t.now) k turns))
-    ∙ told_before (map (λ (t : Bor (List Event)). t.now) turns) n k es h le
+pub without_begin : (es rest later : List Event) (first : Option (Bor Event)) → rest ≡ drop (position_or_len is_begin es) es → YieldsFirstRef (λ s. s) rest first later → later ≡ after_first is_begin es
+without_begin es rest later None r y =
+    y.1 ∙ sym (ap (drop 1) (sym r ∙ y.0)) ∙ drop-drop 1 (position_or_len is_begin es) es
+without_begin es rest later (Some e) r y =
+    sym (ap (drop 1) y) ∙ ap (drop 1) r ∙ drop-drop 1 (position_or_len is_begin es) es

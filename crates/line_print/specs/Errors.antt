@@ -4,6 +4,8 @@ use Rattle.serde_json.specs.Data.{Data, null, string, array}
 use Rattle.serde_json.specs.View.{items_of}
 use Rattle.query_parse.specs.declared.fault.BodyError.{BodyError}
 use Rattle.query_parse.specs.declared.fault.BodyError.TheVariants.{UnknownField, BadQuery, BadSort, BadSize, WindowTooLarge, Memory}
+use Rattle.query_parse.specs.declared.fault.ReindexError.{ReindexError}
+use Rattle.query_parse.specs.declared.fault.ReindexError.TheVariants as reindexes
 use Rattle.query_parse.specs.declared.fault.QueryFault.{QueryFault}
 use Rattle.query_parse.specs.declared.fault.QueryFault.TheVariants.{UnknownQuery, BadValue, NotOneKey}
 use Rattle.task_ids.specs.declared.task_id.TaskId.{TaskId}
@@ -15,7 +17,7 @@ use Rattle.task_events.specs.Printed.{object_of, count}
 use Rattle.scroll_table.specs.declared.context.PageError.{PageError}
 use Rattle.scroll_table.specs.declared.context.PageError.TheVariants.{Missing, Busy}
 
--- ---- why a search did not start
+-- ---- why a search or a reindex did not start
 
 abbrev pub fault_name : QueryFault → List ℕ
 fault_name UnknownQuery = codes "unknown_query"
@@ -26,16 +28,27 @@ fault_name NotOneKey = codes "not_one_key"
 abbrev pub field_error : List ℕ → List ℕ → Data
 field_error kind field = object_of ((codes "field", string field) ∷ (codes "type", string kind) ∷ [])
 
--- the first fault of a body; want of memory is none
+-- the first fault of a query, by its path
+abbrev pub bad_query : List ℕ → QueryFault → Data
+bad_query path fault = object_of ((codes "kind", string (fault_name fault)) ∷ (codes "path", string path) ∷ (codes "type", string (codes "bad_query")) ∷ [])
+
+-- the first fault of a search's body; want of memory is none
 abbrev pub body_error : BodyError → Data
 body_error (UnknownField field) = field_error (codes "unknown_field") field
-body_error (BadQuery path fault) = object_of ((codes "kind", string (fault_name fault)) ∷ (codes "path", string path) ∷ (codes "type", string (codes "bad_query")) ∷ [])
+body_error (BadQuery path fault) = bad_query path fault
 body_error (BadSort field) = field_error (codes "bad_sort") field
 body_error (BadSize field) = field_error (codes "bad_size") field
 body_error (WindowTooLarge window) = object_of ((codes "limit", count 10000) ∷ (codes "type", string (codes "window_too_large")) ∷ (codes "window", count window) ∷ [])
 body_error Memory = null
 
--- no document of the input is in the index
+-- the first fault of a reindex's body; want of memory is none
+abbrev pub reindex_error : ReindexError → Data
+reindex_error (reindexes.UnknownField path) = field_error (codes "unknown_field") path
+reindex_error (reindexes.BadReindex path) = field_error (codes "bad_reindex") path
+reindex_error (reindexes.BadQuery path fault) = bad_query path fault
+reindex_error reindexes.Memory = null
+
+-- the index is not known
 abbrev pub index_not_found : List ℕ → Data
 index_not_found index = object_of ((codes "index", string index) ∷ (codes "type", string (codes "index_not_found")) ∷ [])
 

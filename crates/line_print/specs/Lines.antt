@@ -1,13 +1,15 @@
 -- The lines of a script's output: one JSON object a command, compact, its keys in byte order, and a newline. Commands are numbered from 1.
 use Rattle.std.specs.Prelude.{◌≡◌, ℕ, ◌+◌, ◌-◌, Bool, true, false, List, [], ◌∷◌, ◌++◌, length, map, filter_map, if◌then◌else◌, Option, Some, None, is_some, option_map, option_and_then, Result, Ok, Err, codes, decimal, slice_get, nat_le, unwrap_or, ⊤}
 use Rattle.std.specs.List.{list_any}
-use Rattle.std.specs.Str.{bytes_eq}
 use Rattle.serde_json.specs.Data.{Data, boolean, string, array}
 use Rattle.serde_json.specs.View.{items_of}
 use Rattle.serde_json.specs.Written.{compact_text}
 use Rattle.query_parse.specs.declared.fault.BodyError.{BodyError}
+use Rattle.query_parse.specs.declared.fault.ReindexError.{ReindexError}
+use Rattle.query_parse.specs.declared.reindex_body.ReindexBody.{ReindexBody}
 use Rattle.query_match.specs.declared.body.SearchBody.{SearchBody}
 use Rattle.query_parse.specs.Bodies.{body_at}
+use Rattle.query_parse.specs.Reindexes.{reindex_at}
 use Rattle.task_ids.specs.declared.task_id.TaskId.{TaskId}
 use Rattle.task_ids.specs.declared.cluster.Cluster.{Cluster}
 use Rattle.task_ids.specs.declared.corpus.Corpus.{Corpus}
@@ -17,14 +19,16 @@ use Rattle.script_lang.specs.declared.command.CancelTarget.TheVariants.{Task, Ma
 use Rattle.script_lang.specs.declared.command.Command.{Command}
 use Rattle.script_lang.specs.declared.command.Command.TheVariants as commands
 use Rattle.script_lang.specs.declared.command.Script.{Script}
+use Rattle.command_roots.specs.Known.{is_known}
 use Rattle.command_roots.specs.Roots.{context_named, least_size, page_answer, rows_of, scripted}
 use Rattle.scroll_table.specs.declared.context.PageError.{PageError}
 use Rattle.task_events.specs.declared.context.Context.{Context}
 use Rattle.task_events.specs.declared.event.Event.{Event}
 use Rattle.task_events.specs.declared.event.Event.TheVariants.{Root, RootRejected, Refuse, Cancel, NotFound, End}
+use Rattle.task_events.specs.declared.reply.Counts.{Counts}
 use Rattle.task_events.specs.declared.reply.Reply.{Reply}
 use Rattle.task_events.specs.declared.reply.SearchReply.{SearchReply}
-use Rattle.task_events.specs.declared.reply.Reply.TheVariants.{Search, AllFailed, Cancelled}
+use Rattle.task_events.specs.declared.reply.Reply.TheVariants.{Search, AllFailed, Wrote, Cancelled}
 use Rattle.task_events.specs.Printed.{object_of, count, search_json, shards_read, reply_line}
 use Rattle.task_events.specs.Tasks.{no_counts, is_live, reply_of}
 use Rattle.task_events.specs.Messages.{in_flight}
@@ -35,7 +39,7 @@ use Rattle.task_events.specs.Turns.{events_of, events_before, history_before}
 use Rattle.tasks_api.specs.Lists.{list_text}
 use Rattle.line_print.specs.declared.note.Note.{Note}
 use Rattle.line_print.specs.declared.note.Note.TheVariants.{NoSuchMessage, NotRunning, Waiting, NoListing, NoPage, Freed, Moment, Listed}
-use Rattle.line_print.specs.Errors.{body_error, index_not_found, rejected, task_cancelled, all_shards_failed, not_found, context_error, plain_error, no_such_message}
+use Rattle.line_print.specs.Errors.{body_error, reindex_error, index_not_found, rejected, task_cancelled, all_shards_failed, not_found, context_error, plain_error, no_such_message}
 
 -- the line of a command that has no reply
 abbrev pub error_line : ℕ → Data → List ℕ
@@ -90,11 +94,7 @@ first_in look xs = slice_get (filter_map look xs) 0
 abbrev pub started : ℕ → List Event → Option TaskId
 started k history = first_in root_in (events_of k history)
 
--- some document of the input is in the index
-abbrev pub is_known : Corpus → List ℕ → Bool
-is_known corpus index = list_any (λ line. bytes_eq index line.index) corpus.lines
-
--- why a search whose body has no fault has no task: an index that there is not, and else a node without a free slot
+-- why a search or a reindex whose body has no fault has no task: an index that there is not, and else a node without a free slot
 abbrev pub start_refusal : List ℕ → Bool → Option ℕ → Option Data
 start_refusal index false full_node = Some (index_not_found index)
 start_refusal index true (Some node) = Some (rejected node)
@@ -121,6 +121,32 @@ ended_line shards script k _ = []
 abbrev pub search_line : (SearchReply → ℕ) → List Command → ℕ → Option Data → Option Reply → List ℕ
 search_line shards script k (Some error) reply = error_line k error
 search_line shards script k None reply = ended_line shards script k reply
+
+-- ---- reindexes
+
+-- Why a reindex has no task: a fault of its body, and else what refuses its start, where the index that it reads must be known.
+abbrev pub reindex_refusal : (List ℕ → Bool) → Result ReindexBody ReindexError → Option ℕ → Option Data
+reindex_refusal known (Err fault) full_node = Some (reindex_error fault)
+reindex_refusal known (Ok body) full_node = start_refusal body.source (known body.source) full_node
+
+-- what a reindex has done, after Elasticsearch's reindex API
+abbrev pub done_json : Counts → Data
+done_json counts = object_of ((codes "batches", count counts.batches) ∷ (codes "created", count counts.created) ∷ (codes "failures", count counts.failures) ∷ (codes "total", count counts.total) ∷ (codes "updated", count counts.updated) ∷ [])
+
+-- what a reindex had done when it was cancelled, and why it was
+abbrev pub cancelled_json : List ℕ → Counts → Data
+cancelled_json reason counts = object_of ((codes "batches", count counts.batches) ∷ (codes "canceled", string reason) ∷ (codes "created", count counts.created) ∷ (codes "total", count counts.total) ∷ (codes "updated", count counts.updated) ∷ [])
+
+-- How a reindex ended: well, or cancelled. It tells in either case what it has done.
+abbrev pub wrote_line : List Command → ℕ → Option Reply → List ℕ
+wrote_line script k (Some (Wrote counts)) = reply_line k (done_json counts)
+wrote_line script k (Some (Cancelled t c counts)) = reply_line k (cancelled_json (reason_of script c) counts)
+wrote_line script k _ = []
+
+-- why a reindex has no task, or how its task ended
+abbrev pub reindex_line : List Command → ℕ → Option Data → Option Reply → List ℕ
+reindex_line script k (Some error) reply = error_line k error
+reindex_line script k None reply = wrote_line script k reply
 
 -- ---- scrolls
 
@@ -237,9 +263,11 @@ settled events = object_of ((codes "events", count events) ∷ [])
 -- moment after a tick, and of a line of a schedule why nothing happened.
 abbrev pub line_of : Cluster → Corpus → List Command → List Event → ℕ → Command → Option Note → List ℕ
 line_of cluster corpus script history k (commands.Search index node scroll body opaque_id) noted =
-    search_line (λ reply. cluster.shards) script k (refusal index (body_at (is_some scroll) (least_size scroll) body) (is_known corpus index) (first_in full_node_in (events_of k history))) (option_and_then (λ t. reply_of t history) (started k history))
+    search_line (λ reply. cluster.shards) script k (refusal index (body_at (is_some scroll) (least_size scroll) body) (is_known corpus script index) (first_in full_node_in (events_of k history))) (option_and_then (λ t. reply_of t history) (started k history))
 line_of cluster corpus script history k (commands.Scroll target keep opaque_id) noted =
     search_line shards_read script k (page_refusal noted (first_in full_node_in (events_of k history))) (option_and_then (λ t. reply_of t history) (started k history))
+line_of cluster corpus script history k (commands.Reindex node body slices rate opaque_id) noted =
+    reindex_line script k (reindex_refusal (is_known corpus script) (reindex_at body) (first_in full_node_in (events_of k history))) (option_and_then (λ t. reply_of t history) (started k history))
 line_of cluster corpus script history k (commands.ClearScroll target) noted = clear_line k noted
 line_of cluster corpus script history k (commands.Tick ms) noted = tick_line k noted
 line_of cluster corpus script history k (commands.Cancel target reason wait) noted = cancel_line k (target_in script history target) wait (events_of k history)

@@ -7,12 +7,12 @@ use Rattle.std.specs.Str.{bytes_eq}
 use Rattle.task_ids.specs.declared.task_id.TaskId.{TaskId}
 use Rattle.task_events.specs.Tasks.{reply_of}
 use Rattle.task_events.specs.Turns.{events_of}
+use Rattle.command_roots.specs.Known.{is_known}
 use Rattle.line_print.specs.declared.run.Run.{Run}
 use Rattle.line_print.specs.Ends.{same_id, reply_at}
-use Rattle.line_print.specs.Lines.{is_known}
 
 -- what was looked up is what there is
 pub record IsReady (run : Run) : Type 0 where
-  pub turns : map (λ turn. turn.now) run.turns.items ≡ map (λ k. events_of k (reverse run.events.now)) (range_with_len 0 (length run.script.now + 1))
-  pub ends : (t : TaskId) → reply_at run.events.now (get same_id run.ends t) ≡ reply_of t (reverse run.events.now)
-  pub known : (index : List ℕ) → contains_by (λ k. bytes_eq index k.now) run.known ≡ is_known run.corpus.now index
+  pub turns : run.turns.items ≡ map (λ k. events_of k run.history.now) (range_with_len 0 (length run.script.now + 1))
+  pub ends : (t : TaskId) → reply_at (reverse run.history.now) (get same_id run.ends t) ≡ reply_of t run.history.now
+  pub known : (index : List ℕ) → contains_by (λ k. bytes_eq index k.now) run.known ≡ is_known run.corpus.now run.script.now index

@@ -14,7 +14,7 @@ use crate::members::with_member;
 use crate::write::{error_line, reply_line};
 use serde_json::{Map, Value};
 use std::alloc::{AllocError, Global};
-use task_events::Event;
+use task_events::{Event, Events};
 use task_ids::TaskId;
 
 fn named_in(event: &Event) -> Option<TaskId>
@@ -32,10 +32,10 @@ fn is_not_found(event: &Event) -> bool
     matches!(event, Event::NotFound { .. })
 }
 
-fn finds_none(turn: &[Event]) -> bool
+fn finds_none(turn: &Events<'_>) -> bool
     ensures { result ≡ list_any finds_none turn.now }
 {
-    for event in turn {
+    for event in turn.iter() {
         if is_not_found(event) {
             return true;
         }
@@ -52,12 +52,12 @@ fn push_id(alloc: Global, values: &mut Vec<Value>, task: TaskId) -> Result<(), A
 }
 
 /// The ids of the tasks that a cancel named, by the events of its turn.
-fn named(alloc: Global, turn: &[Event]) -> Result<Value, AllocError>
+fn named(alloc: Global, turn: &Events<'_>) -> Result<Value, AllocError>
     ensures { IfOk result (λ value. view value
         ≡ array (items_of (map (λ t. string (task_id_text t)) (filter_map named_in turn.now)))) }
 {
     let mut values = Vec::new(alloc);
-    for event in turn {
+    for event in turn.iter() {
         if let Some(task) = named_in(event) {
             push_id(alloc, &mut values, task)?;
         }
@@ -65,7 +65,7 @@ fn named(alloc: Global, turn: &[Event]) -> Result<Value, AllocError>
     Ok(Value::Array(values))
 }
 
-fn cancelled(alloc: Global, turn: &[Event], wait: bool) -> Result<Value, AllocError>
+fn cancelled(alloc: Global, turn: &Events<'_>, wait: bool) -> Result<Value, AllocError>
     ensures { IfOk result (λ value. view value ≡ cancelled (filter_map named_in turn.now) wait) }
 {
     let tasks = named(alloc, turn)?;
@@ -93,7 +93,7 @@ fn named_line(
     out: &mut Vec<u8>,
     command: u32,
     wait: bool,
-    turn: &[Event],
+    turn: &Events<'_>,
 ) -> Result<(), AllocError>
     ensures { OnOk result (out.new.items ≡ out.old.items ++ reply_line command (cancelled (filter_map named_in turn.now) wait)) }
 {
@@ -108,7 +108,7 @@ pub(crate) fn cancel_line(
     command: u32,
     target: Option<TaskId>,
     wait: bool,
-    turn: &[Event],
+    turn: &Events<'_>,
 ) -> Result<(), AllocError>
     ensures { OnOk result (out.new.items ≡ out.old.items ++ cancel_line command target wait turn.now) }
 {

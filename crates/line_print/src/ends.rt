@@ -9,7 +9,7 @@ ghost use Rattle.line_print.specs.Ends.{same_id, reply_at};
 
 use std::alloc::{AllocError, Global};
 use std::collections::HashMap;
-use task_events::Event;
+use task_events::{Event, History};
 use task_ids::TaskId;
 
 /// The task that ends with an event.
@@ -22,12 +22,18 @@ fn ended(event: &Event) -> Option<TaskId>
     }
 }
 
-/// For each task that has ended, the place of the event with which it did, among the events in order.
-pub(crate) fn ends_of(alloc: Global, events: &[Event]) -> Result<HashMap<TaskId, usize>, AllocError>
-    ensures { IfOk result (λ ends. (t : TaskId) → reply_at events.now (get same_id ends t) ≡ reply_of t (reverse events.now)) }
+/// For each task that has ended, the place of the event with which it did, from the oldest at 0.
+pub(crate) fn ends_of(
+    alloc: Global,
+    history: &History,
+) -> Result<HashMap<TaskId, usize>, AllocError>
+    ensures { IfOk result (λ ends. (t : TaskId) → reply_at (reverse history.now) (get same_id ends t) ≡ reply_of t history.now) }
 {
     let mut ends = HashMap::new(alloc);
-    for (at, event) in events.iter().enumerate() {
+    for at in 0..history.len() {
+        let Some(event) = history.get(at) else {
+            unreachable!()
+        };
         if let Some(task) = ended(event) {
             ends.insert(task, at)?;
         }

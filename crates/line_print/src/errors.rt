@@ -2,14 +2,14 @@
 
 ghost use Rattle.std.specs.Prelude.{◌≡◌, [], ◌∷◌, ◌++◌, OnOk, IfOk, Some, map, codes};
 ghost use Rattle.serde_json.specs.Data.{string, array, put, no_members};
-ghost use Rattle.query_parse.specs.declared.fault.BodyError.TheVariants.{BadQuery, WindowTooLarge};
+ghost use Rattle.query_parse.specs.declared.fault.BodyError.TheVariants.{WindowTooLarge};
 ghost use Rattle.serde_json.specs.View.{view, items_of, members_view};
 ghost use Rattle.task_ids.specs.TaskId.{task_id_text, node_name};
 ghost use Rattle.task_events.specs.declared.reply.ShardFailure.TheVariants.{Cancelled, Rejected};
-ghost use Rattle.line_print.specs.Errors.{body_error, index_not_found, rejected, task_cancelled, shard_failure, failed_shard, all_shards_failed, id_or_null, not_found, context_fault, context_error, plain_error, no_such_message, field_error, fault_name};
+ghost use Rattle.line_print.specs.Errors.{bad_query, body_error, reindex_error, index_not_found, rejected, task_cancelled, shard_failure, failed_shard, all_shards_failed, id_or_null, not_found, context_fault, context_error, plain_error, no_such_message, field_error, fault_name};
 
 use crate::members::{of_type, with_member, with_number, with_text};
-use query_parse::{BodyError, QueryFault};
+use query_parse::{BodyError, QueryFault, ReindexError};
 use scroll_table::PageError;
 use serde_json::{Map, Value};
 use std::alloc::{AllocError, Global};
@@ -61,7 +61,7 @@ pub(crate) fn task_cancelled(alloc: Global, reason: &str, task: TaskId) -> Resul
     of_type(alloc, named, "task_cancelled")
 }
 
-/// No document of the input is in the index.
+/// The index is not known.
 pub(crate) fn index_not_found(alloc: Global, index: &str) -> Result<Value, AllocError>
     ensures { IfOk result (λ value. view value ≡ index_not_found index.now) }
 {
@@ -96,7 +96,7 @@ fn field_error(alloc: Global, kind: &str, field: &str) -> Result<Value, AllocErr
 }
 
 fn bad_query(alloc: Global, path: &str, fault: QueryFault) -> Result<Value, AllocError>
-    ensures { IfOk result (λ value. view value ≡ body_error (BadQuery path.now fault)) }
+    ensures { IfOk result (λ value. view value ≡ bad_query path.now fault) }
 {
     let told = with_text(alloc, Map::new(alloc), "kind", fault_name(fault))?;
     let placed = with_text(alloc, told, "path", path)?;
@@ -122,6 +122,18 @@ pub(crate) fn body_error(alloc: Global, error: &BodyError) -> Result<Value, Allo
         BodyError::BadSize(field) => field_error(alloc, "bad_size", field.as_str()),
         BodyError::WindowTooLarge(window) => window_too_large(alloc, *window),
         BodyError::Memory => Ok(Value::Null),
+    }
+}
+
+/// The first fault of a reindex's body.
+pub(crate) fn reindex_error(alloc: Global, fault: &ReindexError) -> Result<Value, AllocError>
+    ensures { IfOk result (λ value. view value ≡ reindex_error fault.now) }
+{
+    match fault {
+        ReindexError::UnknownField(path) => field_error(alloc, "unknown_field", path.as_str()),
+        ReindexError::BadReindex(path) => field_error(alloc, "bad_reindex", path.as_str()),
+        ReindexError::BadQuery { path, kind } => bad_query(alloc, path.as_str(), *kind),
+        ReindexError::Memory => Ok(Value::Null),
     }
 }
 

@@ -4,6 +4,7 @@
 mod cancel_lines;
 mod ends;
 mod errors;
+mod known;
 mod laws;
 mod lines;
 mod list_lines;
@@ -11,6 +12,7 @@ mod members;
 mod moves;
 mod note;
 mod print;
+mod reindex_lines;
 mod run;
 mod scroll_lines;
 mod searches;

@@ -1,23 +1,27 @@
 //! All lines of a script's output.
 
-ghost use Rattle.std.specs.Prelude.{◌≡◌, ◌+◌, ◌<◌, ◌≤◌, ◌++◌, None, IfOk, OnOk, length, reverse, slice_get, option_map, unwrap_or};
+ghost use Rattle.std.specs.Prelude.{◌≡◌, ◌+◌, ◌<◌, ◌≤◌, ◌++◌, None, IfOk, OnOk, length, slice_get, option_map, unwrap_or};
+ghost use Rattle.command_roots.specs.Known.{dests_of};
 ghost use Rattle.line_print.specs.Lines.{line_of, printed, printed_by, IsFound};
 ghost use Rattle.line_print.specs.Looked.{IsReady};
 
 use crate::cancel_lines::cancel_line;
 use crate::ends::ends_of;
+use crate::known::indices_of;
 use crate::list_lines::list_line;
 use crate::moves::{moved_line, settled_line};
 use crate::note::Note;
+use crate::reindex_lines::reindex_line;
 use crate::run::Run;
 use crate::scroll_lines::{clear_line, scroll_line, tick_line};
-use crate::searches::{indices_of, search_line};
+use crate::searches::search_line;
 use crate::told::events_line;
 use crate::turns::turns_of;
+use command_roots::dests_of;
 use script_lang::{Command, Script};
 use std::alloc::{AllocError, Global};
-use task_events::{Event, History};
-use task_ids::{Cluster, Corpus};
+use task_events::History;
+use task_ids::{Cluster, Corpus, Text};
 
 /// Appends the line of a command, which has this number and of which this was noted.
 fn command_line(
@@ -32,7 +36,7 @@ fn command_line(
     requires number { number ≤ length run.now.script.now }
     requires few { length run.now.script.now ≤ 65535 }
     ensures { OnOk result (out.new.items ≡ out.old.items
-        ++ line_of run.now.cluster.now run.now.corpus.now run.now.script.now (reverse run.now.events.now) number command.now (option_map (λ note. note.now) note.entry)) }
+        ++ line_of run.now.cluster.now run.now.corpus.now run.now.script.now run.now.history.now number command.now (option_map (λ note. note.now) note.entry)) }
 {
     let k = number as u32;
     let turn = run.turn(number);
@@ -44,6 +48,7 @@ fn command_line(
             ..
         } => { search_line(alloc, out, run, k, index.as_str(), scroll.is_some(), body) }
         Command::Scroll { .. } => scroll_line(alloc, out, run, k, note),
+        Command::Reindex { body, .. } => reindex_line(alloc, out, run, k, body),
         Command::ClearScroll { .. } => clear_line(alloc, out, k, note),
         Command::Tick { .. } => tick_line(alloc, out, k, note),
         Command::Cancel { target, wait, .. } => {
@@ -58,25 +63,27 @@ fn command_line(
     }
 }
 
-/// What is looked up of a run, in one pass over its events and one over the input's documents.
+/// What is looked up of a run, in one pass over its events and one over the input's documents and the indices that reindexes write to.
 fn run_of<'a>(
     alloc: Global,
     cluster: &'a Cluster,
     corpus: &'a Corpus,
+    dests: &'a [Text],
     script: &'a [Command],
-    events: &'a [Event],
+    history: &'a History,
 ) -> Result<Run<'a>, AllocError>
+    requires { dests.now ≡ dests_of script.now }
     ensures ready { IfOk result (λ run. IsReady run) }
-    ensures same { IfOk result (λ run. (run.cluster.now ≡ cluster.now) × (run.corpus.now ≡ corpus.now) × (run.script.now ≡ script.now) × (run.events.now ≡ events.now)) }
+    ensures same { IfOk result (λ run. (run.cluster.now ≡ cluster.now) × (run.corpus.now ≡ corpus.now) × (run.script.now ≡ script.now) × (run.history.now ≡ history.now)) }
 {
     Ok(Run {
         cluster,
         corpus,
         script,
-        events,
-        turns: turns_of(alloc, events, script.len())?,
-        ends: ends_of(alloc, events)?,
-        known: indices_of(alloc, corpus)?,
+        history,
+        turns: turns_of(alloc, history, script.len())?,
+        ends: ends_of(alloc, history)?,
+        known: indices_of(alloc, corpus, dests)?,
     })
 }
 
@@ -100,7 +107,7 @@ fn run_lines(
     requires ready { IsReady run.now }
     requires few { length run.now.script.now ≤ 65535 }
     ensures { OnOk result (out.new.items ≡ out.old.items
-        ++ printed_by found.now run.now.cluster.now run.now.corpus.now run.now.script.now (reverse run.now.events.now)) }
+        ++ printed_by found.now run.now.cluster.now run.now.corpus.now run.now.script.now run.now.history.now) }
 {
     for (place, command) in run.script.iter().enumerate() {
         command_line(alloc, out, run, place + 1, command, note_at(found, place))?;
@@ -111,7 +118,7 @@ fn run_lines(
 /// Appends the output of a script after its run: one line of JSON a command, in order.
 ///
 /// A search tells its hits, as Elasticsearch's search API does, and the id by which its context is scrolled, or why it has none; a
-/// scroll the next page of them, or why there is none; a clear whether it freed a context; a tick the moment; a cancel the tasks that it
+/// scroll the next page of them, or why there is none; a reindex what it has written, or why nothing; a clear whether it freed a context; a tick the moment; a cancel the tasks that it
 /// named; a list the tasks that it shows; `deliver`, `step` and `list_step` the events that they made, or why they made none; `settle` how many it
 /// made; `history` all events before it.
 ///
@@ -134,12 +141,8 @@ pub fn print_lines(
     ensures printed { IsFound cluster.now script.now history.now found.now
         → OnOk result (out.new.items ≡ out.old.items ++ printed cluster.now corpus.now script.now history.now) }
 {
-    let run = run_of(
-        alloc,
-        cluster,
-        corpus,
-        script.commands.as_slice(),
-        history.as_slice(),
-    )?;
+    let commands = script.commands.as_slice();
+    let dests = dests_of(alloc, commands)?;
+    let run = run_of(alloc, cluster, corpus, dests.as_slice(), commands, history)?;
     run_lines(alloc, out, &run, found)
 }

@@ -13,7 +13,7 @@ use crate::write::{error_line, reply_line};
 use script_lang::Command;
 use serde_json::{Map, Value};
 use std::alloc::{AllocError, Global};
-use task_events::Event;
+use task_events::Events;
 
 /// Why a line made nothing happen, if that was noted.
 fn idle_error(alloc: Global, note: Option<&Note>) -> Result<Option<Value>, AllocError>
@@ -36,13 +36,13 @@ pub(crate) fn moved_line(
     out: &mut Vec<u8>,
     script: &[Command],
     command: u32,
-    turn: &[Event],
+    turn: &Events<'_>,
     note: Option<&Note>,
 ) -> Result<(), AllocError>
     ensures { OnOk result (out.new.items ≡ out.old.items ++ moved_line script.now command turn.now (option_map (λ note. note.now) note.entry)) }
 {
     if !turn.is_empty() {
-        return events_line(alloc, out, script, command, &[turn]);
+        return events_line(alloc, out, script, command, &[turn.iter()]);
     }
     match idle_error(alloc, note)? {
         Some(error) => error_line(alloc, out, command, error),

@@ -1,6 +1,6 @@
 //! The lines of scrolls, of clears and of ticks.
 
-ghost use Rattle.std.specs.Prelude.{◌≡◌, ◌≤◌, ◌++◌, length, reverse, OnOk, IfOk, option_map, option_and_then};
+ghost use Rattle.std.specs.Prelude.{◌≡◌, ◌≤◌, ◌++◌, length, OnOk, IfOk, option_map, option_and_then};
 ghost use Rattle.serde_json.specs.View.{view};
 ghost use Rattle.task_events.specs.Printed.{shards_read};
 ghost use Rattle.task_events.specs.Tasks.{reply_of};
@@ -16,13 +16,13 @@ use crate::searches::{full_node, task_line};
 use crate::write::{Shards, error_line, reply_line};
 use serde_json::{Map, Value};
 use std::alloc::{AllocError, Global};
-use task_events::Event;
+use task_events::Events;
 
 /// Why a scroll has no task, by what was noted of it and by the events of its turn, if it has none.
 fn page_refusal(
     alloc: Global,
     note: Option<&Note>,
-    turn: &[Event],
+    turn: &Events<'_>,
 ) -> Result<Option<Value>, AllocError>
     ensures { IfOk result (λ error. option_map view error
         ≡ page_refusal (option_map (λ note. note.now) note.entry) (first_in full_node_in turn.now)) }
@@ -47,8 +47,8 @@ pub(crate) fn scroll_line(
     requires ready { IsReady run.now }
     requires command { command ≤ length run.now.script.now }
     ensures { OnOk result (out.new.items ≡ out.old.items ++ search_line shards_read run.now.script.now command
-        (page_refusal (option_map (λ note. note.now) note.entry) (first_in full_node_in (events_of command (reverse run.now.events.now))))
-        (option_and_then (λ t. reply_of t (reverse run.now.events.now)) (started command (reverse run.now.events.now)))) }
+        (page_refusal (option_map (λ note. note.now) note.entry) (first_in full_node_in (events_of command run.now.history.now)))
+        (option_and_then (λ t. reply_of t run.now.history.now) (started command run.now.history.now))) }
 {
     match page_refusal(alloc, note, run.turn(command as usize))? {
         Some(error) => error_line(alloc, out, command, error),

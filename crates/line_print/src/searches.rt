@@ -1,15 +1,14 @@
 //! The lines of searches, and of what scrolls have in common with them.
 
-ghost use Rattle.std.specs.Prelude.{◌≡◌, ◌≤◌, ◌++◌, ℕ, length, reverse, List, OnOk, IfOk, Some, None, option_map, option_and_then, if◌then◌else◌};
-ghost use Rattle.std.specs.HashSet.{contains_by};
-ghost use Rattle.std.specs.Str.{bytes_eq};
+ghost use Rattle.std.specs.Prelude.{◌≡◌, ◌≤◌, ◌++◌, length, OnOk, IfOk, Some, None, option_map, option_and_then, if◌then◌else◌};
 ghost use Rattle.serde_json.specs.View.{view};
 ghost use Rattle.query_parse.specs.Bodies.{body_at};
+ghost use Rattle.command_roots.specs.Known.{is_known};
 ghost use Rattle.task_events.specs.Tasks.{reply_of};
 ghost use Rattle.task_events.specs.Turns.{events_of};
 ghost use Rattle.line_print.specs.Errors.{body_error, task_cancelled};
 ghost use Rattle.line_print.specs.Lines as lines;
-ghost use Rattle.line_print.specs.Lines.{reason_of, is_known, first_in, root_in, full_node_in, started, ending, fault_in, start_refusal, refusal, ended_line, search_line};
+ghost use Rattle.line_print.specs.Lines.{reason_of, first_in, root_in, full_node_in, started, ending, fault_in, start_refusal, refusal, ended_line, search_line};
 ghost use Rattle.line_print.specs.Looked.{IsReady};
 ghost use Rattle.line_print.specs.Replies.{shards_told};
 
@@ -21,9 +20,8 @@ use query_parse::{BodyError, read_body};
 use script_lang::Command;
 use serde_json::Value;
 use std::alloc::{AllocError, Global};
-use std::collections::HashSet;
-use task_events::{Event, Reply};
-use task_ids::{Corpus, DocSource, TaskId};
+use task_events::{Event, Events, Reply};
+use task_ids::{DocSource, TaskId};
 
 fn root_in(event: &Event) -> Option<TaskId>
     ensures { result ≡ root_in event.now }
@@ -35,10 +33,10 @@ fn root_in(event: &Event) -> Option<TaskId>
 }
 
 /// The task that a command started, by the events of its turn.
-pub(crate) fn started(turn: &[Event]) -> Option<TaskId>
+pub(crate) fn started(turn: &Events<'_>) -> Option<TaskId>
     ensures { result ≡ first_in root_in turn.now }
 {
-    for event in turn {
+    for event in turn.iter() {
         if let Some(task) = root_in(event) {
             return Some(task);
         }
@@ -56,29 +54,15 @@ fn full_node_in(event: &Event) -> Option<u32>
 }
 
 /// The node that had no slot for a command's task, by the events of its turn.
-pub(crate) fn full_node(turn: &[Event]) -> Option<u32>
+pub(crate) fn full_node(turn: &Events<'_>) -> Option<u32>
     ensures { result ≡ first_in full_node_in turn.now }
 {
-    for event in turn {
+    for event in turn.iter() {
         if let Some(node) = full_node_in(event) {
             return Some(node);
         }
     }
     None
-}
-
-/// The indices of the input's documents.
-pub(crate) fn indices_of<'a>(
-    alloc: Global,
-    corpus: &'a Corpus,
-) -> Result<HashSet<&'a str>, AllocError>
-    ensures { IfOk result (λ known. (index : List ℕ) → contains_by (λ k. bytes_eq index k.now) known ≡ is_known corpus.now index) }
-{
-    let mut known = HashSet::new(alloc);
-    for line in corpus.lines.as_slice() {
-        known.insert(line.index.as_str())?;
-    }
-    Ok(known)
 }
 
 /// The fault of a search's body as JSON, if it has one. With scrolls it must show the first hits, at least one.
@@ -99,8 +83,8 @@ fn body_refusal(alloc: Global, scrolls: bool, body: &DocSource) -> Result<Option
     }
 }
 
-/// Why a search whose body has no fault has no task, if it has none.
-fn start_refusal(
+/// Why a search or a reindex whose body has no fault has no task, if it has none.
+pub(crate) fn start_refusal(
     alloc: Global,
     index: &str,
     known: bool,
@@ -124,7 +108,7 @@ pub(crate) fn refusal(
     scrolls: bool,
     body: &DocSource,
     known: bool,
-    turn: &[Event],
+    turn: &Events<'_>,
 ) -> Result<Option<Value>, AllocError>
     ensures { IfOk result (λ error. option_map view error
         ≡ refusal index.now (body_at scrolls (if scrolls then 1 else 0) body.now) known (first_in full_node_in turn.now)) }
@@ -208,7 +192,7 @@ pub(crate) fn task_line(
     requires ready { IsReady run.now }
     requires command { command ≤ length run.now.script.now }
     ensures { OnOk result (out.new.items ≡ out.old.items ++ ended_line (shards_told shards) run.now.script.now command
-        (option_and_then (λ t. reply_of t (reverse run.now.events.now)) (started command (reverse run.now.events.now)))) }
+        (option_and_then (λ t. reply_of t run.now.history.now) (started command run.now.history.now))) }
 {
     match run.end_of(started(run.turn(command as usize))) {
         Some(event) => end_line(alloc, out, shards, run.script, command, event),
@@ -229,8 +213,8 @@ pub(crate) fn search_line(
     requires ready { IsReady run.now }
     requires command { command ≤ length run.now.script.now }
     ensures { OnOk result (out.new.items ≡ out.old.items ++ search_line (λ reply. run.now.cluster.now.shards) run.now.script.now command
-        (refusal index.now (body_at scrolls (if scrolls then 1 else 0) body.now) (is_known run.now.corpus.now index.now) (first_in full_node_in (events_of command (reverse run.now.events.now))))
-        (option_and_then (λ t. reply_of t (reverse run.now.events.now)) (started command (reverse run.now.events.now)))) }
+        (refusal index.now (body_at scrolls (if scrolls then 1 else 0) body.now) (is_known run.now.corpus.now run.now.script.now index.now) (first_in full_node_in (events_of command run.now.history.now)))
+        (option_and_then (λ t. reply_of t run.now.history.now) (started command run.now.history.now))) }
 {
     let turn = run.turn(command as usize);
     let known = run.known.contains(index);

@@ -14,7 +14,7 @@ use crate::write::push_start;
 use event_text::write_event;
 use script_lang::Command;
 use std::alloc::{AllocError, Global};
-use task_events::Event;
+use task_events::{Event, Events};
 
 /// The reason of the cancellation of this number, which is that of its command.
 pub(crate) fn reason_of(script: &[Command], cancel: u32) -> &str
@@ -57,7 +57,7 @@ fn push_events(
     out: &mut Vec<u8>,
     script: &[Command],
     later: bool,
-    events: &[Event],
+    events: &Events<'_>,
 ) -> Result<bool, AllocError>
     // Whatever comes after them, it goes on as one list.
     ensures { IfOk result (λ has. (more : List Event) →
@@ -65,7 +65,7 @@ fn push_events(
         ≡ out.old.items ++ items_text later (items_of (map (λ event. string (told script.now event)) (events.now ++ more)))) }
 {
     let mut has = later;
-    for event in events {
+    for event in events.iter() {
         push_comma(out, has)?;
         push_event(alloc, out, script, event)?;
         has = true;
@@ -79,15 +79,15 @@ pub(crate) fn events_line(
     out: &mut Vec<u8>,
     script: &[Command],
     command: u32,
-    turns: &[&[Event]],
+    turns: &[Events<'_>],
 ) -> Result<(), AllocError>
     ensures { OnOk result (out.new.items
-        ≡ out.old.items ++ reply_line command (told_all script.now (flat_map (λ turn. turn.now) turns.now))) }
+        ≡ out.old.items ++ reply_line command (told_all script.now (flat_map (λ turn. turn) turns.now))) }
 {
     push_start(alloc, out, command, ",\"reply\":[")?;
     let mut later = false;
     for turn in turns {
-        later = push_events(alloc, out, script, later, *turn)?;
+        later = push_events(alloc, out, script, later, turn)?;
     }
     push(out, "]}\n")
 }

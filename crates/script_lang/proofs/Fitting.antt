@@ -3,10 +3,10 @@ use Rattle.std.proofs.Common.{◌≡◌, ℕ, suc, ◌+◌, ◌≤◌, ◌<◌, 
 use Rattle.std.proofs.lemmas.List.{append-nil, length-append}
 use Rattle.std.specs.List.{position_from}
 use Rattle.std.specs.Option.{ok_or}
-use Rattle.std.specs.Prelude.{nat_le}
+use Rattle.std.specs.Prelude.{nat_le, ℤ, pos, negsuc, zero}
 use Rattle.std.specs.Str.{bytes_eq}
 use Rattle.serde_json.specs.Data.{Data, Members}
-use Rattle.serde_json.specs.Find.{get_member, as_number, as_u64}
+use Rattle.serde_json.specs.Find.{get_member, as_number, as_u64, as_i64}
 use Rattle.shard_docs.specs.Fault.{and_then, on_line}
 use Rattle.shard_docs.specs.Json.{whole_json_of}
 use Rattle.shard_docs.proofs.ActionLemmas.{found_on_line}
@@ -15,22 +15,23 @@ use Rattle.task_ids.specs.declared.cause.Cause.TheVariants.{TooManyLines, Unknow
 use Rattle.script_lang.specs.declared.command.CancelTarget.{CancelTarget}
 use Rattle.script_lang.specs.declared.command.CancelTarget.TheVariants as targets
 use Rattle.script_lang.specs.declared.command.Command.{Command}
-use Rattle.script_lang.specs.declared.command.Command.TheVariants.{Search, Scroll, ClearScroll, Cancel, ListTasks, Tick, Deliver, Step, ListStep, Settle, History}
+use Rattle.script_lang.specs.declared.command.Command.TheVariants.{Search, Scroll, ClearScroll, Reindex, Cancel, ListTasks, Tick, Deliver, Step, ListStep, Settle, History}
 use Rattle.script_lang.specs.declared.command.ContextTarget.{ContextTarget}
 use Rattle.script_lang.specs.declared.command.ContextTarget.TheVariants as contexts
 use Rattle.script_lang.specs.declared.command.Mode.{Mode}
 use Rattle.script_lang.specs.declared.kind.Kind.{Kind}
 use Rattle.script_lang.specs.declared.kind.Kind.TheVariants as kinds
-use Rattle.script_lang.specs.Commands.{search_fields, search_in, scroll_fields, scroll_in, clear_fields, clear_in, cancel_fields, cancel_in, list_fields, list_in, list_step_fields, list_step_in, command_of_kind, only_member, is_run, command_in}
-use Rattle.script_lang.specs.Fields.{both, fields_of, text_of, text_or, optional_text, node_in, node_or_first, task_in, group_or_nodes, flag_or_false, body_in, number_in, optional_keep_alive, time_in, truth_in}
+use Rattle.script_lang.specs.Commands.{search_fields, search_in, scroll_fields, scroll_in, clear_fields, clear_in, reindex_fields, reindex_in, cancel_fields, cancel_in, list_fields, list_in, list_step_fields, list_step_in, command_of_kind, only_member, is_run, command_in}
+use Rattle.script_lang.specs.Fields.{both, fields_of, text_of, text_or, optional_text, node_in, node_or_first, task_in, group_or_nodes, flag_or_false, body_in, object_in, number_in, from_1_to, max_slices, slices_or_one, max_rate, rate_of, rate_or_none, optional_keep_alive, time_in, truth_in}
 use Rattle.script_lang.specs.Filters.{has_filter, filter_in}
-use Rattle.script_lang.specs.Fits.{IsNodeOf, NamesStart, NamesContext, Fits, AllFit}
+use Rattle.script_lang.specs.Fits.{IsNodeOf, IsSliceCount, IsRate, NamesStart, NamesContext, Fits, AllFit}
 use Rattle.script_lang.specs.KeepAlives.{day_ms}
 use Rattle.script_lang.specs.Kinds.{kind_named, is_schedule}
 use Rattle.script_lang.specs.Names.{node_names, node_of}
 use Rattle.script_lang.specs.Script.{max_commands, command_of, commands_of}
 use Rattle.script_lang.specs.Targets.{starts_task, opens_context, is_at, number_at, reference_in, target_of, target_in, context_of, context_in}
 use Rattle.script_lang.proofs.FieldLemmas.{both_first, both_second, first_ok}
+use Rattle.script_lang.proofs.Ranges.{in_range}
 
 -- ---- nodes
 
@@ -138,6 +139,36 @@ time_fits value ms e =
     within n true is e' = let same : n ≡ ms = cc in grind (arith, is)
     within n false is e' = cc
 
+-- ---- slices and rates
+
+slices_fit : (field : Option Data) (slices : ℕ) → slices_or_one field ≡ Ok slices → IsSliceCount slices
+slices_fit None slices e = let same : 1 ≡ slices = cc in (omega arith, omega arith)
+slices_fit (Some value) slices e =
+    let read = first_ok (number_in value) _ slices e in
+    kept read.0 (from_1_to max_slices read.0) refl read.2
+  where
+    kept : (n : ℕ) (b : Bool) → from_1_to max_slices n ≡ b → cond b (Ok n) (Err BadField) ≡ Ok slices → IsSliceCount slices
+    kept n true is e' = let same : n ≡ slices = cc in subst IsSliceCount same (in_range max_slices n is)
+    kept n false is e' = cc
+
+none_fits : IsRate None
+none_fits = λ r some. cc
+
+rate_of_fits : (z : ℤ) (rate : Option ℕ) → rate_of z ≡ Ok rate → IsRate rate
+rate_of_fits (pos n) rate e = kept (from_1_to max_rate n) refl e
+  where
+    kept : (b : Bool) → from_1_to max_rate n ≡ b → cond b (Ok (Some n)) (Err BadField) ≡ Ok rate → IsRate rate
+    kept true is e' = let same : Some n ≡ rate = cc in subst IsRate same (λ r some. let here : n ≡ r = cc in subst (λ k. (1 ≤ k) × (k ≤ max_rate)) here (in_range max_rate n is))
+    kept false is e' = cc
+rate_of_fits (negsuc zero) rate e = let same : None ≡ rate = cc in subst IsRate same none_fits
+rate_of_fits (negsuc (suc n)) rate e = cc
+
+rate_fits : (field : Option Data) (rate : Option ℕ) → rate_or_none field ≡ Ok rate → IsRate rate
+rate_fits None rate e = let same : None ≡ rate = cc in subst IsRate same none_fits
+rate_fits (Some value) rate e =
+    let read = first_ok (ok_or (option_and_then as_i64 (as_number value)) BadField) rate_of rate e in
+    rate_of_fits read.0 rate read.2
+
 -- ---- commands
 
 module _ (nodes : ℕ) (some : 1 ≤ nodes) (before : List Command) where
@@ -169,6 +200,22 @@ module _ (nodes : ℕ) (some : 1 ≤ nodes) (before : List Command) where
       let found = first_ok (context_in before parts.0) _ command parts.2 in
       let same : ClearScroll found.0 ≡ command = cc (found.2) in
       subst (Fits nodes before) same (context_fits before parts.0 found.0 found.1)
+
+  with_numbers : (node : ℕ) (body : Data) (slices : ℕ) (rate : Option ℕ) (opaque_id : Option (List ℕ)) (command : Command) → Reindex node body slices rate opaque_id ≡ command → IsNodeOf nodes node → IsSliceCount slices → IsRate rate → Fits nodes before command
+  with_numbers node body slices rate opaque_id command same its_node its_slices its_rate = subst (Fits nodes before) same (its_node, its_slices, its_rate)
+
+  reindex_fits : (value : Data) (command : Command) → reindex_in nodes value ≡ Ok command → Fits nodes before command
+  unfolding reindex_in
+  reindex_fits value command e =
+      let parts = first_ok (fields_of reindex_fields value) _ command e in
+      let found = first_ok (both (node_or_first nodes (get_member (codes "node") parts.0)) (both (object_in (get_member (codes "body") parts.0)) (both (slices_or_one (get_member (codes "slices") parts.0)) (both (rate_or_none (get_member (codes "requests_per_second") parts.0)) (optional_text (get_member (codes "opaque_id") parts.0)))))) _ command parts.2 in
+      let same : Reindex found.0.0 found.0.1.0 found.0.1.1.0 found.0.1.1.1.0 found.0.1.1.1.1 ≡ command = cc (found.2) in
+      let node = both_first _ _ found.0 found.1 in
+      let rest = both_second _ _ found.0.1 (both_second _ _ found.0 found.1) in
+      let slices = both_first _ _ found.0.1.1 rest in
+      let rate = both_first _ _ found.0.1.1.1 (both_second _ _ found.0.1.1 rest) in
+      with_numbers found.0.0 found.0.1.0 found.0.1.1.0 found.0.1.1.1.0 found.0.1.1.1.1 command same (node_or_first_fits nodes (get_member (codes "node") parts.0) found.0.0 some node)
+      (slices_fit (get_member (codes "slices") parts.0) found.0.1.1.0 slices) (rate_fits (get_member (codes "requests_per_second") parts.0) found.0.1.1.1.0 rate)
 
   cancel_fits : (value : Data) (command : Command) → cancel_in before value ≡ Ok command → Fits nodes before command
   unfolding cancel_in
@@ -203,6 +250,7 @@ module _ (nodes : ℕ) (some : 1 ≤ nodes) (before : List Command) where
   of_kind_fits kinds.Tick value command e =
       let found = first_ok (time_in value) _ command e in
       let same : Tick found.0 ≡ command = cc (found.2) in subst (Fits nodes before) same (time_fits value found.0 found.1)
+  of_kind_fits kinds.Reindex value command e = reindex_fits value command e
   of_kind_fits kinds.Cancel value command e = cancel_fits value command e
   of_kind_fits kinds.ListTasks value command e = list_fits value command e
   of_kind_fits kinds.ListStep value command e = list_step_fits value command e

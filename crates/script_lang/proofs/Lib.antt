@@ -1,7 +1,9 @@
 pub mod FieldLemmas
 pub mod Fitting
+pub mod GeneratorLemmas
 pub mod KeepAliveLemmas
 pub mod LineLemmas
 pub mod Places
+pub mod Ranges
 pub mod Shapes
 pub mod Sources

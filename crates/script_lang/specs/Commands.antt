@@ -7,12 +7,12 @@ use Rattle.task_ids.specs.declared.cause.Cause.{Cause}
 use Rattle.task_ids.specs.declared.cause.Cause.TheVariants.{NotObject, ScheduleLineInRun}
 use Rattle.shard_docs.specs.Fault.{◌>>=◌}
 use Rattle.script_lang.specs.declared.command.Command.{Command}
-use Rattle.script_lang.specs.declared.command.Command.TheVariants.{Search, Scroll, ClearScroll, Cancel, ListTasks, Tick, Deliver, Step, ListStep, Settle, History}
+use Rattle.script_lang.specs.declared.command.Command.TheVariants.{Search, Scroll, ClearScroll, Reindex, Cancel, ListTasks, Tick, Deliver, Step, ListStep, Settle, History}
 use Rattle.script_lang.specs.declared.command.Mode.{Mode}
 use Rattle.script_lang.specs.declared.command.Mode.TheVariants.{Sim, Run}
 use Rattle.script_lang.specs.declared.kind.Kind.{Kind}
 use Rattle.script_lang.specs.declared.kind.Kind.TheVariants as kinds
-use Rattle.script_lang.specs.Fields.{both, fields_of, text_of, text_or, optional_text, node_in, node_or_first, task_in, group_or_nodes, flag_or_false, body_in, number_in, optional_keep_alive, time_in, truth_in}
+use Rattle.script_lang.specs.Fields.{both, fields_of, text_of, text_or, optional_text, node_in, node_or_first, task_in, group_or_nodes, flag_or_false, body_in, object_in, number_in, slices_or_one, rate_or_none, optional_keep_alive, time_in, truth_in}
 use Rattle.script_lang.specs.Filters.{filter_in}
 use Rattle.script_lang.specs.Kinds.{kind_named, is_schedule}
 use Rattle.script_lang.specs.Targets.{target_in, context_in}
@@ -27,6 +27,9 @@ scroll_fields = codes "scroll_id" ∷ codes "command" ∷ codes "scroll" ∷ cod
 
 abbrev pub clear_fields : List (List ℕ)
 clear_fields = codes "scroll_id" ∷ codes "command" ∷ []
+
+abbrev pub reindex_fields : List (List ℕ)
+reindex_fields = codes "body" ∷ codes "node" ∷ codes "slices" ∷ codes "requests_per_second" ∷ codes "opaque_id" ∷ []
 
 abbrev pub cancel_fields : List (List ℕ)
 cancel_fields = codes "task_id" ∷ codes "command" ∷ codes "reason" ∷ codes "wait_for_completion" ∷ codes "actions" ∷ codes "nodes" ∷ codes "parent_task_id" ∷ []
@@ -60,6 +63,13 @@ clear_in before value = do
   context ← context_in before fields
   Ok (ClearScroll context)
 
+-- a reindex on a cluster of so many nodes
+unfoldable pub reindex_in : ℕ → Data → Result Command Cause
+reindex_in nodes value = do
+  fields ← fields_of reindex_fields value
+  found ← both (node_or_first nodes (get_member (codes "node") fields)) (both (object_in (get_member (codes "body") fields)) (both (slices_or_one (get_member (codes "slices") fields)) (both (rate_or_none (get_member (codes "requests_per_second") fields)) (optional_text (get_member (codes "opaque_id") fields)))))
+  Ok (Reindex found.0 found.1.0 found.1.1.0 found.1.1.1.0 found.1.1.1.1)
+
 -- a cancel after some commands
 unfoldable pub cancel_in : List Command → Data → Result Command Cause
 cancel_in before value = do
@@ -86,6 +96,7 @@ abbrev pub command_of_kind : ℕ → List Command → Kind → Data → Result C
 command_of_kind nodes before kinds.Search value = search_in nodes value
 command_of_kind nodes before kinds.Scroll value = scroll_in before value
 command_of_kind nodes before kinds.ClearScroll value = clear_in before value
+command_of_kind nodes before kinds.Reindex value = reindex_in nodes value
 command_of_kind nodes before kinds.Cancel value = cancel_in before value
 command_of_kind nodes before kinds.ListTasks value = list_in value
 command_of_kind nodes before kinds.Tick value = time_in value >>= λ ms. Ok (Tick ms)

@@ -1,8 +1,8 @@
 -- The fields of a command: each is read for itself, and the earliest of the causes counts, wherever it stands in the line.
-use Rattle.std.specs.Prelude.{ℕ, List, Bool, true, false, Option, Some, None, option_and_then, is_some, Result, Ok, Err, nat_lt, nat_le, if◌then◌else◌}
+use Rattle.std.specs.Prelude.{ℕ, ℤ, pos, negsuc, zero, suc, List, Bool, true, false, ◌&&◌, Option, Some, None, option_and_then, is_some, Result, Ok, Err, nat_lt, nat_le, if◌then◌else◌}
 use Rattle.std.specs.Option.{ok_or}
 use Rattle.serde_json.specs.Data.{Data, object, Members, no_members, member}
-use Rattle.serde_json.specs.Find.{as_object, as_str, as_bool, as_number, as_u64}
+use Rattle.serde_json.specs.Find.{as_object, as_str, as_bool, as_number, as_u64, as_i64}
 use Rattle.task_ids.specs.declared.cause.Cause.{Cause}
 use Rattle.task_ids.specs.declared.cause.Cause.TheVariants.{TooLong, TooManyLines, LineTooLong, NoSource, BadUtf8, BadJson, NotWhole, NotObject, UnknownAction, BadAction, Conflict, UnknownCommand, ScheduleLineInRun, UnknownField, NotBuilt, BadField, BadTaskId, UnknownNode, BadReference, NotWaitable}
 use Rattle.task_ids.specs.declared.task_id.TaskId.{TaskId}
@@ -121,9 +121,42 @@ abbrev pub body_in : Option Data → Result Data Cause
 body_in None = Ok (object no_members)
 body_in (Some value) = if is_some (as_object value) then Ok value else Err BadField
 
+-- an object, which must be there
+abbrev pub object_in : Option Data → Result Data Cause
+object_in None = Err BadField
+object_in (Some value) = if is_some (as_object value) then Ok value else Err BadField
+
 -- a whole number from 0
 abbrev pub number_in : Data → Result ℕ Cause
 number_in value = ok_or (option_and_then as_u64 (as_number value)) BadField
+
+-- a number from 1 to a greatest one
+abbrev pub from_1_to : ℕ → ℕ → Bool
+from_1_to greatest n = nat_le 1 n && nat_le n greatest
+
+-- into how many slices a reindex is cut at most
+abbrev pub max_slices : ℕ
+max_slices = 32
+
+-- into how many slices a reindex is cut, and one where that is not said
+abbrev pub slices_or_one : Option Data → Result ℕ Cause
+slices_or_one None = Ok 1
+slices_or_one (Some value) = number_in value >>= λ n. if from_1_to max_slices n then Ok n else Err BadField
+
+-- how many documents a reindex writes in a second at most, where it is bounded
+abbrev pub max_rate : ℕ
+max_rate = 1000000
+
+-- a rate, and none where -1 is written
+abbrev pub rate_of : ℤ → Result (Option ℕ) Cause
+rate_of (pos n) = if from_1_to max_rate n then Ok (Some n) else Err BadField
+rate_of (negsuc zero) = Ok None
+rate_of (negsuc (suc n)) = Err BadField
+
+-- a rate, and none where that is not said
+abbrev pub rate_or_none : Option Data → Result (Option ℕ) Cause
+rate_or_none None = Ok None
+rate_or_none (Some value) = ok_or (option_and_then as_i64 (as_number value)) BadField >>= rate_of
 
 -- a keep-alive
 abbrev pub optional_keep_alive : Option Data → Result (Option ℕ) Cause

@@ -1,17 +1,27 @@
 -- What holds of the commands of a script: they are of a cluster, and name one another.
-use Rattle.std.specs.Prelude.{◌≡◌, ℕ, ◌≤◌, List, [], ◌∷◌, ◌++◌, true}
+use Rattle.std.specs.Prelude.{◌≡◌, ℕ, ◌≤◌, List, [], ◌∷◌, ◌++◌, true, Option}
+use Rattle.std.specs.Option.{ForSome}
 use Rattle.script_lang.specs.declared.command.CancelTarget.{CancelTarget}
 use Rattle.script_lang.specs.declared.command.CancelTarget.TheVariants as targets
 use Rattle.script_lang.specs.declared.command.Command.{Command}
-use Rattle.script_lang.specs.declared.command.Command.TheVariants.{Search, Scroll, ClearScroll, Cancel, ListTasks, Tick, Deliver, Step, ListStep, Settle, History}
+use Rattle.script_lang.specs.declared.command.Command.TheVariants.{Search, Scroll, ClearScroll, Reindex, Cancel, ListTasks, Tick, Deliver, Step, ListStep, Settle, History}
 use Rattle.script_lang.specs.declared.command.ContextTarget.{ContextTarget}
 use Rattle.script_lang.specs.declared.command.ContextTarget.TheVariants as contexts
+use Rattle.script_lang.specs.Fields.{max_slices, max_rate}
 use Rattle.script_lang.specs.KeepAlives.{day_ms}
 use Rattle.script_lang.specs.Targets.{starts_task, opens_context, is_at}
 
 -- a node of a cluster of so many
 abbrev pub IsNodeOf : ℕ → ℕ → Type 0
 IsNodeOf nodes node = (1 ≤ node) × (node ≤ nodes)
+
+-- a number of slices of a reindex
+abbrev pub IsSliceCount : ℕ → Type 0
+IsSliceCount slices = (1 ≤ slices) × (slices ≤ max_slices)
+
+-- how many documents a reindex writes in a second at most, where that is bounded
+abbrev pub IsRate : Option ℕ → Type 0
+IsRate rate = ForSome rate (λ r. (1 ≤ r) × (r ≤ max_rate))
 
 -- a command that is named comes before and starts a task
 abbrev pub NamesStart : List Command → CancelTarget → Type 0
@@ -29,6 +39,7 @@ abbrev pub Fits : ℕ → List Command → Command → Type 0
 Fits nodes before (Search index node scroll body opaque_id) = IsNodeOf nodes node
 Fits nodes before (Scroll context keep opaque_id) = NamesContext before context
 Fits nodes before (ClearScroll context) = NamesContext before context
+Fits nodes before (Reindex node body slices rate opaque_id) = IsNodeOf nodes node × IsSliceCount slices × IsRate rate
 Fits nodes before (Cancel target reason wait) = NamesStart before target
 Fits nodes before (ListTasks filter group detailed) = Unit {0}
 Fits nodes before (Tick ms) = ms ≤ day_ms

@@ -4,18 +4,19 @@ use Rattle.std.specs.Str.{bytes_eq}
 use Rattle.task_ids.specs.declared.cause.Cause.{Cause}
 use Rattle.task_ids.specs.declared.cause.Cause.TheVariants.{UnknownCommand, NotBuilt}
 use Rattle.script_lang.specs.declared.kind.Kind.{Kind}
-use Rattle.script_lang.specs.declared.kind.Kind.TheVariants.{Search, Scroll, ClearScroll, Cancel, ListTasks, Tick, Deliver, Step, ListStep, Settle, History}
+use Rattle.script_lang.specs.declared.kind.Kind.TheVariants.{Search, Scroll, ClearScroll, Reindex, Cancel, ListTasks, Tick, Deliver, Step, ListStep, Settle, History}
 use Rattle.script_lang.specs.Names.{is_one_of}
 
 -- the commands that are still to come
 abbrev pub later_commands : List (List ℕ)
-later_commands = codes "reindex" ∷ codes "wait_for" ∷ codes "summary" ∷ codes "shuffle" ∷ []
+later_commands = codes "wait_for" ∷ codes "summary" ∷ codes "shuffle" ∷ []
 
 abbrev pub kind_named : List ℕ → Result Kind Cause
 kind_named name =
     if bytes_eq name (codes "search") then Ok Search else
     (if bytes_eq name (codes "scroll") then Ok Scroll else
     (if bytes_eq name (codes "clear_scroll") then Ok ClearScroll else
+    (if bytes_eq name (codes "reindex") then Ok Reindex else
     (if bytes_eq name (codes "cancel") then Ok Cancel else
     (if bytes_eq name (codes "list") then Ok ListTasks else
     (if bytes_eq name (codes "tick") then Ok Tick else
@@ -24,13 +25,14 @@ kind_named name =
     (if bytes_eq name (codes "list_step") then Ok ListStep else
     (if bytes_eq name (codes "settle") then Ok Settle else
     (if bytes_eq name (codes "history") then Ok History else
-    (if is_one_of name later_commands then Err NotBuilt else Err UnknownCommand)))))))))))
+    (if is_one_of name later_commands then Err NotBuilt else Err UnknownCommand))))))))))))
 
 -- it writes a schedule, which threads do not take
 abbrev pub is_schedule : Kind → Bool
 is_schedule Search = false
 is_schedule Scroll = false
 is_schedule ClearScroll = false
+is_schedule Reindex = false
 is_schedule Cancel = false
 is_schedule ListTasks = false
 is_schedule Tick = false

@@ -3,6 +3,7 @@ pub mod Commands
 pub mod Fields
 pub mod Filters
 pub mod Fits
+pub mod Generator
 pub mod KeepAlives
 pub mod Kinds
 pub mod Names

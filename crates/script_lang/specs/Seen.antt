@@ -7,9 +7,10 @@ use Rattle.script_lang.specs.declared.cancels.CancelParts.{CancelParts}
 use Rattle.script_lang.specs.declared.command.CancelTarget.{CancelTarget}
 use Rattle.script_lang.specs.declared.command.CancelTarget.TheVariants as targets
 use Rattle.script_lang.specs.declared.command.Command.{Command}
-use Rattle.script_lang.specs.declared.command.Command.TheVariants.{Search, Scroll, Cancel, ListTasks}
+use Rattle.script_lang.specs.declared.command.Command.TheVariants.{Search, Scroll, Reindex, Cancel, ListTasks}
 use Rattle.script_lang.specs.declared.filters.FilterParts.{FilterParts}
 use Rattle.script_lang.specs.declared.lists.ListParts.{ListParts}
+use Rattle.script_lang.specs.declared.reindexes.ReindexParts.{ReindexParts}
 use Rattle.script_lang.specs.declared.scrolls.ScrollParts.{ScrollParts}
 use Rattle.script_lang.specs.declared.searches.SearchParts.{SearchParts}
 use Rattle.script_lang.specs.declared.targets.NamedTarget.{NamedTarget}
@@ -29,6 +30,9 @@ search_seen parts = Search parts.index.now parts.node parts.scroll (body_or_empt
 
 abbrev pub scroll_seen : ScrollParts → Command
 scroll_seen parts = Scroll parts.context parts.keep (option_map (λ text. text.now) parts.opaque_id)
+
+abbrev pub reindex_seen : ReindexParts → Command
+reindex_seen parts = Reindex parts.node (view parts.body.now) parts.slices parts.rate (option_map (λ text. text.now) parts.opaque_id)
 
 abbrev pub cancel_seen : CancelParts → Command
 cancel_seen parts = Cancel (target_seen parts.target) parts.reason.now parts.wait

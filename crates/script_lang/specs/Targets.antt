@@ -9,7 +9,7 @@ use Rattle.shard_docs.specs.Fault.{◌>>=◌}
 use Rattle.script_lang.specs.declared.command.CancelTarget.{CancelTarget}
 use Rattle.script_lang.specs.declared.command.CancelTarget.TheVariants as targets
 use Rattle.script_lang.specs.declared.command.Command.{Command}
-use Rattle.script_lang.specs.declared.command.Command.TheVariants.{Search, Scroll, ClearScroll, Cancel, ListTasks, Tick, Deliver, Step, ListStep, Settle, History}
+use Rattle.script_lang.specs.declared.command.Command.TheVariants.{Search, Scroll, ClearScroll, Reindex, Cancel, ListTasks, Tick, Deliver, Step, ListStep, Settle, History}
 use Rattle.script_lang.specs.declared.command.ContextTarget.{ContextTarget}
 use Rattle.script_lang.specs.declared.command.ContextTarget.TheVariants as contexts
 use Rattle.script_lang.specs.declared.targets.NamedFor.{NamedFor}
@@ -21,6 +21,7 @@ abbrev pub starts_task : Command → Bool
 starts_task (Search index node scroll body opaque_id) = true
 starts_task (Scroll context keep opaque_id) = true
 starts_task (ClearScroll context) = false
+starts_task (Reindex node body slices rate opaque_id) = true
 starts_task (Cancel target reason wait) = false
 starts_task (ListTasks filter group detailed) = false
 starts_task (Tick ms) = false
@@ -35,6 +36,7 @@ abbrev pub opens_context : Command → Bool
 opens_context (Search index node scroll body opaque_id) = is_some scroll
 opens_context (Scroll context keep opaque_id) = false
 opens_context (ClearScroll context) = false
+opens_context (Reindex node body slices rate opaque_id) = false
 opens_context (Cancel target reason wait) = false
 opens_context (ListTasks filter group detailed) = false
 opens_context (Tick ms) = false

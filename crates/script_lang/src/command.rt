@@ -61,6 +61,19 @@ pub enum Command {
         /// The context that is freed.
         context: ContextTarget,
     },
+    /// Copies the documents of an index into another, after Elasticsearch's reindex API.
+    Reindex {
+        /// The node that it starts on, from 1, which is what stands where it is not written.
+        node: u32,
+        /// What is read and where it is written, which may have faults and name unknown indices.
+        body: DocSource,
+        /// Into how many slices the documents are cut, from 1 to 32, and 1 where it is not written.
+        slices: u32,
+        /// How many documents a second are written at most, from 1 to 1,000,000. There is no such bound where -1 or nothing is written.
+        rate: Option<u32>,
+        /// The text by which a client knows what it started, if it is written. Each task that the reindex asks for carries it on.
+        opaque_id: Option<Shared<Text>>,
+    },
     /// A cancel, after Elasticsearch's task cancellation.
     Cancel {
         /// The task or the tasks that it is about.

@@ -14,6 +14,7 @@ use crate::error::CommandError;
 use crate::fields::{both, field, fields_of, node_in, number_in, task_in, time_in, truth_in};
 use crate::kind::Kind;
 use crate::lists::list_in;
+use crate::reindexes::reindex_in;
 use crate::scrolls::{clear_in, scroll_in};
 use crate::searches::search_in;
 use serde_json::{Map, Value};
@@ -77,6 +78,7 @@ fn command_of_kind(
         Kind::Search => search_in(alloc, nodes, value),
         Kind::Scroll => scroll_in(alloc, before, value),
         Kind::ClearScroll => Ok(clear_in(before, value)?),
+        Kind::Reindex => reindex_in(alloc, nodes, value),
         Kind::Cancel => cancel_in(alloc, before, value),
         Kind::ListTasks => list_in(alloc, value),
         Kind::Tick => Ok(Command::Tick {

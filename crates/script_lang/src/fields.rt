@@ -12,6 +12,12 @@ use serde_json::{Map, Value};
 use task_ids::{Cause, TaskId};
 use tasks_api::GroupBy;
 
+/// Into how many slices a reindex is cut at most.
+const MAX_SLICES: u64 = 32;
+
+/// How many documents a reindex writes in a second at most, where it is bounded.
+const MAX_RATE: i64 = 1_000_000;
+
 /// Where a cause stands in the order in which the causes of one line count.
 fn place_of(cause: Cause) -> u32
     ensures { result ≡ spec.place_of cause }
@@ -213,6 +219,16 @@ pub(crate) fn body_in(value: Option<&Value>) -> Result<Option<&Value>, Cause>
     }
 }
 
+/// An object, which must be there.
+pub(crate) fn object_in(value: Option<&Value>) -> Result<&Value, Cause>
+    ensures { seen (λ v. view v.now) result ≡ spec.object_in (option_map (λ v. view v.now) value.entry) }
+{
+    match value {
+        Some(body) if body.is_object() => Ok(body),
+        _ => Err(Cause::BadField),
+    }
+}
+
 /// A whole number from 0.
 pub(crate) fn number_in(value: &Value) -> Result<u64, Cause>
     ensures { result ≡ spec.number_in (view value.now) }
@@ -220,6 +236,43 @@ pub(crate) fn number_in(value: &Value) -> Result<u64, Cause>
     match value.as_u64() {
         Some(number) => Ok(number),
         None => Err(Cause::BadField),
+    }
+}
+
+/// Into how many slices a reindex is cut, or one.
+pub(crate) fn slices_or_one(value: Option<&Value>) -> Result<u32, Cause>
+    ensures { result ≡ spec.slices_or_one (option_map (λ v. view v.now) value.entry) }
+{
+    match value {
+        None => Ok(1),
+        Some(value) => match number_in(value)? {
+            slices if 1 <= slices && slices <= MAX_SLICES => Ok(slices as u32),
+            _ => Err(Cause::BadField),
+        },
+    }
+}
+
+/// How many documents a reindex writes in a second at most, and none where -1 is written.
+fn rate_of(rate: i64) -> Result<Option<u32>, Cause>
+    ensures { result ≡ spec.rate_of rate }
+{
+    match rate {
+        -1 => Ok(None),
+        rate if 1 <= rate && rate <= MAX_RATE => Ok(Some(rate as u32)),
+        _ => Err(Cause::BadField),
+    }
+}
+
+/// How many documents a reindex writes in a second at most, or none.
+pub(crate) fn rate_or_none(value: Option<&Value>) -> Result<Option<u32>, Cause>
+    ensures { result ≡ spec.rate_or_none (option_map (λ v. view v.now) value.entry) }
+{
+    match value {
+        None => Ok(None),
+        Some(value) => match value.as_i64() {
+            Some(rate) => rate_of(rate),
+            None => Err(Cause::BadField),
+        },
     }
 }
 

@@ -5,7 +5,7 @@ use crate::names::is_one_of;
 use task_ids::Cause;
 
 /// The commands that are still to come.
-const LATER_COMMANDS: [&str; 4] = ["reindex", "wait_for", "summary", "shuffle"];
+const LATER_COMMANDS: [&str; 3] = ["wait_for", "summary", "shuffle"];
 
 /// The kind of a command, which the key of its line names.
 #[derive(Clone, Copy, PartialEq, Eq)]
@@ -13,6 +13,7 @@ pub(crate) enum Kind {
     Search,
     Scroll,
     ClearScroll,
+    Reindex,
     Cancel,
     ListTasks,
     Tick,
@@ -32,6 +33,7 @@ impl Kind {
             "search" => Ok(Kind::Search),
             "scroll" => Ok(Kind::Scroll),
             "clear_scroll" => Ok(Kind::ClearScroll),
+            "reindex" => Ok(Kind::Reindex),
             "cancel" => Ok(Kind::Cancel),
             "list" => Ok(Kind::ListTasks),
             "tick" => Ok(Kind::Tick),
@@ -53,6 +55,7 @@ impl Kind {
             Kind::Search
             | Kind::Scroll
             | Kind::ClearScroll
+            | Kind::Reindex
             | Kind::Cancel
             | Kind::ListTasks
             | Kind::Tick => false,

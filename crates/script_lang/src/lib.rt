@@ -1,16 +1,19 @@
 //! The script of an input: its commands, read exactly or refused at the first bad line.
 #![tactic(auto)]
 
+mod bodies;
 mod cancels;
 mod command;
 mod commands;
 mod error;
 mod fields;
 mod filters;
+mod generator;
 mod keep_alives;
 mod kind;
 mod lists;
 mod names;
+mod reindexes;
 mod script;
 mod scrolls;
 mod searches;
@@ -19,4 +22,5 @@ mod texts;
 
 pub use command::{CancelTarget, Command, ContextTarget, Mode, Script};
 pub use error::ScriptError;
+pub use generator::{generate, next_number};
 pub use script::read_script;

@@ -11,6 +11,7 @@ ghost use Rattle.script_lang.specs.Commands as spec;
 ghost use Rattle.script_lang.specs.Fields.{seen, body_or_empty};
 ghost use Rattle.script_lang.specs.Seen.{search_seen};
 
+use crate::bodies::source_from;
 use crate::command::Command;
 use crate::error::CommandError;
 use crate::fields::{
@@ -19,7 +20,7 @@ use crate::fields::{
 use crate::texts::{shared_from, text_from};
 use serde_json::{Map, Value};
 use std::alloc::Global;
-use task_ids::{Cause, DocSource, NotSource};
+use task_ids::{Cause, DocSource};
 
 /// The fields of a search.
 const SEARCH_FIELDS: [&str; 5] = ["index", "node", "scroll", "body", "opaque_id"];
@@ -43,11 +44,7 @@ fn body_from(alloc: Global, value: Option<&Value>) -> Result<DocSource, CommandE
         Some(body) => body.clone()?,
         None => Value::Object(Map::new(alloc)),
     };
-    match DocSource::new(alloc, body) {
-        Ok(body) => Ok(body),
-        Err(NotSource::Memory) => Err(CommandError::Memory),
-        Err(NotSource::NotWhole | NotSource::NotObject) => unreachable!(),
-    }
+    source_from(alloc, body)
 }
 
 /// What a search on a cluster of so many nodes says.

@@ -38,7 +38,10 @@ impl NamedFor {
         ensures { result ≡ spec.allows self command.now }
     {
         match (self, command) {
-            (NamedFor::Task, Command::Search { .. } | Command::Scroll { .. }) => true,
+            (
+                NamedFor::Task,
+                Command::Search { .. } | Command::Scroll { .. } | Command::Reindex { .. },
+            ) => true,
             (NamedFor::Context, Command::Search { scroll, .. }) => scroll.is_some(),
             _ => false,
         }

@@ -1,4 +1,4 @@
-use Rattle.std.proofs.Common.{◌≡◌, ◌++◌, map, filter_map, drop}
+use Rattle.std.proofs.Common.{◌≡◌, ◌++◌, map, filter_map}
 use Rattle.serde_json.specs.Data.{string}
 use Rattle.serde_json.specs.View.{view}
 use Rattle.task_ids.specs.TaskId.{task_id_text}
@@ -8,4 +8,4 @@ use Rattle.line_print.proofs.cancel_lines.named.Given as goal
 -- the ids so far and those that are still to come
 abbrev pub invariant-loop-event : goal.invariant-loop-event
 invariant-loop-event l =
-    map view l.values.items ++ map (λ t. string (task_id_text t)) (filter_map named_in (drop l.event-index l.turn)) ≡ map (λ t. string (task_id_text t)) (filter_map named_in l.turn)
+    map view l.values.items ++ map (λ t. string (task_id_text t)) (filter_map named_in l.event-iterator) ≡ map (λ t. string (task_id_text t)) (filter_map named_in l.turn)

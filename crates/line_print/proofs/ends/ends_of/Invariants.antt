@@ -6,4 +6,4 @@ use Rattle.line_print.specs.Ends.{same_id, reply_at}
 use Rattle.line_print.proofs.ends.ends_of.Given as goal
 
 abbrev pub invariant-loop-at : goal.invariant-loop-at
-invariant-loop-at l = (t : TaskId) → reply_at l.events (get same_id l.ends t) ≡ reply_of t (reverse (take l.at l.events))
+invariant-loop-at l = (t : TaskId) → reply_at (reverse l.history) (get same_id l.ends t) ≡ reply_of t (reverse (take l.at (reverse l.history)))

@@ -1,4 +1,4 @@
-use Rattle.std.proofs.Common.{◌≡◌, ◌≤◌, ◌<◌, ℕ, ◌+◌, ◌++◌, List, Bor, OnOk, subst, length, get_or, drop, map, flat_map, ap, sym, ◌∙◌, arith}
+use Rattle.std.proofs.Common.{◌≡◌, ◌≤◌, ◌<◌, ℕ, ◌+◌, ◌++◌, List, OnOk, subst, length, get_or, drop, map, flat_map, ap, sym, ◌∙◌, arith}
 use Rattle.std.proofs.lemmas.List.{drop_all, drop_more}
 use Rattle.serde_json.specs.Data.{string}
 use Rattle.serde_json.specs.View.{items_of}
@@ -9,17 +9,17 @@ use Rattle.line_print.proofs.PrintLemmas.{list_text}
 use Rattle.line_print.proofs.told.events_line.Goals as goal
 
 -- the events of the turns from a place on are those of that turn and those of the turns after it
-turns_from : (turns : List (Bor (List Event))) (i : ℕ) (turn : Bor (List Event)) → i < length turns → turn ≡ get_or turns i turn
-    → turn.now ++ flat_map (λ t. t.now) (drop (i + 1) turns) ≡ flat_map (λ t. t.now) (drop i turns)
+turns_from : (turns : List (List Event)) (i : ℕ) (turn : List Event) → i < length turns → turn ≡ get_or turns i turn
+    → turn ++ flat_map (λ t. t) (drop (i + 1) turns) ≡ flat_map (λ t. t) (drop i turns)
 turns_from turns i turn h is =
-    ap (λ (t : Bor (List Event)). t.now ++ flat_map (λ u. u.now) (drop (i + 1) turns)) is
-    ∙ sym (ap (flat_map (λ t. t.now)) (drop_more turns i turn h))
+    ap (λ (t : List Event). t ++ flat_map (λ u. u) (drop (i + 1) turns)) is
+    ∙ sym (ap (flat_map (λ t. t)) (drop_more turns i turn h))
 
 pub loop-turn-preserved : goal.loop-turn-preserved
 loop-turn-preserved c =
     let turns = c.args.turns.now in
     let i = c.loop-turn.turn-index in
-    c.in_ok-later.ensures (flat_map (λ turn. turn.now) (drop (i + 1) turns))
+    c.in_ok-later.ensures (flat_map (λ turn. turn) (drop (i + 1) turns))
     ∙ ap (λ events. c.loop-turn.out.items ++ items_text c.loop-turn.later (items_of (map (λ event. string (told c.args.script.now event)) events)))
     (turns_from turns i c.turn-item.result c.loop-turn-test.true c.turn-item.is)
     ∙ c.loop-turn.invariant

@@ -8,5 +8,5 @@ use Rattle.line_print.proofs.told.events_line.Given as goal
 -- what is appended so far and the turns that are still to come are one list
 abbrev pub invariant-loop-turn : goal.invariant-loop-turn
 invariant-loop-turn l =
-    l.out.items ++ items_text l.later (items_of (map (λ event. string (told l.script event)) (flat_map (λ turn. turn.now) (drop l.turn-index l.turns))))
-    ≡ (((l.fn.out.items ++ codes "{\"command\":") ++ decimal l.command) ++ codes ",\"reply\":[") ++ items_text false (items_of (map (λ event. string (told l.script event)) (flat_map (λ turn. turn.now) l.turns)))
+    l.out.items ++ items_text l.later (items_of (map (λ event. string (told l.script event)) (flat_map (λ turn. turn) (drop l.turn-index l.turns))))
+    ≡ (((l.fn.out.items ++ codes "{\"command\":") ++ decimal l.command) ++ codes ",\"reply\":[") ++ items_text false (items_of (map (λ event. string (told l.script event)) (flat_map (λ turn. turn) l.turns)))

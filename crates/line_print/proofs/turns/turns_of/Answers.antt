@@ -1,5 +1,4 @@
-use Rattle.std.proofs.Common.{◌≡◌, ap, ◌∙◌, arith}
-use Rattle.std.proofs.lemmas.List.{map-append}
+use Rattle.std.proofs.Common.{◌≡◌, ap, ◌∙◌, reverse, arith}
 use Rattle.std.specs.List.{after_first}
 use Rattle.task_events.specs.Turns.{is_begin}
 use Rattle.line_print.proofs.TurnLemmas.{turn_more, rest_more}
@@ -8,10 +7,10 @@ use Rattle.line_print.proofs.turns.turns_of.Goals as goal
 pub returns : goal.returns
 returns c =
     let same : c.loop.counter ≡ c.args.commands = omega arith in
-    rw (c.in_ok-push-2.ensures.items, map-append, ← same) (turn_more _ _ _ c.loop.counter c.args.events.now c.loop.invariant.told c.loop.invariant.left c.next_turn-2.ensures.turn)
+    rw (c.in_ok-push-2.ensures.items, ← same) (turn_more _ _ _ c.loop.counter c.args.history.now c.loop.invariant.told c.loop.invariant.left c.next_turn-2.ensures.turn)
 
 pub loop-preserved : goal.loop-preserved
 loop-preserved c = record {
-  told = rw (c.in_ok-push.ensures.items, map-append) (turn_more _ _ _ c.loop.counter c.args.events.now c.loop.invariant.told c.loop.invariant.left c.next_turn.ensures.turn);
-  left = c.next_turn.ensures.after ∙ ap (after_first is_begin) c.loop.invariant.left ∙ rest_more c.loop.counter c.args.events.now;
+  told = rw c.in_ok-push.ensures.items (turn_more _ _ _ c.loop.counter c.args.history.now c.loop.invariant.told c.loop.invariant.left c.next_turn.ensures.turn);
+  left = c.next_turn.ensures.after ∙ ap (after_first is_begin) c.loop.invariant.left ∙ rest_more c.loop.counter (reverse c.args.history.now);
 }

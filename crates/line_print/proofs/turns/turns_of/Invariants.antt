@@ -7,6 +7,6 @@ use Rattle.line_print.proofs.turns.turns_of.Given as goal
 -- the turns so far, and what comes after as many beginnings
 abbrev pub invariant-loop : goal.invariant-loop
 invariant-loop l = record {
-  told : map (λ turn. turn.now) l.turns.items ≡ map (λ k. events_of k (reverse l.events)) (range_with_len 0 l.counter);
-  left : l.rest ≡ rest_at l.counter l.events;
+  told : l.turns.items ≡ map (λ k. events_of k l.history) (range_with_len 0 l.counter);
+  left : l.rest ≡ rest_at l.counter (reverse l.history);
 }

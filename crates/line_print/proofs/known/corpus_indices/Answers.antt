@@ -2,7 +2,7 @@ use Rattle.std.proofs.Common.{◌<◌, ◌∙◌, ap, length, get_or, arith}
 use Rattle.std.specs.HashSet.{contains_by}
 use Rattle.std.specs.Str.{bytes_eq}
 use Rattle.line_print.proofs.KnownLemmas.{known_more}
-use Rattle.line_print.proofs.searches.indices_of.Goals as goal
+use Rattle.line_print.proofs.known.corpus_indices.Goals as goal
 
 pub loop-line-preserved : goal.loop-line-preserved
 loop-line-preserved c = λ index.

@@ -1,0 +1,10 @@
+use Rattle.std.proofs.Common.{sym, subst}
+use Rattle.serde_json.specs.View.{view}
+use Rattle.task_ids.specs.Source.{IsSource}
+use Rattle.script_lang.proofs.Sources.{reindex_body_is_source}
+use Rattle.script_lang.proofs.reindexes.reindex_in.Goals as goal
+
+pub source_from-requires : goal.source_from-requires
+source_from-requires c =
+    subst IsSource (sym c.in_ok-clone.ensures.cases)
+    (reindex_body_is_source c.args.nodes (view c.args.value.now) _ _ _ _ _ c.requires.whole c.requires.nests (sym c.in_ok-parts.ensures))
