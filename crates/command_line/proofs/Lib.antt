@@ -1,0 +1,3 @@
+pub mod NumbersRead
+pub mod TakenMatches
+pub mod TakenWords
