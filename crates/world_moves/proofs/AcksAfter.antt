@@ -52,8 +52,10 @@ use Rattle.world_moves.proofs.FlightAfter.{all_stay}
 use Rattle.world_moves.proofs.KeptTasks.{kept_same}
 use Rattle.world_moves.proofs.NodeTablesSame.{listed_same}
 use Rattle.world_moves.proofs.NamedCancels.{is_in, in_filter}
-use Rattle.world_moves.proofs.Parts.{part_lawful, part_plain, later_part}
+use Rattle.world_moves.proofs.Parts.{part_lawful, part_plain, part_alone, later_part}
 use Rattle.world_moves.specs.Good.{so_far}
+use Rattle.world_moves.proofs.CoresAfterLeave.{answers_alone}
+use Rattle.world_moves.specs.Owning.{OneAtATime}
 
 -- ---- tasks and messages
 
@@ -201,5 +203,5 @@ module _ (cluster : Cluster) (corpus : Corpus) (script : Script) (h : List Event
     pub partly_ack : IsPartly (λ x y. Delivers cluster x nth y) h new
     partly_ack = inr (with_answers p (Acked p n ∷ h), delivers_ack, part_of)
 
-    pub part_laws : Lawful cluster new × AnswersPlainly cluster corpus script new
-    part_laws = (part_lawful cluster corpus script h new _ part_of tied_after.lawful, part_plain cluster corpus script h new _ part_of tied_after.plain)
+    pub part_laws : OneAtATime (scripted script) h → Lawful cluster new × AnswersPlainly cluster corpus script new × OneAtATime (scripted script) new
+    part_laws alone = (part_lawful cluster corpus script h new _ part_of tied_after.lawful, part_plain cluster corpus script h new _ part_of tied_after.plain, part_alone (scripted script) h new _ part_of (answers_alone (scripted script) p (Acked p n ∷ h) alone))

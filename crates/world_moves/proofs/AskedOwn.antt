@@ -76,6 +76,10 @@ module _ (cluster : Cluster) (corpus : Corpus) (script : Script) (h : List Event
   may_ask_own t (asks.Search ask) owns = owns
   may_ask_own t (asks.Query ask) owns = tt
   may_ask_own t (asks.Fetch ask) owns = tt
+  may_ask_own t (asks.Reindex ask) owns = tt
+  may_ask_own t (asks.Slice ask) owns = tt
+  may_ask_own t (asks.Bulk ask) owns = tt
+  may_ask_own t (asks.BulkShard ask) owns = tt
   may_ask_own t (asks.Scroll ask) owns = (record { own = owns.0; no_keep = owns.1; opened = its_search t ask.id owns.3 }, none_waits t owns.2)
 
 -- the context of a page whose request is in flight is in its table
@@ -84,6 +88,10 @@ module _ (cluster : Cluster) (corpus : Corpus) (script : Script) (h : List Event
   sent_there (asks.Search ask) sent asked = refl
   sent_there (asks.Query ask) sent asked = refl
   sent_there (asks.Fetch ask) sent asked = refl
+  sent_there (asks.Reindex ask) sent asked = refl
+  sent_there (asks.Slice ask) sent asked = refl
+  sent_there (asks.Bulk ask) sent asked = refl
+  sent_there (asks.BulkShard ask) sent asked = refl
   sent_there (asks.Scroll ask) sent asked =
       let counted = requests_in_flight p k h in
       let place = (ask_facts cluster h lawful).place p k in

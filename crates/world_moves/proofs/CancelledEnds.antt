@@ -35,7 +35,8 @@ use Rattle.command_roots.specs.Roots.{scripted}
 use Rattle.world_moves.specs.Ties.{Ties}
 use Rattle.task_events.specs.declared.request.Request.{Request}
 use Rattle.task_events.specs.declared.reply.Counts.{Counts}
-use Rattle.task_events.specs.Kinds.{kind_of, are_below}
+use Rattle.task_events.specs.Counting.{are_below}
+use Rattle.task_events.specs.Kinds.{kind_of}
 use Rattle.task_events.specs.Steps.{counted}
 use Rattle.world_moves.specs.Good.{so_far}
 use Rattle.world_moves.proofs.Children.{child_request}

@@ -6,7 +6,7 @@ use Rattle.task_events.specs.declared.context.Context.{Context}
 use Rattle.task_events.specs.declared.event.Event.{Event}
 use Rattle.task_events.specs.declared.event.Event.TheVariants.{Begin, Root, Pass, Refuse, End, Tick}
 use Rattle.task_events.specs.declared.reply.Reply.{Reply}
-use Rattle.task_events.specs.declared.reply.Reply.TheVariants.{Search, Top, Hits, AllFailed, Cancelled, Rejected}
+use Rattle.task_events.specs.declared.reply.Reply.TheVariants.{Search, Top, Hits, AllFailed, Wrote, Cancelled, Rejected}
 use Rattle.task_events.specs.declared.reply.SearchReply.{SearchReply}
 use Rattle.task_events.specs.declared.request.Request.{Request}
 use Rattle.task_events.specs.declared.request.Request.TheVariants as asks
@@ -51,6 +51,10 @@ taken_there now t None id o c e = (c, e, refl, refl, refl)
 taken_there now t (Some (asks.Search ask)) id o c e = (c, e, refl, refl, refl)
 taken_there now t (Some (asks.Query ask)) id o c e = (c, e, refl, refl, refl)
 taken_there now t (Some (asks.Fetch ask)) id o c e = (c, e, refl, refl, refl)
+taken_there now t (Some (asks.Reindex ask)) id o c e = (c, e, refl, refl, refl)
+taken_there now t (Some (asks.Slice ask)) id o c e = (c, e, refl, refl, refl)
+taken_there now t (Some (asks.Bulk ask)) id o c e = (c, e, refl, refl, refl)
+taken_there now t (Some (asks.BulkShard ask)) id o c e = (c, e, refl, refl, refl)
 taken_there now t (Some (asks.Scroll ask)) id o c e = changed_there (same_task ask.id id) (with_use now ask.keep t) (λ d. (refl, refl, refl)) o c e
 
 -- the end of a search has opened it
@@ -70,10 +74,15 @@ pub ended_there : (now : ℕ) (t : TaskId) (request : Option Request) (reply : R
 ended_there now t None reply id o c e = inr (c, e, refl, refl, refl)
 ended_there now t (Some (asks.Query ask)) reply id o c e = inr (c, e, refl, refl, refl)
 ended_there now t (Some (asks.Fetch ask)) reply id o c e = inr (c, e, refl, refl, refl)
+ended_there now t (Some (asks.Reindex ask)) reply id o c e = inr (c, e, refl, refl, refl)
+ended_there now t (Some (asks.Slice ask)) reply id o c e = inr (c, e, refl, refl, refl)
+ended_there now t (Some (asks.Bulk ask)) reply id o c e = inr (c, e, refl, refl, refl)
+ended_there now t (Some (asks.BulkShard ask)) reply id o c e = inr (c, e, refl, refl, refl)
 ended_there now t (Some (asks.Scroll ask)) reply id o c e = inr (changed_there (same_task ask.id id) (given_back (cursor_in reply) now) (λ d. (refl, refl, refl)) o c e)
 ended_there now t (Some (asks.Search ask)) (Search found) id o c e = search_there now t ask found id o c e
 ended_there now t (Some (asks.Search ask)) (Top top) id o c e = inr (c, e, refl, refl, refl)
 ended_there now t (Some (asks.Search ask)) (Hits hits) id o c e = inr (c, e, refl, refl, refl)
+ended_there now t (Some (asks.Search ask)) (Wrote counts) id o c e = inr (c, e, refl, refl, refl)
 ended_there now t (Some (asks.Search ask)) (AllFailed failed) id o c e = inr (c, e, refl, refl, refl)
 ended_there now t (Some (asks.Search ask)) (Cancelled task cancel counts) id o c e = inr (c, e, refl, refl, refl)
 ended_there now t (Some (asks.Search ask)) (Rejected node) id o c e = inr (c, e, refl, refl, refl)

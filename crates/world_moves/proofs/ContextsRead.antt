@@ -55,5 +55,6 @@ module _ (cluster : Cluster) (corpus : Corpus) (r : Reading) where
         let few = all.1 in
         record {
           few = rw shards (omega arith);
+          shown = rw ask x.shown;
           shards = λ place n at. rw ask (all_here IsCountWithin (counts_in r asked) place n all.0 (rw shards at at));
         }

@@ -34,6 +34,8 @@ use Rattle.world_moves.proofs.CancelAnswersAfter.{kept}
 use Rattle.world_moves.proofs.CountsAfter.{let_go, answers_then, counts_then}
 use Rattle.world_moves.proofs.DueActs.{due_answered, due_sent}
 use Rattle.world_moves.proofs.CancelsAfterLeave.{Leaves, leaves_at, known_ended, core_there, entry_there, nobody_waits}
+use Rattle.world_moves.specs.Owning.{OneAtATime}
+use Rattle.task_events.specs.Requests.{Scripted}
 
 -- what is written where it stands changes nothing
 pub set_again : {X : Type 0} (xs : List X) (k : ℕ) (x : X) → slice_get xs k ≡ Some x → slice_set xs k x ≡ xs
@@ -102,3 +104,6 @@ module _ (cluster : Cluster) (t : TaskId) (e : Event) (h : List Event) (leaves :
 -- the answers keep the replies plain
 pub answers_plain : (cluster : Cluster) (corpus : Corpus) (script : Script) (t : TaskId) (h : List Event) → AnswersPlainly cluster corpus script h → AnswersPlainly cluster corpus script (with_answers t h)
 answers_plain cluster corpus script t h plain = kept (AnswersPlainly cluster corpus script) (λ c past p. p) (λ c past p. p) t h plain
+
+pub answers_alone : (said : Scripted) (t : TaskId) (h : List Event) → OneAtATime said h → OneAtATime said (with_answers t h)
+answers_alone said t h alone = kept (OneAtATime said) (λ c past p. p) (λ c past p. p) t h alone

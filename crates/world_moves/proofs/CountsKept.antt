@@ -7,7 +7,8 @@ use Rattle.task_table.specs.Table.{Table}
 use Rattle.task_events.specs.declared.event.Event.{Event}
 use Rattle.task_events.specs.declared.request.Request.{Request}
 use Rattle.task_events.specs.declared.request.Request.TheVariants as asks
-use Rattle.task_events.specs.Kinds.{kind_of, are_below}
+use Rattle.task_events.specs.Counting.{are_below}
+use Rattle.task_events.specs.Kinds.{kind_of}
 use Rattle.task_events.specs.Requests.{request_of}
 use Rattle.task_events.specs.Steps.{counted}
 use Rattle.task_events.specs.Tasks.{is_live, is_new, no_counts}
@@ -28,6 +29,10 @@ pub none_below : (q : Request) → are_below (kind_of q).limit no_counts ≡ tru
 none_below (asks.Search ask) = refl
 none_below (asks.Query ask) = refl
 none_below (asks.Fetch ask) = refl
+none_below (asks.Reindex ask) = refl
+none_below (asks.Slice ask) = refl
+none_below (asks.Bulk ask) = refl
+none_below (asks.BulkShard ask) = refl
 none_below (asks.Scroll ask) = refl
 
 module _ (cluster : Cluster) (corpus : Corpus) (script : Script) (h : List Event) (tasks : TaskId → Option Running) (tables : List Table) (flight : List Sent) (ties : Ties cluster corpus script h tasks tables flight)

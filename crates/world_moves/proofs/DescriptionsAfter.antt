@@ -1,5 +1,5 @@
 -- What task lists show after an event: of the tasks that were live before it, what they showed.
-use Rattle.std.proofs.Common.{◌≡◌, ◌≤◌, ℕ, ◌+◌, ◌*◌, Bool, true, false, cond, not, List, [], ◌∷◌, ◌++◌, length, map, get_or, Option, Some, None, refl, sym, ap, subst, ◌∙◌, arith}
+use Rattle.std.proofs.Common.{◌≡◌, ◌≤◌, ℕ, ◌+◌, ◌*◌, Bool, true, false, cond, not, List, [], ◌∷◌, ◌++◌, length, map, get_or, Option, Some, None, refl, sym, ap, subst, ◌∙◌, arith, ◌<◌, ◌^◌}
 use Rattle.std.specs.Prelude.{slice_get, slice_set, remove}
 use Rattle.std.specs.List.{AllByRecursion}
 use Rattle.std.proofs.lemmas.List.Elements.{All-filter, All-map}
@@ -87,6 +87,7 @@ module _ (script : Script) (h : List Event) where
       clock_is = d.clock_is ∙ sym (clock_stays e s);
       clock_low = subst (λ k. k ≤ length script.commands → now ≤ k * day_ms) (sym (command_stays e s)) d.clock_low;
       clock_high = longer longest_tick now (length h) (length (e ∷ h)) (omega arith) d.clock_high;
+      clock_fits = d.clock_fits;
       few_begun = subst (λ k. k ≤ 65536) (sym (command_stays e s)) d.few_begun;
     }
 
@@ -98,17 +99,19 @@ module _ (script : Script) (h : List Event) where
       clock_is = d.clock_is;
       clock_low = λ low. longer day_ms now (last_command h) k next (d.clock_low (omega (arith, next, low)));
       clock_high = longer longest_tick now (length h) (length (Begin k ∷ h)) (omega arith) d.clock_high;
+      clock_fits = d.clock_fits;
       few_begun = few;
     }
 
     -- the clock moves
-    pub ticked_tells : (ms : ℕ) → (last_command h ≤ length script.commands → now + ms ≤ last_command h * day_ms) → ms ≤ longest_tick → Describing script h tables flight now → Describing script (Tick ms ∷ h) tables flight (now + ms)
-    ticked_tells ms low high d = record {
+    pub ticked_tells : (ms : ℕ) → (last_command h ≤ length script.commands → now + ms ≤ last_command h * day_ms) → ms ≤ longest_tick → now + ms < 2 ^ 60 → Describing script h tables flight now → Describing script (Tick ms ∷ h) tables flight (now + ms)
+    ticked_tells ms low high fits d = record {
       rows_are = λ place. rows_stay (Tick ms) refl (slice_get tables place) (d.rows_are place);
       carried = all_carried (Tick ms) refl flight d.carried;
       clock_is = ap (λ m. m + ms) d.clock_is;
       clock_low = low;
       clock_high = let more : (length h + 1) * longest_tick ≡ length h * longest_tick + longest_tick = grind arith in let before = d.clock_high in omega (arith, more, before, high);
+      clock_fits = fits;
       few_begun = d.few_begun;
     }
 

@@ -12,7 +12,7 @@ use Rattle.task_events.specs.Answers.{fetched}
 use Rattle.task_events.specs.FetchTask.{fetch_step}
 use Rattle.task_events.specs.declared.reply.Counts.{Counts}
 use Rattle.task_events.specs.Kind.{Progress}
-use Rattle.task_events.specs.Kinds.{are_below}
+use Rattle.task_events.specs.Counting.{are_below}
 use Rattle.search_phase.specs.Fetches.{new_fetch}
 use Rattle.task_work.specs.declared.work.Work.{Work}
 use Rattle.task_work.specs.declared.work.Work.TheVariants as works
@@ -74,7 +74,7 @@ module _ (cluster : Cluster) (corpus : Corpus) (t : TaskId) (p : Progress) (requ
     };
     asks = λ request now plan. absurd (asks_nothing _ _ request (plan mine x.on));
     takes_answer = λ i r reply now there unanswered good. absurd (asks_something awaited i unanswered x.asks_nothing);
-    moves = λ writes now none. looks_on _ _;
+    moves = λ few writes now none. looks_on _ _;
     none_left = λ writes now end e. ap none_awaited x.asks_nothing;
     plain = λ writes now end e. subst IsPlain (sym (work_ends _ (Hits (fetched f.ask writes)) end e)) (refl, refl);
     ends_well = λ few now end e.

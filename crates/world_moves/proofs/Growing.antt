@@ -30,11 +30,15 @@ module _ (cluster : Cluster) (corpus later : Corpus) (grows : Grows cluster corp
   pub request_grown : (r : Request) → IsWithin cluster corpus r → IsWithin cluster later r
   request_grown (asks.Query ask) within = version_grown ask.index ask.shard ask.version within
   request_grown (asks.Fetch ask) within = version_grown ask.index ask.shard (Some ask.version) within
-  request_grown (asks.Search ask) within = tt
+  request_grown (asks.Search ask) within = within
+  request_grown (asks.Reindex ask) within = tt
+  request_grown (asks.Slice ask) within = tt
+  request_grown (asks.Bulk ask) within = within
+  request_grown (asks.BulkShard ask) within = within
   request_grown (asks.Scroll ask) within = tt
 
   pub context_grown : (c : Context) → IsContextWithin cluster corpus c → IsContextWithin cluster later c
-  context_grown c within = record { few = within.few; shards = λ place n at. version_grown c.ask.index n.shard (Some n.version) (within.shards place n at) }
+  context_grown c within = record { few = within.few; shown = within.shown; shards = λ place n at. version_grown c.ask.index n.shard (Some n.version) (within.shards place n at) }
 
 -- ---- the work of a query and of a fetch
 

@@ -21,7 +21,9 @@ use Rattle.task_ids.specs.Placing.{shard_of}
 use Rattle.task_events.specs.Allowed.{cancellation_in, is_rejection}
 use Rattle.task_events.specs.Looking.{rows_per_turn}
 use Rattle.task_events.specs.Kind.{Progress}
-use Rattle.task_events.specs.Kinds.{kind_of, are_below}
+use Rattle.task_events.specs.Counting.{are_below}
+use Rattle.task_events.specs.Kinds.{kind_of}
+use Rattle.task_events.specs.SliceTask.{most_asks}
 use Rattle.task_events.specs.Steps.{with_answer}
 use Rattle.task_events.specs.Tasks.{no_counts}
 use Rattle.task_events.specs.Written.{docs_of, docs_of_turn}
@@ -72,8 +74,12 @@ AsksOwn t asked requests awaited _ = Unit {0}
 pub part_owns : (t : TaskId) (asked : List Asked) (requests : List Request) (awaited : List (Option ℕ)) (r : Request) → IsPart r → AsksOwn t asked requests awaited r
 part_owns t asked requests awaited (wants.Query ask) part = tt
 part_owns t asked requests awaited (wants.Fetch ask) part = tt
+part_owns t asked requests awaited (wants.BulkShard ask) part = tt
 part_owns t asked requests awaited (wants.Search ask) part = absurd (let f : false ≡ true = part in cc)
 part_owns t asked requests awaited (wants.Scroll ask) part = absurd (let f : false ≡ true = part in cc)
+part_owns t asked requests awaited (wants.Reindex ask) part = absurd (let f : false ≡ true = part in cc)
+part_owns t asked requests awaited (wants.Slice ask) part = absurd (let f : false ≡ true = part in cc)
+part_owns t asked requests awaited (wants.Bulk ask) part = absurd (let f : false ≡ true = part in cc)
 
 -- the work of a task that has passed
 module _ (cluster : Cluster) (corpus : Corpus) (t : TaskId) (p : Progress) (requests : List Request) (awaited : List (Option ℕ)) (o : Option Request) (w : Work) where
@@ -111,8 +117,8 @@ module _ (cluster : Cluster) (corpus : Corpus) (t : TaskId) (p : Progress) (requ
         → WorksFor cluster later t false (with_turn_of p (own_writes cluster corpus o) (work_notes w (own_writes cluster corpus o))) requests awaited o (with_turn w (own_writes cluster corpus o))
     pub asks : (request : Request) (now : ℕ) → ((writes : List Doc) → IsWorkOn w writes → next_of w writes now ≡ AskNext request) → Asks request
     pub takes_answer : (i : ℕ) (r : Request) (reply : Reply) (now : ℕ) → slice_get requests i ≡ Some r → is_some (get_or awaited i None) ≡ true → IsGoodReply cluster corpus r reply → Takes i reply now
-    -- where all its asks are answered it waits for a moment at most
-    pub moves : (writes : List Doc) (now : ℕ) → none_awaited awaited ≡ true → does_wait (next_of w writes now) ≡ is_some (due_in (next_of w writes now))
+    -- where all its asks are answered, and they are not too many, it waits for a moment at most
+    pub moves : length p.asked < most_asks → (writes : List Doc) (now : ℕ) → none_awaited awaited ≡ true → does_wait (next_of w writes now) ≡ is_some (due_in (next_of w writes now))
     -- at its end all its asks are answered, and the reply is its own
     pub none_left : (writes : List Doc) (now : ℕ) (end : Reply) → next_of w writes now ≡ Finish end → none_awaited awaited ≡ true
     pub plain : (writes : List Doc) (now : ℕ) (end : Reply) → next_of w writes now ≡ Finish end → IsPlain end

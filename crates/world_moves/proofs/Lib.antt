@@ -6,10 +6,12 @@ pub mod AskedOwn
 pub mod AsksAfter
 pub mod AsksCounted
 pub mod AsksFor
+pub mod AsksKept
 pub mod AtOneTask
 pub mod AtPlace
 pub mod BansAfter
 pub mod BansInFlight
+pub mod BulkLaws
 pub mod ByPlace
 pub mod CancelAnswers
 pub mod CancelAnswersAfter
@@ -67,7 +69,9 @@ pub mod PagesAfter
 pub mod PagesEnd
 pub mod PagesLeft
 pub mod PagesMoved
+pub mod PartLaws
 pub mod Parts
+pub mod PartsWithin
 pub mod PassedWorks
 pub mod PassesNow
 pub mod PlainEnds
@@ -77,6 +81,7 @@ pub mod QueryLaws
 pub mod QuietCounts
 pub mod QuietEvents
 pub mod ReadInTime
+pub mod ReindexLaws
 pub mod RequestsAfter
 pub mod RequestsInFlight
 pub mod RequestsWithin
@@ -87,12 +92,15 @@ pub mod SearchAsks
 pub mod SearchLaws
 pub mod SearchParts
 pub mod ShardsTold
+pub mod SliceLaws
 pub mod StepsAfter
+pub mod StillSound
 pub mod Tables
 pub mod TasksAfterLeave
 pub mod TasksNamed
 pub mod TurnTies
 pub mod TurnsAfter
 pub mod UnbornTasks
+pub mod Windows
 pub mod WriteOrNot
 pub mod WritesAfter

@@ -4,7 +4,7 @@ use Rattle.task_ids.specs.declared.task_id.TaskId.{TaskId}
 use Rattle.task_events.specs.declared.context.Context.{Context}
 use Rattle.task_events.specs.declared.event.Event.{Event}
 use Rattle.task_events.specs.declared.reply.Reply.{Reply}
-use Rattle.task_events.specs.declared.reply.Reply.TheVariants.{Search, Top, Hits, AllFailed, Cancelled, Rejected}
+use Rattle.task_events.specs.declared.reply.Reply.TheVariants.{Search, Top, Hits, AllFailed, Wrote, Cancelled, Rejected}
 use Rattle.task_events.specs.declared.request.Request.{Request}
 use Rattle.task_events.specs.declared.request.Request.TheVariants as asks
 use Rattle.task_events.specs.declared.request.SearchAsk.{SearchAsk}
@@ -38,6 +38,10 @@ module _ (owner : TaskId) (c : Context) (owned : c.owner ≡ Some owner) where
   not_taken said h now t id (Some (asks.Search ask)) at free = refl
   not_taken said h now t id (Some (asks.Query ask)) at free = refl
   not_taken said h now t id (Some (asks.Fetch ask)) at free = refl
+  not_taken said h now t id (Some (asks.Reindex ask)) at free = refl
+  not_taken said h now t id (Some (asks.Slice ask)) at free = refl
+  not_taken said h now t id (Some (asks.Bulk ask)) at free = refl
+  not_taken said h now t id (Some (asks.BulkShard ask)) at free = refl
   not_taken said h now t id (Some (asks.Scroll ask)) at free = of_case (same_task_tells ask.id id)
     where
       of_case : ((same_task ask.id id ≡ true) × (ask.id ≡ id)) ⊎ ((same_task ask.id id ≡ false) × (ask.id ≢ id)) → after_taking now t (Some (asks.Scroll ask)) id (Some c) ≡ Some c
@@ -55,6 +59,7 @@ pub opens_other : (now : ℕ) (t : TaskId) (ask : SearchAsk) (reply : Reply) (id
 opens_other now t ask (Search found) id c apart = rw apart refl
 opens_other now t ask (Top top) id c apart = refl
 opens_other now t ask (Hits hits) id c apart = refl
+opens_other now t ask (Wrote counts) id c apart = refl
 opens_other now t ask (AllFailed failed) id c apart = refl
 opens_other now t ask (Cancelled task cancel counts) id c apart = refl
 opens_other now t ask (Rejected node) id c apart = refl

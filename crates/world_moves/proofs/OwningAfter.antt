@@ -97,6 +97,10 @@ module _ (cluster : Cluster) (said : Scripted) (h : List Event) (lawful : Lawful
         of_request (Some (asks.Search ask)) e = same (ap (λ r. after_taking (clock h) t r id (Some s.context)) e)
         of_request (Some (asks.Query ask)) e = same (ap (λ r. after_taking (clock h) t r id (Some s.context)) e)
         of_request (Some (asks.Fetch ask)) e = same (ap (λ r. after_taking (clock h) t r id (Some s.context)) e)
+        of_request (Some (asks.Reindex ask)) e = same (ap (λ r. after_taking (clock h) t r id (Some s.context)) e)
+        of_request (Some (asks.Slice ask)) e = same (ap (λ r. after_taking (clock h) t r id (Some s.context)) e)
+        of_request (Some (asks.Bulk ask)) e = same (ap (λ r. after_taking (clock h) t r id (Some s.context)) e)
+        of_request (Some (asks.BulkShard ask)) e = same (ap (λ r. after_taking (clock h) t r id (Some s.context)) e)
         of_request (Some (asks.Scroll ask)) e = of_case (same_task_tells ask.id id)
           where
             of_case : ((same_task ask.id id ≡ true) × (ask.id ≡ id)) ⊎ ((same_task ask.id id ≡ false) × (ask.id ≢ id)) → Stands said owner id (Pass t ∷ h)
@@ -138,6 +142,10 @@ module _ (cluster : Cluster) (said : Scripted) (h : List Event) (lawful : Lawful
         of_request None e = same (ap (λ r. after_end (clock h) t r reply id (Some s.context)) e) (λ ask f. absurd (cc))
         of_request (Some (asks.Query ask)) e = same (ap (λ r. after_end (clock h) t r reply id (Some s.context)) e) (λ ask f. absurd (cc))
         of_request (Some (asks.Fetch ask)) e = same (ap (λ r. after_end (clock h) t r reply id (Some s.context)) e) (λ ask f. absurd (cc))
+        of_request (Some (asks.Reindex ask)) e = same (ap (λ r. after_end (clock h) t r reply id (Some s.context)) e) (λ ask f. absurd (cc))
+        of_request (Some (asks.Slice ask)) e = same (ap (λ r. after_end (clock h) t r reply id (Some s.context)) e) (λ ask f. absurd (cc))
+        of_request (Some (asks.Bulk ask)) e = same (ap (λ r. after_end (clock h) t r reply id (Some s.context)) e) (λ ask f. absurd (cc))
+        of_request (Some (asks.BulkShard ask)) e = same (ap (λ r. after_end (clock h) t r reply id (Some s.context)) e) (λ ask f. absurd (cc))
         of_request (Some (asks.Search ask)) e =
             let apart = ended_apart id t h (search_ended cluster said h facts owner id own) (facts.live_or_ended t a.goes_on.live) in
             let back : same_task t id ≡ false = grind (arith, same_tests) in
@@ -165,7 +173,7 @@ module _ (cluster : Cluster) (said : Scripted) (h : List Event) (lawful : Lawful
       let ends = rw (itself t) at own.ended in
       let good : reply ≡ Search own.found = cc in
       let asked : request_of_ask owner (ask_of t h) h ≡ Some (asks.Search own.ask) = sym (child_request cluster said t owner h lawful own.parent) ∙ own.asked in
-      let no_keep : own.ask.scroll ≡ None = (o.searches owner (ask_of t h) own.ask asked owner own.own).1 in
+      let no_keep : own.ask.scroll ≡ None = (o.searches owner (ask_of t h) own.ask asked).no_keep in
       let c : Context = opened t own.ask own.found (clock h) in
       let opens : after_end (clock h) t (Some (asks.Search own.ask)) (Search own.found) t (context_at said t h) ≡ Some c = rw (itself t, no_keep, own.own) refl in
       record {

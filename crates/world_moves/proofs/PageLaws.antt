@@ -17,7 +17,8 @@ use Rattle.task_events.specs.Counts.{AreCounts}
 use Rattle.task_events.specs.Readings.{Reading, page_reading, shard_read, version_read}
 use Rattle.task_events.specs.Steps.{with_answer as asked_with_answer}
 use Rattle.task_events.specs.Kind.{Progress}
-use Rattle.task_events.specs.Kinds.{are_below, can_have}
+use Rattle.task_events.specs.Counting.{are_below}
+use Rattle.task_events.specs.Kinds.{can_have}
 use Rattle.task_events.specs.ScrollTask.{scroll_step}
 use Rattle.task_events.specs.declared.reply.Counts.{Counts}
 use Rattle.task_events.specs.declared.reply.ShardCount.{ShardCount}
@@ -39,7 +40,7 @@ module _ (cluster : Cluster) (corpus : Corpus) (ask : ScrollAsk) where
   page_starts new c own counts within =
       let many : length (page_reading c).shards ≡ length c.shards = length-map c.shards Kept in
       let few = within.few in
-      (own, starts_so cluster corpus (page_reading c) (page_is_reading c counts) (omega arith) (kept_within c.shards within.shards))
+      (own, starts_so cluster corpus (page_reading c) (page_is_reading c counts) (omega arith) within.shown (kept_within c.shards within.shards))
     where
       kept_within : (counts : List ShardCount) → ((place : ℕ) (n : ShardCount) → slice_get counts place ≡ Some n → IsShardWithin cluster corpus c.ask.index n.shard (Some n.version)) → (place : ℕ) (at : ShardRead) → slice_get (map Kept counts) place ≡ Some at → IsShardWithin cluster corpus c.ask.index (shard_read at) (version_read at)
       kept_within [] each place at is = absurd (cc)
@@ -87,7 +88,7 @@ module _ (cluster : Cluster) (corpus : Corpus) (t : TaskId) (p : Progress) (requ
           after = λ answer known. subst (λ page. RunsPage cluster corpus ask.id false page (map (asked_with_answer (1 + i) answer) p.asked) requests (slice_set awaited i None) (work_with_answer (works.Scroll s) (1 + i) reply now)) (sym is)
               (own, answered_so cluster corpus r p.asked requests awaited s x i q reply there unanswered good answer known);
         };
-        moves = λ writes now none. moves_so cluster corpus r p.asked requests awaited s x none;
+        moves = λ few writes now none. moves_so cluster corpus r p.asked requests awaited s x none;
         none_left = λ writes now end e. none_left_so cluster corpus r p.asked requests awaited s x end e;
         plain = λ writes now end e. plain_so cluster corpus r p.asked requests awaited s x end e;
         ends_well = λ few now end e.
@@ -95,7 +96,7 @@ module _ (cluster : Cluster) (corpus : Corpus) (t : TaskId) (p : Progress) (requ
             let shards : length (page_reading c).shards ≡ length c.shards = length-map c.shards Kept in
             let some = x.few in
             let most = cluster.shards_in_range.1 in
-            (ap (can_have cluster.shards (asks.Scroll ask)) so.2 ∙ page_is_possible _ so.0 c ask cluster.shards (sym own) (omega arith) most refl, tt);
+            (ap (can_have cluster.shards (asks.Scroll ask)) so.2 ∙ page_is_possible _ so.0 c ask cluster.shards (sym own) (omega arith) most x.shown refl, tt);
       }
   page_of_context None is ask w x = absurd (let f : false ≡ true = x.0 in cc)
   page_of_context (Some c) is ask _ x = absurd x

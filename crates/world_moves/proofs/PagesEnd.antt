@@ -8,7 +8,7 @@ use Rattle.task_ids.specs.declared.doc.Doc.{Doc}
 use Rattle.task_events.specs.declared.context.Context.{Context}
 use Rattle.task_events.specs.declared.reply.Counts.{Counts}
 use Rattle.task_events.specs.declared.reply.Reply.{Reply}
-use Rattle.task_events.specs.declared.reply.Reply.TheVariants.{Search, Top, Hits, AllFailed, Cancelled, Rejected}
+use Rattle.task_events.specs.declared.reply.Reply.TheVariants.{Search, Top, Hits, AllFailed, Wrote, Cancelled, Rejected}
 use Rattle.task_events.specs.declared.reply.SearchReply.{SearchReply}
 use Rattle.task_events.specs.declared.request.Request.{Request}
 use Rattle.task_events.specs.declared.request.Request.TheVariants as asks
@@ -56,6 +56,7 @@ search_alike : (now : ℕ) (t : TaskId) (ask : SearchAsk) (s : Searching) (reply
 search_alike now t ask s (Search found) is q c = ap (λ a. after_opening (cond (opens_context a) (Some (opened t a found now)) None) t q c) is ∙ opens_alike (opens_context ask) now t ask found q c
 search_alike now t ask s (Top top) is q c = refl
 search_alike now t ask s (Hits hits) is q c = refl
+search_alike now t ask s (Wrote counts) is q c = refl
 search_alike now t ask s (AllFailed failed) is q c = refl
 search_alike now t ask s (Cancelled task cancel counts) is q c = refl
 search_alike now t ask s (Rejected node) is q c = refl
@@ -69,12 +70,17 @@ opened_id (works.Search s) t (Search found) now c e = of_test (opens_context s.r
     of_test false f = absurd (cc)
 opened_id (works.Search s) t (Top top) now c e = absurd (cc)
 opened_id (works.Search s) t (Hits hits) now c e = absurd (cc)
+opened_id (works.Search s) t (Wrote counts) now c e = absurd (cc)
 opened_id (works.Search s) t (AllFailed failed) now c e = absurd (cc)
 opened_id (works.Search s) t (Cancelled task cancel counts) now c e = absurd (cc)
 opened_id (works.Search s) t (Rejected node) now c e = absurd (cc)
 opened_id (works.Query s top) t reply now c e = absurd (cc)
 opened_id (works.Fetch s hits) t reply now c e = absurd (cc)
 opened_id (works.Scroll s) t reply now c e = absurd (cc)
+opened_id (works.Reindex s) t reply now c e = absurd (cc)
+opened_id (works.Slice s) t reply now c e = absurd (cc)
+opened_id (works.Bulk s) t reply now c e = absurd (cc)
+opened_id (works.BulkShard s) t reply now c e = absurd (cc)
 
 -- a good reply keeps what was counted
 found_keeps : (r : Reading) (asked : List Asked) (found : SearchReply) → search_reply r asked ≡ Search found → found.shards ≡ counts_in r asked
@@ -111,10 +117,18 @@ module _ (cluster : Cluster) (corpus : Corpus) (t : TaskId) (p : Progress) (requ
   ended_alike now reply (Some (asks.Search ask)) (works.Search s) x q c = search_alike now t ask s reply (ap (λ (r : Reading). r.ask) (reads (search_reading t ask cluster.shards) s x)) q c
   ended_alike now reply (Some (asks.Query ask)) (works.Query s top) x q c = refl
   ended_alike now reply (Some (asks.Fetch ask)) (works.Fetch s hits) x q c = refl
+  ended_alike now reply (Some (asks.Reindex ask)) (works.Reindex s) x q c = refl
+  ended_alike now reply (Some (asks.Slice ask)) (works.Slice s) x q c = refl
+  ended_alike now reply (Some (asks.Bulk ask)) (works.Bulk s) x q c = refl
+  ended_alike now reply (Some (asks.BulkShard ask)) (works.BulkShard s) x q c = refl
   ended_alike now reply (Some (asks.Scroll ask)) w x q c = let is = page_work p.page ask w x in rw is.1 refl
   ended_alike now reply (Some (asks.Search ask)) w x q c = absurd x
   ended_alike now reply (Some (asks.Query ask)) w x q c = absurd x
   ended_alike now reply (Some (asks.Fetch ask)) w x q c = absurd x
+  ended_alike now reply (Some (asks.Reindex ask)) w x q c = absurd x
+  ended_alike now reply (Some (asks.Slice ask)) w x q c = absurd x
+  ended_alike now reply (Some (asks.Bulk ask)) w x q c = absurd x
+  ended_alike now reply (Some (asks.BulkShard ask)) w x q c = absurd x
 
   -- a task that opens a context uses none
   pub opens_uses_none : (now : ℕ) (reply : Reply) (o : Option Request) (w : Work) → Works o w → IsSome (opened_by w t reply now) → uses o ≡ None
@@ -122,6 +136,10 @@ module _ (cluster : Cluster) (corpus : Corpus) (t : TaskId) (p : Progress) (requ
   opens_uses_none now reply (Some (asks.Search ask)) w x opens = refl
   opens_uses_none now reply (Some (asks.Query ask)) w x opens = refl
   opens_uses_none now reply (Some (asks.Fetch ask)) w x opens = refl
+  opens_uses_none now reply (Some (asks.Reindex ask)) w x opens = refl
+  opens_uses_none now reply (Some (asks.Slice ask)) w x opens = refl
+  opens_uses_none now reply (Some (asks.Bulk ask)) w x opens = refl
+  opens_uses_none now reply (Some (asks.BulkShard ask)) w x opens = refl
   opens_uses_none now reply (Some (asks.Scroll ask)) w x opens = let is = page_work p.page ask w x in absurd (let f : false ≡ true = rw is.1 at opens in cc)
 
   -- a cancelled end opens none
@@ -130,6 +148,10 @@ module _ (cluster : Cluster) (corpus : Corpus) (t : TaskId) (p : Progress) (requ
   cancelled_alike now k counts (Some (asks.Search ask)) q c = refl
   cancelled_alike now k counts (Some (asks.Query ask)) q c = refl
   cancelled_alike now k counts (Some (asks.Fetch ask)) q c = refl
+  cancelled_alike now k counts (Some (asks.Reindex ask)) q c = refl
+  cancelled_alike now k counts (Some (asks.Slice ask)) q c = refl
+  cancelled_alike now k counts (Some (asks.Bulk ask)) q c = refl
+  cancelled_alike now k counts (Some (asks.BulkShard ask)) q c = refl
   cancelled_alike now k counts (Some (asks.Scroll ask)) q c = refl
 
   -- a task that uses a context is asked for its page
@@ -138,6 +160,10 @@ module _ (cluster : Cluster) (corpus : Corpus) (t : TaskId) (p : Progress) (requ
   page_asked (Some (asks.Search ask)) id e = absurd (cc)
   page_asked (Some (asks.Query ask)) id e = absurd (cc)
   page_asked (Some (asks.Fetch ask)) id e = absurd (cc)
+  page_asked (Some (asks.Reindex ask)) id e = absurd (cc)
+  page_asked (Some (asks.Slice ask)) id e = absurd (cc)
+  page_asked (Some (asks.Bulk ask)) id e = absurd (cc)
+  page_asked (Some (asks.BulkShard ask)) id e = absurd (cc)
   page_asked (Some (asks.Scroll ask)) id e = (ask, refl, cc)
 
   -- what a search that ends well has counted can be kept, and was written
@@ -170,6 +196,10 @@ module _ (cluster : Cluster) (corpus : Corpus) (t : TaskId) (p : Progress) (requ
       λ c shards own. search_sound (search_reading t other cluster.shards) s x found (e ∙ ap Finish good) c shards (own ∙ sym one)
   reads_so (Some (asks.Query other)) w x reply looked now e ask found is good = absurd (cc)
   reads_so (Some (asks.Fetch other)) w x reply looked now e ask found is good = absurd (cc)
+  reads_so (Some (asks.Reindex other)) w x reply looked now e ask found is good = absurd (cc)
+  reads_so (Some (asks.Slice other)) w x reply looked now e ask found is good = absurd (cc)
+  reads_so (Some (asks.Bulk other)) w x reply looked now e ask found is good = absurd (cc)
+  reads_so (Some (asks.BulkShard other)) w x reply looked now e ask found is good = absurd (cc)
   reads_so (Some (asks.Scroll other)) w x reply looked now e ask found is good = absurd (cc)
   reads_so (Some (asks.Search other)) w x reply looked now e ask found is good = absurd x
 
@@ -179,11 +209,20 @@ module _ (cluster : Cluster) (corpus : Corpus) (t : TaskId) (p : Progress) (requ
   fits_so (Some (asks.Search ask)) (works.Search s) x (Top top) looked now e = tt
   fits_so (Some (asks.Search ask)) (works.Search s) x (Hits hits) looked now e = tt
   fits_so (Some (asks.Search ask)) (works.Search s) x (AllFailed failed) looked now e = tt
+  fits_so (Some (asks.Search ask)) (works.Search s) x (Wrote counts) looked now e = tt
   fits_so (Some (asks.Search ask)) (works.Search s) x (Cancelled task cancel counts) looked now e = tt
   fits_so (Some (asks.Search ask)) (works.Search s) x (Rejected node) looked now e = tt
   fits_so (Some (asks.Query ask)) (works.Query s top) x reply looked now e = tt
   fits_so (Some (asks.Fetch ask)) (works.Fetch s hits) x reply looked now e = tt
+  fits_so (Some (asks.Reindex ask)) (works.Reindex s) x reply looked now e = tt
+  fits_so (Some (asks.Slice ask)) (works.Slice s) x reply looked now e = tt
+  fits_so (Some (asks.Bulk ask)) (works.Bulk s) x reply looked now e = tt
+  fits_so (Some (asks.BulkShard ask)) (works.BulkShard s) x reply looked now e = tt
   fits_so (Some (asks.Scroll ask)) w x reply looked now e = let is = page_work p.page ask w x in rw is.1 tt
   fits_so (Some (asks.Search ask)) w x reply looked now e = absurd x
   fits_so (Some (asks.Query ask)) w x reply looked now e = absurd x
   fits_so (Some (asks.Fetch ask)) w x reply looked now e = absurd x
+  fits_so (Some (asks.Reindex ask)) w x reply looked now e = absurd x
+  fits_so (Some (asks.Slice ask)) w x reply looked now e = absurd x
+  fits_so (Some (asks.Bulk ask)) w x reply looked now e = absurd x
+  fits_so (Some (asks.BulkShard ask)) w x reply looked now e = absurd x

@@ -11,7 +11,7 @@ use Rattle.task_events.specs.declared.context.Context.{Context}
 use Rattle.task_events.specs.declared.event.Event.{Event}
 use Rattle.task_events.specs.declared.event.Event.TheVariants.{Root, Pass, End}
 use Rattle.task_events.specs.declared.reply.Reply.{Reply}
-use Rattle.task_events.specs.declared.reply.Reply.TheVariants.{Search, Top, Hits, AllFailed, Cancelled, Rejected}
+use Rattle.task_events.specs.declared.reply.Reply.TheVariants.{Search, Top, Hits, AllFailed, Wrote, Cancelled, Rejected}
 use Rattle.task_events.specs.declared.reply.SearchReply.{SearchReply}
 use Rattle.task_events.specs.declared.request.Request.{Request}
 use Rattle.task_events.specs.declared.request.Request.TheVariants as asks
@@ -29,7 +29,7 @@ use Rattle.task_laws.proofs.Asks.{ask_facts}
 use Rattle.task_laws.proofs.Same.{same_task_tells, same_tests}
 use Rattle.command_roots.specs.Roots.{scripted}
 use Rattle.search_phase.proofs.Sorting.{by_test}
-use Rattle.world_moves.specs.Owning.{MayTakeFree}
+use Rattle.world_moves.specs.Owning.{FindsFree, MayTakeFree}
 use Rattle.world_moves.specs.Paging.{Paging, context_in}
 use Rattle.world_moves.proofs.ContextsPast.{WasThere, taken_there, IsOpened, ended_there, left_owned, stands_ended}
 use Rattle.world_moves.proofs.OwnPages.{finds_free}
@@ -69,12 +69,31 @@ module _ (cluster : Cluster) (corpus : Corpus) (script : Script) (h : List Event
         let equal : same_task ask.id ask.id ≡ true = itself ask.id in
         rw (is, found.1, equal) (_, refl, refl)
 
+    -- it finds it free
+    stands_free : {o : Option Request} → o ≡ request → FindsFree (λ id. context_at (scripted script) id h) o
+    stands_free {o} is = of_request o (λ r e. usable r (sym is ∙ e))
+      where
+        of_request : (q : Option Request) → ((r : Request) → q ≡ Some r → IsUsable r) → FindsFree (λ id. context_at (scripted script) id h) q
+        of_request None free = tt
+        of_request (Some (asks.Search ask)) free = tt
+        of_request (Some (asks.Query ask)) free = tt
+        of_request (Some (asks.Fetch ask)) free = tt
+        of_request (Some (asks.Reindex ask)) free = tt
+        of_request (Some (asks.Slice ask)) free = tt
+        of_request (Some (asks.Bulk ask)) free = tt
+        of_request (Some (asks.BulkShard ask)) free = tt
+        of_request (Some (asks.Scroll ask)) free = let found = free (asks.Scroll ask) refl ask refl in rw found.1 found.2
+
     -- a context that another uses is another one
     leaves_it : (o : Option Request) → ((r : Request) → o ≡ Some r → IsUsable r) → (u : TaskId) (ask : ScrollAsk) (c : Context) → context_at (scripted script) ask.id h ≡ Some c → c.busy ≡ Some u → after_taking (clock h) t o ask.id (Some c) ≡ Some c
     leaves_it None free u ask c at b = refl
     leaves_it (Some (asks.Search other)) free u ask c at b = refl
     leaves_it (Some (asks.Query other)) free u ask c at b = refl
     leaves_it (Some (asks.Fetch other)) free u ask c at b = refl
+    leaves_it (Some (asks.Reindex other)) free u ask c at b = refl
+    leaves_it (Some (asks.Slice other)) free u ask c at b = refl
+    leaves_it (Some (asks.Bulk other)) free u ask c at b = refl
+    leaves_it (Some (asks.BulkShard other)) free u ask c at b = refl
     leaves_it (Some (asks.Scroll other)) free u ask c at b = of_case (same_task_tells other.id ask.id)
       where
         of_case : ((same_task other.id ask.id ≡ true) × (other.id ≡ ask.id)) ⊎ ((same_task other.id ask.id ≡ false) × (other.id ≢ ask.id)) → after_taking (clock h) t (Some (asks.Scroll other)) ask.id (Some c) ≡ Some c
@@ -99,13 +118,17 @@ module _ (cluster : Cluster) (corpus : Corpus) (script : Script) (h : List Event
     page_sound (Some (asks.Search ask)) c e = absurd (cc)
     page_sound (Some (asks.Query ask)) c e = absurd (cc)
     page_sound (Some (asks.Fetch ask)) c e = absurd (cc)
+    page_sound (Some (asks.Reindex ask)) c e = absurd (cc)
+    page_sound (Some (asks.Slice ask)) c e = absurd (cc)
+    page_sound (Some (asks.Bulk ask)) c e = absurd (cc)
+    page_sound (Some (asks.BulkShard ask)) c e = absurd (cc)
     page_sound (Some (asks.Scroll ask)) c e = p.within ask.id c e
 
     module _ (after : List (FinMap task_id_cmp Context)) (many : length after ≡ length tables) (tables_are : (id : TaskId) → context_in after id ≡ makes id (context_in tables id)) where
       pub rooted_pages : (k : ℕ) → (scripted script).root k h ≡ request → MayTakeFree (scripted script) ((scripted script).root k h) h → Allowed cluster (Root k t) h → Paging cluster corpus script (Root k t ∷ h) after
       rooted_pages k asked may a =
           changed cluster corpus script h tables p (Root k t) after makes (λ id. ap (λ o. after_taking (clock h) t o id (context_at (scripted script) id h)) asked) many tables_are taken_sound page used
-          (owning_after cluster (scripted script) h lawful p.owns (Root k t) a may)
+          (owning_after cluster (scripted script) h lawful p.owns (Root k t) a may) (stands_free asked, p.alone)
         where
           page : (u : TaskId) (c : Context) → page_of (scripted script) u (Root k t ∷ h) ≡ Some c → IsWithin cluster corpus script h c
           page u c e = by_test (same_task u t) (λ same. page_sound ((scripted script).root k h) c (rw same at e)) (λ other. p.page_within u c (rw other at e))
@@ -122,7 +145,7 @@ module _ (cluster : Cluster) (corpus : Corpus) (script : Script) (h : List Event
       pub passed_pages : request_of (scripted script) t h ≡ request → Allowed cluster (Pass t) h → Paging cluster corpus script (Pass t ∷ h) after
       passed_pages asked a =
           changed cluster corpus script h tables p (Pass t) after makes (λ id. ap (λ o. after_taking (clock h) t o id (context_at (scripted script) id h)) asked) many tables_are taken_sound page used
-          (owning_after cluster (scripted script) h lawful p.owns (Pass t) a tt)
+          (owning_after cluster (scripted script) h lawful p.owns (Pass t) a tt) (stands_free asked, p.alone)
         where
           page : (u : TaskId) (c : Context) → page_of (scripted script) u (Pass t ∷ h) ≡ Some c → IsWithin cluster corpus script h c
           page u c e = by_test (same_task u t) (λ same. page_sound (request_of (scripted script) u h) c (rw same at e)) (λ other. p.page_within u c (rw other at e))
@@ -155,6 +178,7 @@ module _ (cluster : Cluster) (corpus : Corpus) (script : Script) (h : List Event
     opens_another : (found : Reply) (ask : SearchAsk) (id : TaskId) (c : Context) → context_at (scripted script) id h ≡ Some c → after_end (clock h) t (Some (asks.Search ask)) found id (Some c) ≡ Some c
     opens_another (Top top) ask id c at = refl
     opens_another (Hits hits) ask id c at = refl
+    opens_another (Wrote counts) ask id c at = refl
     opens_another (AllFailed failed) ask id c at = refl
     opens_another (Cancelled task cancel counts) ask id c at = refl
     opens_another (Rejected node) ask id c at = refl
@@ -183,6 +207,10 @@ module _ (cluster : Cluster) (corpus : Corpus) (script : Script) (h : List Event
     leaves_used None r u id c other at b = refl
     leaves_used (Some (asks.Query ask)) r u id c other at b = refl
     leaves_used (Some (asks.Fetch ask)) r u id c other at b = refl
+    leaves_used (Some (asks.Reindex ask)) r u id c other at b = refl
+    leaves_used (Some (asks.Slice ask)) r u id c other at b = refl
+    leaves_used (Some (asks.Bulk ask)) r u id c other at b = refl
+    leaves_used (Some (asks.BulkShard ask)) r u id c other at b = refl
     leaves_used (Some (asks.Search ask)) r u id c other at b = opens_another reply ask id c at
     leaves_used (Some (asks.Scroll mine)) r u id c other at b = returns_another mine r u id c other at b
 
@@ -207,7 +235,7 @@ module _ (cluster : Cluster) (corpus : Corpus) (script : Script) (h : List Event
         changed cluster corpus script h tables p (End t reply) after ends (λ id. refl) many tables_are
         (λ id c e. of_end id c (ended_there (clock h) t (request_of (scripted script) t h) reply id (context_at (scripted script) id h) c
         (left_owned t (after_end (clock h) t (request_of (scripted script) t h) reply id (context_at (scripted script) id h)) c e)))
-        (λ u c shown. p.page_within u c shown) ended_used (owning_after cluster (scripted script) h lawful p.owns (End t reply) a tt)
+        (λ u c shown. p.page_within u c shown) ended_used (owning_after cluster (scripted script) h lawful p.owns (End t reply) a tt) p.alone
       where
         of_end : (id : TaskId) (c : Context) → IsOpened (clock h) t (request_of (scripted script) t h) reply id c ⊎ WasThere (context_at (scripted script) id h) c → Sound c
         of_end id c (inl (ask, found, asks_it, good, same, is)) = reads ask found asks_it good c (ap (λ x. x.shards) is) (ap (λ x. x.ask) is)

@@ -9,6 +9,7 @@ use Rattle.task_ids.specs.declared.doc.Doc.{Doc}
 use Rattle.task_events.specs.declared.context.Context.{Context}
 use Rattle.task_events.specs.declared.event.Event.{Event}
 use Rattle.task_events.specs.declared.event.Event.TheVariants.{Ask, Answered}
+use Rattle.task_events.specs.declared.request.BulkShardAsk.{BulkShardAsk}
 use Rattle.task_events.specs.declared.request.Request.{Request}
 use Rattle.task_events.specs.declared.request.Request.TheVariants as asks
 use Rattle.task_events.specs.declared.step.Asked.{Asked}
@@ -20,14 +21,19 @@ use Rattle.task_events.specs.Steps.{asked_by, with_answer}
 use Rattle.task_events.specs.Tasks.{is_new}
 use Rattle.task_laws.proofs.Asks.{ask_facts}
 use Rattle.task_work.specs.declared.work.Work.{Work}
-use Rattle.task_work.specs.Works.{IsWorkOn, new_work}
+use Rattle.task_work.specs.declared.work.Work.TheVariants as works
+use Rattle.task_work.specs.Works.{IsWorkOn, IsNewWork}
 use Rattle.node_parts.specs.Starting.{page_in}
+use Rattle.world_moves.specs.BulkRuns.{RunsPart}
 use Rattle.world_moves.specs.Facts.{awaited_by, requested_by}
 use Rattle.world_moves.specs.Good.{IsWithin}
 use Rattle.world_moves.specs.Ties.{WorksFor}
 use Rattle.world_moves.proofs.AllKinds.{works_first, page_first}
 use Rattle.world_moves.proofs.AsksCounted.{awaited_counted, requested_counted, counted}
+use Rattle.world_moves.proofs.BulkLaws.{bulk_starts}
 use Rattle.world_moves.proofs.FirstRuns.{starting}
+use Rattle.world_moves.proofs.PartLaws.{part_starts}
+use Rattle.world_moves.proofs.ReindexLaws.{reindex_starts, slice_starts}
 
 -- ---- a child that has not passed has asked for nothing
 
@@ -36,7 +42,7 @@ none_of [] e = refl
 none_of (x ∷ xs) e = absurd (cc)
 
 module _ (cluster : Cluster) (t : TaskId) where
-  asked_counted : (h : List Event) → Lawful cluster h → length (asked_by t h) ≡ last_ask t h
+  pub asked_counted : (h : List Event) → Lawful cluster h → length (asked_by t h) ≡ last_ask t h
   asked_counted [] l = refl
   asked_counted (Ask p k n r ∷ h) l = counted t p h (asked_by t h) (record { ask = k; answer = None }) k l.0.next (asked_counted h l.1)
   asked_counted (Answered p k ∷ h) l = as_many (same_task t p) (asked_by t h) (asked_counted h l.1)
@@ -62,19 +68,31 @@ module _ (cluster : Cluster) (t : TaskId) where
 -- ---- its work
 
 module _ (cluster : Cluster) (corpus : Corpus) (t : TaskId) where
+  part_works : (p later : Progress) → later.turns ≡ p.turns → later.created ≡ p.created → later.updated ≡ p.updated → (awaited : List (Option ℕ)) (ask : BulkShardAsk) (w : Work) → RunsPart cluster p awaited ask w → RunsPart cluster later awaited ask w
+  part_works p later turns created updated awaited ask (works.BulkShard w) x = record { here = rw (turns, created, updated) x.here; asks_nothing = x.asks_nothing; within = x.within }
+  part_works p later turns created updated awaited ask _ x = absurd x
+
   -- work that shows no page
-  pub still_works : (new : Bool) (p later : Progress) → later.asked ≡ p.asked → later.version ≡ p.version → later.turns ≡ p.turns → (requests : List Request) (awaited : List (Option ℕ)) (o : Option Request) (w : Work) → option_and_then page_in o ≡ None
+  pub still_works : (new : Bool) (p later : Progress) → later.asked ≡ p.asked → later.came ≡ p.came → later.created ≡ p.created → later.updated ≡ p.updated → later.version ≡ p.version → later.turns ≡ p.turns → (requests : List Request) (awaited : List (Option ℕ)) (o : Option Request) (w : Work) → option_and_then page_in o ≡ None
       → WorksFor cluster corpus t new p requests awaited o w → WorksFor cluster corpus t false later requests awaited o w
-  still_works new p later asked version turns requests awaited None w none x = absurd x
-  still_works new p later asked version turns requests awaited (Some (asks.Search ask)) w none x = rw asked x
-  still_works new p later asked version turns requests awaited (Some (asks.Query ask)) w none x = rw (version, turns) x
-  still_works new p later asked version turns requests awaited (Some (asks.Fetch ask)) w none x = rw turns x
-  still_works new p later asked version turns requests awaited (Some (asks.Scroll ask)) w none x = absurd (cc)
+  still_works new p later asked came created updated version turns requests awaited None w none x = absurd x
+  still_works new p later asked came created updated version turns requests awaited (Some (asks.Search ask)) w none x = rw asked x
+  still_works new p later asked came created updated version turns requests awaited (Some (asks.Query ask)) w none x = rw (version, turns) x
+  still_works new p later asked came created updated version turns requests awaited (Some (asks.Fetch ask)) w none x = rw turns x
+  still_works new p later asked came created updated version turns requests awaited (Some (asks.Reindex ask)) w none x = rw (asked, came) x
+  still_works new p later asked came created updated version turns requests awaited (Some (asks.Slice ask)) w none x = rw (asked, came) x
+  still_works new p later asked came created updated version turns requests awaited (Some (asks.Bulk ask)) w none x = rw asked x
+  still_works new p later asked came created updated version turns requests awaited (Some (asks.BulkShard ask)) w none x = part_works p later turns created updated awaited ask w x
+  still_works new p later asked came created updated version turns requests awaited (Some (asks.Scroll ask)) w none x = absurd (cc)
 
   -- the work with which a child is put: a page is none yet
-  pub put_works : (request : Request) (page : Option Context) (w : Work) → new_work t request cluster.shards page ≡ Some w → ((writes : List Doc) → IsWorkOn w writes) → IsWithin cluster corpus request
+  pub put_works : (request : Request) (page : Option Context) (w : Work) → IsNewWork t request cluster.shards page w → ((writes : List Doc) → IsWorkOn w writes) → IsWithin cluster corpus request
       → WorksFor cluster corpus t true (starting None) [] [] (Some request) w
   put_works (asks.Scroll ask) page w is on within = page_first cluster corpus t ask w
   put_works (asks.Search ask) page w is on within = works_first cluster corpus t true (asks.Search ask) None w is on tt within
   put_works (asks.Query ask) page w is on within = works_first cluster corpus t true (asks.Query ask) None w is on tt within
   put_works (asks.Fetch ask) page w is on within = works_first cluster corpus t true (asks.Fetch ask) None w is on tt within
+  put_works (asks.Reindex ask) page w is on within = reindex_starts cluster t page ask w is
+  put_works (asks.Slice ask) page w is on within = slice_starts cluster t page ask w is
+  put_works (asks.Bulk ask) page w is on within = bulk_starts cluster corpus ask t page w is within
+  put_works (asks.BulkShard ask) page w is on within = part_starts cluster corpus ask t page None w is within

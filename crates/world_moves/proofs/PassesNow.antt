@@ -51,6 +51,10 @@ page_request None ask e = absurd (cc)
 page_request (Some (asks.Search other)) ask e = absurd (cc)
 page_request (Some (asks.Query other)) ask e = absurd (cc)
 page_request (Some (asks.Fetch other)) ask e = absurd (cc)
+page_request (Some (asks.Reindex other)) ask e = absurd (cc)
+page_request (Some (asks.Slice other)) ask e = absurd (cc)
+page_request (Some (asks.Bulk other)) ask e = absurd (cc)
+page_request (Some (asks.BulkShard other)) ask e = absurd (cc)
 page_request (Some (asks.Scroll other)) ask e = let same : other ≡ ask = cc in ap (λ a. Some (asks.Scroll a)) same
 
 -- what is made of contexts goes by that alone
@@ -59,6 +63,10 @@ taken_alike now t None q c = refl
 taken_alike now t (Some (asks.Search ask)) q c = refl
 taken_alike now t (Some (asks.Query ask)) q c = refl
 taken_alike now t (Some (asks.Fetch ask)) q c = refl
+taken_alike now t (Some (asks.Reindex ask)) q c = refl
+taken_alike now t (Some (asks.Slice ask)) q c = refl
+taken_alike now t (Some (asks.Bulk ask)) q c = refl
+taken_alike now t (Some (asks.BulkShard ask)) q c = refl
 taken_alike now t (Some (asks.Scroll ask)) q c = refl
 
 -- a context of a task's own that no task uses is given to it
@@ -140,7 +148,7 @@ module _ (cluster : Cluster) (corpus : Corpus) (script : Script) (h : List Event
       of_page : (page : Option ScrollAsk) → r.page ≡ page → WorksOn cluster corpus script t h (unwrap_or work r.work)
       of_page None is =
           let none : work ≡ None = made ∙ ap (option_and_then (λ ask. new_work t (asks.Scroll ask) cluster.shards (context_in contexts ask.id))) is in
-          rw none (still_works cluster (so_far corpus script h) t (is_new t h) (progress_from cluster (so_far corpus script) (facts_of (scripted script) t h)) (progress_from cluster (so_far corpus script) (passing script t h)) refl refl refl
+          rw none (still_works cluster (so_far corpus script h) t (is_new t h) (progress_from cluster (so_far corpus script) (facts_of (scripted script) t h)) (progress_from cluster (so_far corpus script) (passing script t h)) refl refl refl refl refl refl
           (requested_by t h) (awaited_by t h) (request_of (scripted script) t h) r.work (sym runs.page ∙ is) runs.works)
       of_page (Some ask) is =
           let some = new_page ask is work (made ∙ ap (option_and_then (λ ask. new_work t (asks.Scroll ask) cluster.shards (context_in contexts ask.id))) is) in

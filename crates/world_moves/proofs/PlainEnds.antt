@@ -1,4 +1,4 @@
--- A search that ends replies with the plain answer, and so does a page; and a query that ends read its shard in time.
+-- A search that ends replies with the plain answer, and so does a page; a query that ends read its shard in time; and a reindex that ends replies with what it has counted.
 use Rattle.std.proofs.Common.{◌≡◌, ◌+◌, ℕ, zero, suc, true, Bool, false, cond, List, [], ◌∷◌, map, length, Option, Some, None, refl, sym, ap, subst, ◌∙◌, arith}
 use Rattle.std.specs.Prelude.{slice_get, is_some}
 use Rattle.std.specs.List.{AllByRecursion, range_with_len}
@@ -13,11 +13,13 @@ use Rattle.task_events.specs.declared.request.HitKey.{HitKey}
 use Rattle.task_events.specs.declared.context.Context.{Context}
 use Rattle.task_events.specs.declared.reading.ShardRead.{ShardRead}
 use Rattle.task_events.specs.declared.request.Request.{Request}
+use Rattle.task_events.specs.declared.request.ReindexAsk.{ReindexAsk}
 use Rattle.task_events.specs.declared.request.Request.TheVariants as asks
 use Rattle.task_events.specs.declared.request.ShardAsk.{ShardAsk}
 use Rattle.task_events.specs.declared.reply.Counts.{Counts}
 use Rattle.task_events.specs.declared.reply.ShardTop.{ShardTop}
 use Rattle.task_events.specs.declared.reply.Reply.{Reply}
+use Rattle.task_events.specs.declared.reply.Reply.TheVariants.{Wrote}
 use Rattle.task_events.specs.declared.event.Event.{Event}
 use Rattle.task_events.specs.declared.step.Asked.{Asked}
 use Rattle.task_events.specs.declared.step.Do.TheVariants.{Finish}
@@ -36,9 +38,10 @@ use Rattle.task_events.specs.Tasks.{is_live, is_new}
 use Rattle.search_phase.specs.Searching.{Searching, IsHonest, AllHonest, reply_of, next_step, has_ended}
 use Rattle.search_phase.proofs.Plain.{answer_of_top, honest_search_is_plain}
 use Rattle.search_phase.proofs.Requests.{HasEnded, ended, list_all-slice_get, request_of_query}
+use Rattle.reindex.specs.declared.root.ReindexRoot.TheVariants.{Alone, Cut}
 use Rattle.task_work.specs.declared.work.Work.{Work}
 use Rattle.task_work.specs.declared.work.Work.TheVariants as works
-use Rattle.task_work.specs.Works.{next_of}
+use Rattle.task_work.specs.Works.{counts_of, next_of}
 use Rattle.node_parts.specs.declared.running.Running.{Running}
 use Rattle.script_lang.specs.declared.command.Script.{Script}
 use Rattle.command_roots.specs.Roots.{scripted}
@@ -46,16 +49,19 @@ use Rattle.world_moves.specs.declared.flight.Sent.{Sent}
 use Rattle.world_moves.specs.Facts.{facts_of, awaited_by, requested_by}
 use Rattle.world_moves.specs.Plain.{EndsPlainly, IsPlainReply, IsPlainPage, ReadsInTime, AnswersPlainly, read_by}
 use Rattle.world_moves.specs.QueryRuns.{RunsQuery}
+use Rattle.world_moves.specs.ReindexRuns.{RunsReindex}
 use Rattle.world_moves.specs.SearchRuns.{SearchesFor, RunsPage}
 use Rattle.world_moves.specs.Ties.{Ties, WorksFor, version_from, progress_from}
 use Rattle.world_moves.specs.Good.{so_far, own_writes, writes_for}
 use Rattle.world_moves.proofs.AsksCounted.{requested_at}
 use Rattle.world_moves.proofs.AsksFor.{asks_first, answer_told, first_at}
 use Rattle.world_moves.proofs.ByPlace.{all_here, all_joined}
+use Rattle.world_moves.proofs.CountsKept.{counted_so}
 use Rattle.world_moves.proofs.SearchLaws.{search_ends}
 use Rattle.world_moves.proofs.Numbered.{is_searching}
 use Rattle.world_moves.proofs.ReadInTime.{version_told, found_in_time}
 use Rattle.world_moves.proofs.ShardsTold.{IsAllTold, failed_told, failures_same, query_asked, counts_same}
+use Rattle.world_moves.proofs.SliceLaws as slices
 use Rattle.world_moves.proofs.StepsAfter.{kept_running}
 
 -- ---- asks
@@ -182,16 +188,26 @@ module _ (cluster : Cluster) (corpus : Corpus) (script : Script) (h : List Event
       subst (λ reply. ReadsInTime cluster look t ask h reply) (sym found.1) (found.2 ∙ x.version_is ∙ ap (option_or ask.version) began)
   query_end ask version turns awaited _ looked now end began x e = absurd x
 
+  reindex_end : (ask : ReindexAsk) (asked : List Asked) (came : List ℕ) (w : Work) (looked : List Doc) (now : ℕ) (end : Reply) → RunsReindex cluster.shards t asked came (requested_by t h) (awaited_by t h) ask w
+      → next_of w looked now ≡ Finish end → end ≡ Wrote (counts_of w)
+  reindex_end ask asked came (works.Reindex (Alone s)) looked now end x e = slices.ends_so cluster (look h) t ask 0 asked came (requested_by t h) (awaited_by t h) s x.1 now end e
+  reindex_end ask asked came (works.Reindex (Cut c)) looked now end x e = (search_ends _ _ (Wrote c.counts) end e).1
+  reindex_end ask asked came _ looked now end x e = absurd x
+
   kind_end : (p : Progress) (counts : Counts) (o : Option Request) (w : Work) (looked : List Doc) (now : ℕ) (end : Reply) → p.asked ≡ asked_by t h → p.version ≡ version_from cluster look o (before_first_turn t h)
-      → WorksFor cluster (look h) t false p (requested_by t h) (awaited_by t h) o w → next_of w looked now ≡ Finish end → EndsPlainly cluster look t p.page None counts o h end
-  kind_end p counts None w looked now end asked began x e = absurd x
-  kind_end p counts (Some (asks.Search ask)) (works.Search s) looked now end asked began x e =
+      → counts ≡ counts_of w → WorksFor cluster (look h) t false p (requested_by t h) (awaited_by t h) o w → next_of w looked now ≡ Finish end → EndsPlainly cluster look t p.page None counts o h end
+  kind_end p counts None w looked now end asked began has x e = absurd x
+  kind_end p counts (Some (asks.Search ask)) (works.Search s) looked now end asked began has x e =
       let r : Reading = search_reading t ask cluster.shards in
       plain_end r s end (subst (λ xs. SearchesFor cluster (look h) r xs (requested_by t h) (awaited_by t h) s) asked x) e
-  kind_end p counts (Some (asks.Scroll ask)) w looked now end asked began x e = page_end ask.id p.page w looked now end (subst (λ xs. RunsPage cluster (look h) ask.id false p.page xs (requested_by t h) (awaited_by t h) w) asked x) e
-  kind_end p counts (Some (asks.Query ask)) w looked now end asked began x e = query_end ask p.version p.turns (awaited_by t h) w looked now end began x e
-  kind_end p counts (Some (asks.Fetch ask)) w looked now end asked began x e = tt
-  kind_end p counts (Some (asks.Search ask)) _ looked now end asked began x e = absurd x
+  kind_end p counts (Some (asks.Scroll ask)) w looked now end asked began has x e = page_end ask.id p.page w looked now end (subst (λ xs. RunsPage cluster (look h) ask.id false p.page xs (requested_by t h) (awaited_by t h) w) asked x) e
+  kind_end p counts (Some (asks.Query ask)) w looked now end asked began has x e = query_end ask p.version p.turns (awaited_by t h) w looked now end began x e
+  kind_end p counts (Some (asks.Fetch ask)) w looked now end asked began has x e = tt
+  kind_end p counts (Some (asks.Reindex ask)) w looked now end asked began has x e = reindex_end ask p.asked p.came w looked now end x e ∙ ap Wrote (sym has)
+  kind_end p counts (Some (asks.Slice ask)) w looked now end asked began has x e = tt
+  kind_end p counts (Some (asks.Bulk ask)) w looked now end asked began has x e = tt
+  kind_end p counts (Some (asks.BulkShard ask)) w looked now end asked began has x e = tt
+  kind_end p counts (Some (asks.Search ask)) _ looked now end asked began has x e = absurd x
 
 module _ (cluster : Cluster) (corpus : Corpus) (script : Script) (h : List Event) (tasks : TaskId → Option Running) (tables : List Table) (flight : List Sent) (ties : Ties cluster corpus script h tasks tables flight) where
   pub replies_plainly : (t : TaskId) (now : ℕ) (r : Running) (reply : Reply) → is_live t h ≡ true → is_new t h ≡ false → tasks t ≡ Some r → next_of r.work (own_writes cluster (so_far corpus script h) (request_of (scripted script) t h)) now ≡ Finish reply
@@ -200,4 +216,5 @@ module _ (cluster : Cluster) (corpus : Corpus) (script : Script) (h : List Event
       let p : Progress = progress_from cluster (so_far corpus script) (facts_of (scripted script) t h) in
       let works = (kept_running cluster corpus script h tasks tables flight ties t live r here).works in
       kind_end cluster corpus script h ties.lawful ties.plain t p (counted cluster corpus (scripted script) t h) (request_of (scripted script) t h) r.work (own_writes cluster (so_far corpus script h) (request_of (scripted script) t h)) now reply refl refl
+      (counted_so cluster corpus script h tasks tables flight ties t live passed r here)
       (subst (λ new. WorksFor cluster (so_far corpus script h) t new p (requested_by t h) (awaited_by t h) (request_of (scripted script) t h) r.work) passed works) step

@@ -16,7 +16,7 @@ use Rattle.task_events.specs.Looking.{is_done}
 use Rattle.task_events.specs.QueryTask.{query_step}
 use Rattle.task_events.specs.declared.reply.Counts.{Counts}
 use Rattle.task_events.specs.Kind.{Progress}
-use Rattle.task_events.specs.Kinds.{are_below}
+use Rattle.task_events.specs.Counting.{are_below}
 use Rattle.corpus_shards.specs.Placed.{AreFew}
 use Rattle.search_phase.specs.Queries.{QueryState, new_query, without_keys, looked, version_at}
 use Rattle.task_work.specs.declared.work.Work.{Work}
@@ -128,7 +128,7 @@ module _ (cluster : Cluster) (corpus : Corpus) (t : TaskId) (p : Progress) (requ
     };
     asks = λ request now plan. absurd (asks_nothing _ _ request (plan mine x.on));
     takes_answer = λ i r reply now there unanswered good. absurd (asks_something awaited i unanswered x.asks_nothing);
-    moves = λ writes now none. looks_on _ _;
+    moves = λ few writes now none. looks_on _ _;
     none_left = λ writes now end e. ap none_awaited x.asks_nothing;
     plain = λ writes now end e. subst IsPlain (sym (work_ends _ (Top (shard_top q.ask (version_at q writes) writes)) end e)) (refl, refl);
     ends_well = λ few now end e.

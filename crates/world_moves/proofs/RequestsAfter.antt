@@ -10,7 +10,7 @@ use Rattle.task_ids.specs.declared.corpus.Corpus.{Corpus}
 use Rattle.task_ids.specs.declared.doc.Doc.{Doc}
 use Rattle.child_track.specs.Token.{Token}
 use Rattle.task_table.specs.Table.{Table}
-use Rattle.task_work.specs.Works.{IsWorkOn, new_work}
+use Rattle.task_work.specs.Works.{IsWorkOn, IsNewWork}
 use Rattle.script_lang.specs.declared.command.Script.{Script}
 use Rattle.task_events.specs.declared.reply.Reply.TheVariants.{Rejected}
 use Rattle.task_events.specs.declared.context.Context.{Context}
@@ -58,7 +58,7 @@ module _ (cluster : Cluster) (corpus : Corpus) (script : Script) (h : List Event
     pub delivers_put : Delivers cluster h nth (Put t token.parent token.ask ∷ h)
     delivers_put = (Request token.parent token.ask to arrives.asked, Put t token.parent token.ask, arrives.here, (put_takes cluster h tables ties.listed to arrives.low arrives.high t task after put ties.lawful, node_is, refl, refl), refl)
 
-    pub after_put : (running : Running) (kept : TaskId → Option Running) (headers : Headers) → running ≡ first t (Some token) true arrives.asked running.work headers → (page : Option Context) → new_work t arrives.asked cluster.shards page ≡ Some running.work → headers ≡ headers_of (scripted script) token.parent h → ((writes : List Doc) → IsWorkOn running.work writes)
+    pub after_put : (running : Running) (kept : TaskId → Option Running) (headers : Headers) → running ≡ first t (Some token) true arrives.asked running.work headers → (page : Option Context) → IsNewWork t arrives.asked cluster.shards page running.work → headers ≡ headers_of (scripted script) token.parent h → ((writes : List Doc) → IsWorkOn running.work writes)
         → kept t ≡ Some running → ((q : TaskId) → same_task t q ≡ false → kept q ≡ tasks q)
         → Ties cluster corpus script (Put t token.parent token.ask ∷ h) kept after (remove flight nth)
     after_put running kept headers is page work carried on here others = record {

@@ -68,7 +68,7 @@ unnoted b k reply (a ∷ asked) e l =
     let other : (a.ask == k) ≡ false = grind (arith, nat_tests) in
     rw other (ap (λ xs. a ∷ xs) (unnoted (b + 1) k reply asked (cc) (omega arith)))
 
-noted : (b : ℕ) (reply : Reply) (asked : List Asked) (open_asks : List (Option ℕ)) (i : ℕ) → map (λ a. a.ask) asked ≡ range_with_len b (length asked)
+pub noted : (b : ℕ) (reply : Reply) (asked : List Asked) (open_asks : List (Option ℕ)) (i : ℕ) → map (λ a. a.ask) asked ≡ range_with_len b (length asked)
     → map (λ a. is_some a.answer) asked ≡ map (λ o. not (is_some o)) open_asks
     → map (λ a. is_some a.answer) (map (answered_by (b + i) reply) asked) ≡ map (λ o. not (is_some o)) (slice_set open_asks i None)
 noted b reply [] [] i e f = f
@@ -171,6 +171,7 @@ module _ (cluster : Cluster) (corpus : Corpus) (q : Reading) (asked : List Asked
           state_is = refl;
           reading_is = x.reading_is;
           few = x.few;
+          shown = x.shown;
           within = x.within;
           numbered = same_numbers (1 + i) reply asked ∙ x.numbered ∙ ap (range_with_len 1) (sym as_long);
           planned =

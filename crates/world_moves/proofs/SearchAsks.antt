@@ -80,6 +80,7 @@ module _ (cluster : Cluster) (corpus : Corpus) (r : Reading) (asked : List Asked
         state_is = ap (λ z. searching.with_ask z k) x.state_is;
         reading_is = x.reading_is;
         few = x.few;
+        shown = x.shown;
         within = x.within;
         numbered = numbered-grown 1 asked a x.numbered (omega arith);
         planned =

@@ -21,7 +21,8 @@ use Rattle.task_events.specs.Readings.{Reading, search_reading, shard_read, vers
 use Rattle.task_events.specs.Searches.{are_answered, search_reply, failed_in}
 use Rattle.task_events.specs.Steps.{with_answer as asked_with_answer}
 use Rattle.task_events.specs.Kind.{Progress}
-use Rattle.task_events.specs.Kinds.{kind_of, are_below, can_have}
+use Rattle.task_events.specs.Counting.{are_below}
+use Rattle.task_events.specs.Kinds.{kind_of, can_have}
 use Rattle.task_events.specs.declared.reply.Counts.{Counts}
 use Rattle.task_events.specs.declared.reading.ShardRead.{ShardRead}
 use Rattle.task_ids.specs.declared.doc.Doc.{Doc}
@@ -57,19 +58,19 @@ search_plain r asked = here (length (failed_in r asked) == length r.shards) _
     here false x = (refl, refl)
 
 -- a search takes no turn
-no_turn : (o : Option Request) (b : Bool) (reply : Reply) → ask_or_end o b reply ≢ Turn
+pub no_turn : (o : Option Request) (b : Bool) (reply : Reply) → ask_or_end o b reply ≢ Turn
 no_turn None true reply e = cc
 no_turn None false reply e = cc
 no_turn (Some request) b reply e = cc
 
 -- with all answers it does not wait
-ends_or_asks : (next : Option Request) (answered : Bool) (reply : Reply) → answered ≡ true → does_wait (ask_or_end next answered reply) ≡ is_some (due_in (ask_or_end next answered reply))
+pub ends_or_asks : (next : Option Request) (answered : Bool) (reply : Reply) → answered ≡ true → does_wait (ask_or_end next answered reply) ≡ is_some (due_in (ask_or_end next answered reply))
 ends_or_asks (Some request) answered reply all = refl
 ends_or_asks None true reply all = refl
 ends_or_asks None false reply all = absurd (cc)
 
 -- no ask is awaited, so all are answered
-all_known : (asked : List Asked) (awaited : List (Option ℕ)) → map (λ a. is_some a.answer) asked ≡ map (λ o. not (is_some o)) awaited → none_awaited awaited ≡ true → are_answered asked ≡ true
+pub all_known : (asked : List Asked) (awaited : List (Option ℕ)) → map (λ a. is_some a.answer) asked ≡ map (λ o. not (is_some o)) awaited → none_awaited awaited ≡ true → are_answered asked ≡ true
 all_known [] awaited e none = refl
 all_known (a ∷ asked) [] e none = absurd (cc)
 all_known (a ∷ asked) (Some n ∷ awaited) e none = absurd (cc)
@@ -81,8 +82,8 @@ all_known (a ∷ asked) (None ∷ awaited) e none =
 
 module _ (cluster : Cluster) (corpus : Corpus) (r : Reading) where
   -- nothing was asked yet
-  pub starts_so : IsReading r → length r.shards ≤ cluster.shards → ((place : ℕ) (at : ShardRead) → slice_get r.shards place ≡ Some at → IsShardWithin cluster corpus r.ask.index (shard_read at) (version_read at)) → SearchesFor cluster corpus r [] [] [] (new_search r)
-  starts_so sound few within = record { within = within; state_is = refl; reading_is = sound; few = few; numbered = refl; planned = refl; as_many = refl; answered = refl; good = λ place a request reply at asks answered. absurd (cc) }
+  pub starts_so : IsReading r → length r.shards ≤ cluster.shards → r.ask.body.size ≤ 10000 → ((place : ℕ) (at : ShardRead) → slice_get r.shards place ≡ Some at → IsShardWithin cluster corpus r.ask.index (shard_read at) (version_read at)) → SearchesFor cluster corpus r [] [] [] (new_search r)
+  starts_so sound few shown within = record { within = within; state_is = refl; reading_is = sound; few = few; shown = shown; numbered = refl; planned = refl; as_many = refl; answered = refl; good = λ place a request reply at asks answered. absurd (cc) }
 
 module _ (cluster : Cluster) (corpus : Corpus) (r : Reading) (asked : List Asked) (requests : List Request) (awaited : List (Option ℕ)) (s : Searching) (x : SearchesFor cluster corpus r asked requests awaited s) where
   whole : SearchesFor cluster corpus r asked requests awaited (record { reading = r; asked = asked })
@@ -137,6 +138,7 @@ search_grows cluster corpus later grows r asked requests awaited s x = record {
   state_is = x.state_is;
   reading_is = x.reading_is;
   few = x.few;
+  shown = x.shown;
   numbered = x.numbered;
   planned = x.planned;
   as_many = x.as_many;
@@ -148,11 +150,11 @@ search_grows cluster corpus later grows r asked requests awaited s x = record {
 -- ---- the laws of a search
 
 module _ (cluster : Cluster) (corpus : Corpus) (ask : SearchAsk) where
-  pub search_starts : (t : TaskId) → RunsSearch cluster corpus (search_reading t ask cluster.shards) [] [] [] (works.Search (new_search (search_reading t ask cluster.shards)))
-  search_starts t =
+  pub search_starts : (t : TaskId) → ask.body.size ≤ 10000 → RunsSearch cluster corpus (search_reading t ask cluster.shards) [] [] [] (works.Search (new_search (search_reading t ask cluster.shards)))
+  search_starts t shown =
       let few : cluster.shards ≤ 15 = cluster.shards_in_range.1 in
       let many : length (search_reading t ask cluster.shards).shards ≡ cluster.shards = length-map (range_with_len 0 cluster.shards) Newest ∙ length-range_with_len 0 cluster.shards in
-      starts_so cluster corpus (search_reading t ask cluster.shards) (search_is_reading t ask cluster.shards (omega arith)) (omega arith) (λ place at is. newest_within 0 cluster.shards (omega arith) place at is)
+      starts_so cluster corpus (search_reading t ask cluster.shards) (search_is_reading t ask cluster.shards (omega arith)) (omega arith) shown (λ place at is. newest_within 0 cluster.shards (omega arith) place at is)
     where
       newest_so : (shard : ℕ) (at : ShardRead) → shard < cluster.shards → Newest shard ≡ at → IsShardWithin cluster corpus ask.index (shard_read at) (version_read at)
       newest_so shard at low is = subst (λ x. IsShardWithin cluster corpus ask.index (shard_read x) (version_read x)) is (low, λ v e. absurd (let f : None ≡ Some v = e in cc))
@@ -194,7 +196,7 @@ module _ (cluster : Cluster) (corpus : Corpus) (t : TaskId) (p : Progress) (requ
           takes = takes_so cluster corpus r p.asked requests awaited s x i q reply there unanswered good;
           after = λ answer is. answered_so cluster corpus r p.asked requests awaited s x i q reply there unanswered good answer is;
         };
-        moves = λ writes now none. moves_so cluster corpus r p.asked requests awaited s x none;
+        moves = λ few writes now none. moves_so cluster corpus r p.asked requests awaited s x none;
         none_left = λ writes now end e. none_left_so cluster corpus r p.asked requests awaited s x end e;
         plain = λ writes now end e. plain_so cluster corpus r p.asked requests awaited s x end e;
         ends_well = λ few now end e.

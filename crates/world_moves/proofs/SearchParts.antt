@@ -3,7 +3,7 @@ use Rattle.std.proofs.Common.{◌≡◌, ℕ, zero, suc, Bool, true, false, cond
 use Rattle.std.specs.Prelude.{slice_get, is_some}
 use Rattle.task_events.specs.declared.reading.ShardRead.{ShardRead}
 use Rattle.task_events.specs.declared.reply.Reply.{Reply}
-use Rattle.task_events.specs.declared.reply.Reply.TheVariants.{Search, Top, Hits, AllFailed, Cancelled, Rejected}
+use Rattle.task_events.specs.declared.reply.Reply.TheVariants.{Search, Top, Hits, AllFailed, Wrote, Cancelled, Rejected}
 use Rattle.task_events.specs.declared.request.FetchAsk.{FetchAsk}
 use Rattle.task_events.specs.declared.request.Request.{Request}
 use Rattle.task_events.specs.declared.request.Request.TheVariants as asks
@@ -40,12 +40,24 @@ any_shards n m (asks.Scroll ask) reply part = absurd (let f : false ≡ true = p
 any_shards n m (asks.Query ask) (Search found) part = refl
 any_shards n m (asks.Query ask) (Top top) part = refl
 any_shards n m (asks.Query ask) (Hits hits) part = refl
+any_shards n m (asks.Query ask) (Wrote counts) part = refl
 any_shards n m (asks.Query ask) (AllFailed failed) part = refl
 any_shards n m (asks.Query ask) (Cancelled task cancel counts) part = refl
 any_shards n m (asks.Query ask) (Rejected node) part = refl
 any_shards n m (asks.Fetch ask) (Search found) part = refl
 any_shards n m (asks.Fetch ask) (Top top) part = refl
 any_shards n m (asks.Fetch ask) (Hits hits) part = refl
+any_shards n m (asks.Fetch ask) (Wrote counts) part = refl
 any_shards n m (asks.Fetch ask) (AllFailed failed) part = refl
 any_shards n m (asks.Fetch ask) (Cancelled task cancel counts) part = refl
 any_shards n m (asks.Fetch ask) (Rejected node) part = refl
+any_shards n m (asks.Reindex ask) reply part = absurd (let f : false ≡ true = part in cc)
+any_shards n m (asks.Slice ask) reply part = absurd (let f : false ≡ true = part in cc)
+any_shards n m (asks.Bulk ask) reply part = absurd (let f : false ≡ true = part in cc)
+any_shards n m (asks.BulkShard ask) (Search found) part = refl
+any_shards n m (asks.BulkShard ask) (Top top) part = refl
+any_shards n m (asks.BulkShard ask) (Hits hits) part = refl
+any_shards n m (asks.BulkShard ask) (AllFailed failed) part = refl
+any_shards n m (asks.BulkShard ask) (Wrote counts) part = refl
+any_shards n m (asks.BulkShard ask) (Cancelled task cancel counts) part = refl
+any_shards n m (asks.BulkShard ask) (Rejected node) part = refl

@@ -8,7 +8,7 @@ use Rattle.task_ids.specs.declared.task_id.TaskId.{TaskId}
 use Rattle.task_events.specs.declared.event.Event.{Event}
 use Rattle.task_events.specs.declared.reply.FailedShard.{FailedShard}
 use Rattle.task_events.specs.declared.reply.Reply.{Reply}
-use Rattle.task_events.specs.declared.reply.Reply.TheVariants.{Search, Top, Hits, AllFailed, Cancelled, Rejected}
+use Rattle.task_events.specs.declared.reply.Reply.TheVariants.{Search, Top, Hits, AllFailed, Wrote, Cancelled, Rejected}
 use Rattle.task_events.specs.declared.reply.ShardFailure.{ShardFailure}
 use Rattle.task_events.specs.declared.reply.ShardTop.{ShardTop}
 use Rattle.task_ids.specs.declared.doc.Doc.{Doc}
@@ -83,9 +83,14 @@ query_reply shards (asks.Query ask) shard (Rejected node) is can = tt
 query_reply shards (asks.Query ask) shard (Search reply) is can = absurd (cc)
 query_reply shards (asks.Query ask) shard (AllFailed failed) is can = absurd (cc)
 query_reply shards (asks.Query ask) shard (Hits hits) is can = absurd (cc)
+query_reply shards (asks.Query ask) shard (Wrote counts) is can = absurd (cc)
 query_reply shards (asks.Search ask) shard reply is can = absurd (cc)
 query_reply shards (asks.Scroll ask) shard reply is can = absurd (cc)
 query_reply shards (asks.Fetch ask) shard reply is can = absurd (cc)
+query_reply shards (asks.Reindex ask) shard reply is can = absurd (cc)
+query_reply shards (asks.Slice ask) shard reply is can = absurd (cc)
+query_reply shards (asks.Bulk ask) shard reply is can = absurd (cc)
+query_reply shards (asks.BulkShard ask) shard reply is can = absurd (cc)
 
 fetch_reply : (shards : ℕ) (r : Request) (shard : ℕ) (reply : Reply) → is_fetch_of shard r ≡ true → can_have shards r reply ≡ true → IsFetchReply reply
 fetch_reply shards (asks.Fetch ask) shard (Hits hits) is can = tt
@@ -94,9 +99,14 @@ fetch_reply shards (asks.Fetch ask) shard (Rejected node) is can = tt
 fetch_reply shards (asks.Fetch ask) shard (Search reply) is can = absurd (cc)
 fetch_reply shards (asks.Fetch ask) shard (AllFailed failed) is can = absurd (cc)
 fetch_reply shards (asks.Fetch ask) shard (Top top) is can = absurd (cc)
+fetch_reply shards (asks.Fetch ask) shard (Wrote counts) is can = absurd (cc)
 fetch_reply shards (asks.Search ask) shard reply is can = absurd (cc)
 fetch_reply shards (asks.Scroll ask) shard reply is can = absurd (cc)
 fetch_reply shards (asks.Query ask) shard reply is can = absurd (cc)
+fetch_reply shards (asks.Reindex ask) shard reply is can = absurd (cc)
+fetch_reply shards (asks.Slice ask) shard reply is can = absurd (cc)
+fetch_reply shards (asks.Bulk ask) shard reply is can = absurd (cc)
+fetch_reply shards (asks.BulkShard ask) shard reply is can = absurd (cc)
 
 -- a shard failed exactly where a cause is told
 fetch_why : (o : Option Reply) → ((reply : Reply) → o ≡ Some reply → IsFetchReply reply) → is_some (option_and_then failure_in o) ≡ option_map_or (λ reply. not (are_hits reply)) o false
@@ -107,6 +117,7 @@ fetch_why (Some (Rejected node)) can = refl
 fetch_why (Some (Search reply)) can = absurd (can _ refl)
 fetch_why (Some (AllFailed failed)) can = absurd (can _ refl)
 fetch_why (Some (Top top)) can = absurd (can _ refl)
+fetch_why (Some (Wrote counts)) can = absurd (can _ refl)
 
 query_why : (reply : Reply) (fetched : Option ShardFailure) (failed : Bool) → IsQueryReply reply → is_some fetched ≡ failed → is_some (option_or (failure_in reply) fetched) ≡ (not (is_some (top_of reply)) || failed)
 query_why (Top top) fetched failed can e = e
@@ -115,6 +126,7 @@ query_why (Rejected node) fetched failed can e = refl
 query_why (Search reply) fetched failed can e = absurd can
 query_why (AllFailed shards) fetched failed can e = absurd can
 query_why (Hits hits) fetched failed can e = absurd can
+query_why (Wrote counts) fetched failed can e = absurd can
 
 -- ---- where all asks are answered
 

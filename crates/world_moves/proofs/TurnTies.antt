@@ -20,7 +20,7 @@ use Rattle.task_work.specs.declared.work.Work.{Work}
 use Rattle.task_work.specs.Works.{IsWorkOn, next_of, place_of, docs_next, with_turn, work_notes}
 use Rattle.command_roots.specs.Roots.{scripted}
 use Rattle.corpus_shards.specs.declared.Shards.{Shards}
-use Rattle.corpus_shards.specs.Stored.{HasWritten, Replaces, is_of_corpus, writes_in}
+use Rattle.corpus_shards.specs.Stored.{HasWritten, Replaces, was_there, writes_in}
 use Rattle.corpus_shards.proofs.Appended.{appended}
 use Rattle.node_parts.specs.declared.running.Running.{Running}
 use Rattle.node_parts.specs.Running.{DoesNext}
@@ -83,7 +83,7 @@ module _ (s : State) (tied : IsTied s) (t : TaskId) (r : Running) (live : is_liv
       noted_is notes are = past_is ∙ ap (λ those. with_notes those (worked t ∷ s.history)) (sym (are ∙ ap (work_notes r.work) is_own))
 
       module _ (w : Work) (left : List Doc) (turned : w ≡ with_turn r.work found) (on : IsWorkOn w left) (written : left ≡ found ++ docs_next r.work) (few : length left < 2 ^ 32)
-          (replaces : Replaces index number left old new) (of_corpus : (q : List ℕ) → is_of_corpus old q ≡ is_of_corpus s.shards q) (after : BTreeMap TaskId Running) (now_here : task_at after t ≡ Some (record r { work = w })) (others : (q : TaskId) → same_task t q ≡ false → task_at after q ≡ task_at s.tasks q) where
+          (replaces : Replaces index number left old new) (from_start : (q : List ℕ) → was_there old q ≡ was_there s.shards q) (after : BTreeMap TaskId Running) (now_here : task_at after t ≡ Some (record r { work = w })) (others : (q : TaskId) → same_task t q ≡ false → task_at after q ≡ task_at s.tasks q) where
         has_later : HasWritten (so_far s.corpus.now s.script.now (with_notes (work_notes r.work own) (worked t ∷ s.history))) s.cluster.shards new
         has_later = subst (λ now. HasWritten now s.cluster.shards new) (sym (turns.later_is s.cluster s.corpus.now s.script.now s.history (task_at s.tasks) s.tables.items s.flight tied.ties t s.clock r live passed unmarked here index number place))
             (appended (so_far s.corpus.now s.script.now s.history) s.cluster.shards old new index number (docs_next r.work) has
@@ -110,7 +110,7 @@ module _ (s : State) (tied : IsTied s) (t : TaskId) (r : Running) (live : is_liv
           pages = notes_keep (λ g. Paging s.cluster s.corpus.now s.script.now g s.contexts.items)
               (λ i k outcome id g pages. quiet_pages s.cluster s.corpus.now s.script.now g s.contexts.items pages (Write i k outcome id) refl) (work_notes r.work own) (worked t ∷ s.history)
               (quiet_pages s.cluster s.corpus.now s.script.now s.history s.contexts.items tied.pages (worked t) refl);
-          shards = record { has = has_later; of_corpus = λ q. replaces.of_corpus q ∙ of_corpus q ∙ tied.shards.of_corpus q };
+          shards = record { has = has_later; from_start = λ q. replaces.from_start q ∙ from_start q ∙ tied.shards.from_start q };
           awaits = notes_keep AwaitsNoMark (λ i k outcome id g awaits. tt) (work_notes r.work own) (worked t ∷ s.history) tt;
         }
 

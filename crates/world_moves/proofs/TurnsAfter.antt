@@ -59,7 +59,11 @@ use Rattle.world_moves.proofs.RequestsWithin.{asked_within}
 placed_low : (cluster : Cluster) (corpus : Corpus) (q : Request) (index : List ℕ) (shard : ℕ) → (kind_of q).place ≡ Some (index, shard) → IsWithin cluster corpus q → shard < cluster.shards
 placed_low cluster corpus (asks.Query ask) index shard place within = subst (λ k. k < cluster.shards) (let same : ask.shard ≡ shard = ap (λ o. option_map_or (λ p. p.1) o 0) place in same) within.0
 placed_low cluster corpus (asks.Fetch ask) index shard place within = subst (λ k. k < cluster.shards) (let same : ask.shard ≡ shard = ap (λ o. option_map_or (λ p. p.1) o 0) place in same) within.0
+placed_low cluster corpus (asks.BulkShard ask) index shard place within = subst (λ k. k < cluster.shards) (let same : ask.shard ≡ shard = ap (λ o. option_map_or (λ p. p.1) o 0) place in same) within.shard
 placed_low cluster corpus (asks.Search ask) index shard place within = absurd (cc)
+placed_low cluster corpus (asks.Reindex ask) index shard place within = absurd (cc)
+placed_low cluster corpus (asks.Slice ask) index shard place within = absurd (cc)
+placed_low cluster corpus (asks.Bulk ask) index shard place within = absurd (cc)
 placed_low cluster corpus (asks.Scroll ask) index shard place within = absurd (cc)
 
 -- a message stays good where more is written

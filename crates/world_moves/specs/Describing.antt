@@ -1,5 +1,5 @@
 -- What task lists show of the live tasks, as the world's tables say it.
-use Rattle.std.specs.Prelude.{◌≡◌, ℕ, ◌*◌, ◌^◌, ◌≤◌, List, length, Option, Some, None, All, slice_get, ⊤}
+use Rattle.std.specs.Prelude.{◌≡◌, ℕ, ◌*◌, ◌^◌, ◌<◌, ◌≤◌, List, length, Option, Some, None, All, slice_get, ⊤}
 use Rattle.std.specs.List.{AllByRecursion}
 use Rattle.task_ids.specs.declared.task_info.TaskInfo.{TaskInfo}
 use Rattle.task_table.specs.Table.{Table}
@@ -48,3 +48,5 @@ pub record Describing (script : Script) (h : List Event) (tables : List Table) (
   pub few_begun : last_command h ≤ 65536
   -- and no tick is longer than this
   pub clock_high : now ≤ length h * longest_tick
+  -- so it is far from the end of the numbers
+  pub clock_fits : now < 2 ^ 60

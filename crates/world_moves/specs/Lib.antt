@@ -1,4 +1,6 @@
 pub mod Acts
+pub mod AsksKnown
+pub mod BulkRuns
 pub mod Cancelling
 pub mod Cancels
 pub mod Describing
@@ -13,5 +15,6 @@ pub mod Owning
 pub mod Paging
 pub mod Plain
 pub mod QueryRuns
+pub mod ReindexRuns
 pub mod SearchRuns
 pub mod Ties

@@ -1,9 +1,9 @@
 -- The contexts that belong to tasks: a task has them opened by searches that it asks for, and asks for their pages one after the other.
-use Rattle.std.specs.Prelude.{◌≡◌, ℕ, true, false, List, Option, Some, None, ⊤}
+use Rattle.std.specs.Prelude.{◌≡◌, ℕ, true, false, List, [], ◌∷◌, Option, Some, None, nat_le, IsSomeAnd, ⊤}
 use Rattle.task_ids.specs.declared.task_id.TaskId.{TaskId}
 use Rattle.task_events.specs.declared.context.Context.{Context}
 use Rattle.task_events.specs.declared.event.Event.{Event}
-use Rattle.task_events.specs.declared.event.Event.TheVariants.{Root, Ask}
+use Rattle.task_events.specs.declared.event.Event.TheVariants.{Root, Ask, Pass}
 use Rattle.task_events.specs.declared.reply.Reply.TheVariants as replies
 use Rattle.task_events.specs.declared.reply.SearchReply.{SearchReply}
 use Rattle.task_events.specs.declared.request.Request.{Request}
@@ -11,7 +11,7 @@ use Rattle.task_events.specs.declared.request.Request.TheVariants as asks
 use Rattle.task_events.specs.declared.request.ScrollAsk.{ScrollAsk}
 use Rattle.task_events.specs.declared.request.SearchAsk.{SearchAsk}
 use Rattle.task_events.specs.Asks.{request_of_ask, is_unanswered}
-use Rattle.task_events.specs.Contexts.{context_at}
+use Rattle.task_events.specs.Contexts.{is_busy, context_at}
 use Rattle.task_events.specs.Requests.{Scripted, request_of}
 use Rattle.task_events.specs.Tasks.{is_live, has_ended, is_new, parent_of, reply_of}
 
@@ -52,9 +52,12 @@ pub record IsOwnPage (said : Scripted) (p : TaskId) (ask : ScrollAsk) (h : List 
   pub no_keep : ask.keep ≡ None
   pub opened : IsSearchOf said p ask.id h
 
--- a task asks for a search with a context of its own, which does not expire, or for one with a context of nobody's
-abbrev pub IsOwnSearch : TaskId → SearchAsk → Type 0
-IsOwnSearch p ask = (q : TaskId) → ask.owner ≡ Some q → (q ≡ p) × (ask.scroll ≡ None)
+-- a search that a task asks for has a context of its own, which does not expire, and shows the first rows, one at least
+pub record IsOwnSearch (p : TaskId) (ask : SearchAsk) : Type 0 where
+  pub own : ask.owner ≡ Some p
+  pub no_keep : ask.scroll ≡ None
+  pub from : ask.body.from ≡ 0
+  pub some : nat_le 1 ask.body.size ≡ true
 
 -- a task waits for a page
 pub record AwaitsPage (p : TaskId) (k : ℕ) (h : List Event) : Type 0 where
@@ -87,3 +90,23 @@ abbrev pub LeavesOwned : Scripted → Event → List Event → Type 0
 LeavesOwned said (Ask p k n r) h = MayAskOwn said p r h
 LeavesOwned said (Root k t) h = MayTakeFree said (said.root k h) h
 LeavesOwned said _ h = ⊤
+
+-- ---- one page at a time
+
+-- where a page is asked for, its context stands and no task uses it
+abbrev pub FindsFree : (TaskId → Option Context) → Option Request → Type 0
+FindsFree look (Some (asks.Scroll ask)) = IsSomeAnd (look ask.id) (λ c. is_busy c ≡ false)
+FindsFree look _ = ⊤
+
+-- what a task asks for opens no context but one of its own
+abbrev pub AsksForOwn : TaskId → Request → Type 0
+AsksForOwn p (asks.Search ask) = IsOwnSearch p ask
+AsksForOwn p _ = ⊤
+
+-- Each page began where no task used its context, and each context that a task had opened was its own.
+abbrev pub OneAtATime : Scripted → List Event → Type 0
+OneAtATime said [] = ⊤
+OneAtATime said (Root k t ∷ h) = FindsFree (λ id. context_at said id h) (said.root k h) × OneAtATime said h
+OneAtATime said (Pass t ∷ h) = FindsFree (λ id. context_at said id h) (request_of said t h) × OneAtATime said h
+OneAtATime said (Ask p k n r ∷ h) = AsksForOwn p r × OneAtATime said h
+OneAtATime said (_ ∷ h) = OneAtATime said h

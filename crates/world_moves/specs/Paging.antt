@@ -22,7 +22,7 @@ use Rattle.task_work.specs.declared.work.Work.{Work}
 use Rattle.node_parts.specs.declared.running.Running.{Running}
 use Rattle.command_roots.specs.Roots.{scripted}
 use Rattle.world_moves.specs.Good.{IsContextWithin, so_far}
-use Rattle.world_moves.specs.Owning.{Owning}
+use Rattle.world_moves.specs.Owning.{Owning, OneAtATime}
 
 -- the context of an id in the table of its node, which stands in a list from the first node on
 abbrev pub context_in : List (FinMap task_id_cmp Context) → TaskId → Option Context
@@ -62,3 +62,5 @@ pub record Paging (cluster : Cluster) (corpus : Corpus) (script : Script) (h : L
       → (c : Context) × (context_at (scripted script) ask.id h ≡ Some c) × (c.busy ≡ Some t)
   -- the contexts that belong to tasks stand for them
   pub owns : Owning (scripted script) h
+  -- and each page began where no task used its context
+  pub alone : OneAtATime (scripted script) h

@@ -1,4 +1,4 @@
--- What each search and each page that has ended replied: the plain answer.
+-- What each search and each page that has ended replied: the plain answer; and what each reindex did: what it has counted.
 use Rattle.std.specs.Prelude.{◌≡◌, ℕ, Bool, List, [], ◌∷◌, length, map, filter, slice_get, Option, Some, None, option_map, option_and_then, ⊤}
 use Rattle.std.specs.Option.{option_or}
 use Rattle.task_ids.specs.declared.task_id.TaskId.{TaskId}
@@ -7,12 +7,12 @@ use Rattle.task_ids.specs.declared.corpus.Corpus.{Corpus}
 use Rattle.task_events.specs.declared.context.Context.{Context}
 use Rattle.task_events.specs.declared.reading.ShardRead.{ShardRead}
 use Rattle.task_events.specs.declared.request.Request.{Request}
-use Rattle.task_events.specs.declared.request.Request.TheVariants.{Search, Scroll, Query}
+use Rattle.task_events.specs.declared.request.Request.TheVariants.{Search, Scroll, Query, Reindex}
 use Rattle.task_events.specs.declared.request.ShardAsk.{ShardAsk}
 use Rattle.task_events.specs.declared.reply.Counts.{Counts}
 use Rattle.task_events.specs.declared.reply.FailedShard.{FailedShard}
 use Rattle.task_events.specs.declared.reply.Reply.{Reply}
-use Rattle.task_events.specs.declared.reply.Reply.TheVariants.{Top, Cancelled}
+use Rattle.task_events.specs.declared.reply.Reply.TheVariants.{Top, Wrote, Cancelled}
 use Rattle.task_events.specs.declared.reply.ShardTop.{ShardTop}
 use Rattle.task_events.specs.Tasks.{child_of}
 use Rattle.task_events.specs.Steps.{before_first_turn, counted}
@@ -63,9 +63,10 @@ EndsPlainly cluster look t page (Some c) counts request h reply = reply ≡ Canc
 EndsPlainly cluster look t page None counts (Some (Search ask)) h reply = IsPlainReply cluster look t (search_reading t ask cluster.shards) h reply
 EndsPlainly cluster look t page None counts (Some (Scroll ask)) h reply = IsPlainPage cluster look t page h reply
 EndsPlainly cluster look t page None counts (Some (Query ask)) h reply = ReadsInTime cluster look t ask h reply
+EndsPlainly cluster look t page None counts (Some (Reindex ask)) h reply = reply ≡ Wrote counts
 EndsPlainly cluster look t page None counts _ h reply = ⊤
 
--- Each search that has ended replied with the plain answer, and each page of one too, unless it was cancelled.
+-- Each search that has ended replied with the plain answer, and each page of one too, and each reindex with what it has counted, unless it was cancelled.
 abbrev pub AnswersPlainly : Cluster → Corpus → Script → List Event → Type 0
 AnswersPlainly cluster corpus script [] = ⊤
 AnswersPlainly cluster corpus script (End t reply ∷ h) =

@@ -20,6 +20,8 @@ pub record SearchesFor (cluster : Cluster) (corpus : Corpus) (r : Reading) (aske
   pub state_is : s ≡ record { reading = r; asked = asked }
   pub reading_is : IsReading r
   pub few : length r.shards ≤ cluster.shards
+  -- and shows at most so many documents
+  pub shown : r.ask.body.size ≤ 10000
   pub numbered : map (λ a. a.ask) asked ≡ range_with_len 1 (length asked)
   pub planned : requests ≡ take (length asked) (requests_of r asked)
   pub as_many : length requests ≡ length asked

@@ -11,11 +11,11 @@ use Rattle.task_ids.specs.declared.corpus.Corpus.{Corpus}
 use Rattle.task_table.specs.Table.{Table}
 use Rattle.task_work.specs.declared.work.Work.{Work}
 use Rattle.corpus_shards.specs.declared.Shards.{Shards}
-use Rattle.corpus_shards.specs.Placed.{has_index}
-use Rattle.corpus_shards.specs.Stored.{HasWritten, is_of_corpus}
+use Rattle.corpus_shards.specs.Stored.{HasWritten, was_there}
+use Rattle.script_lang.specs.declared.command.Command.{Command}
 use Rattle.script_lang.specs.declared.command.Script.{Script}
 use Rattle.task_events.specs.declared.request.Request.{Request}
-use Rattle.task_events.specs.declared.request.Request.TheVariants.{Search, Query, Fetch, Scroll}
+use Rattle.task_events.specs.declared.request.Request.TheVariants.{Search, Query, Fetch, Scroll, Reindex, Slice, Bulk, BulkShard}
 use Rattle.task_events.specs.Kind.{Progress}
 use Rattle.task_events.specs.declared.event.Event.{Event}
 use Rattle.task_events.specs.TaskRows.{living_on}
@@ -30,14 +30,18 @@ use Rattle.task_events.specs.Lawful.{AwaitsNoMark, Lawful}
 use Rattle.node_parts.specs.declared.running.Running.{Running}
 use Rattle.node_parts.specs.Starting.{page_in}
 use Rattle.world_moves.specs.declared.state.State.{State}
+use Rattle.command_roots.specs.Known.{is_known}
 use Rattle.command_roots.specs.Roots.{scripted}
 use Rattle.world_moves.specs.declared.flight.Sent.{Sent}
+use Rattle.world_moves.specs.BulkRuns.{RunsBulk, RunsPart}
 use Rattle.world_moves.specs.FetchRuns.{RunsFetch}
 use Rattle.world_moves.specs.Good.{IsGoodReply, IsWithin, own_writes, so_far}
 use Rattle.world_moves.specs.QueryRuns.{RunsQuery}
+use Rattle.world_moves.specs.ReindexRuns.{RunsReindex, RunsSlice}
 use Rattle.world_moves.specs.SearchRuns.{RunsSearch, RunsPage}
 use Rattle.world_moves.specs.Facts.{Facts, facts_of, token_from, track_from}
 use Rattle.world_moves.specs.Flights.{message_of}
+use Rattle.world_moves.specs.Owning.{OneAtATime}
 use Rattle.world_moves.specs.Plain.{AnswersPlainly}
 use Rattle.world_moves.specs.Cancels.{waiting_for}
 use Rattle.world_moves.specs.Cancelling.{Cancelling}
@@ -52,6 +56,10 @@ WorksFor cluster corpus t new p requests awaited (Some (Search ask)) work = Runs
 WorksFor cluster corpus t new p requests awaited (Some (Query ask)) work = RunsQuery cluster corpus p.version p.turns awaited ask work
 WorksFor cluster corpus t new p requests awaited (Some (Fetch ask)) work = RunsFetch cluster corpus p.turns awaited ask work
 WorksFor cluster corpus t new p requests awaited (Some (Scroll ask)) work = RunsPage cluster corpus ask.id new p.page p.asked requests awaited work
+WorksFor cluster corpus t new p requests awaited (Some (Reindex ask)) work = RunsReindex cluster.shards t p.asked p.came requests awaited ask work
+WorksFor cluster corpus t new p requests awaited (Some (Slice ask)) work = RunsSlice cluster.shards t p.asked p.came requests awaited ask work
+WorksFor cluster corpus t new p requests awaited (Some (Bulk ask)) work = RunsBulk cluster.shards p.asked requests awaited ask work
+WorksFor cluster corpus t new p requests awaited (Some (BulkShard ask)) work = RunsPart cluster p awaited ask work
 
 -- how many writes the shard of a request had at a moment of the past, by what was written so far
 abbrev pub version_from : Cluster → (List Event → Corpus) → Option Request → Option (List Event) → Option ℕ
@@ -137,14 +145,14 @@ HasDescriptions s = Describing s.script.now s.history s.tables.items s.flight s.
 abbrev pub HasContexts : State → Type 0
 HasContexts s = Paging s.cluster s.corpus.now s.script.now s.history s.contexts.items
 
--- the shards have what is written, and tell which indices are those of the corpus
-pub record HoldsShards (written corpus : Corpus) (count : ℕ) (shards : Shards) : Type 0 where
+-- the shards have what is written, and tell which indices are known from the start
+pub record HoldsShards (written corpus : Corpus) (commands : List Command) (count : ℕ) (shards : Shards) : Type 0 where
   pub has : HasWritten written count shards
-  pub of_corpus : (index : List ℕ) → is_of_corpus shards index ≡ has_index corpus.lines index
+  pub from_start : (index : List ℕ) → was_there shards index ≡ is_known corpus commands index
 
 -- and the shards
 abbrev pub HasShards : State → Type 0
-HasShards s = HoldsShards (so_far s.corpus.now s.script.now s.history) s.corpus.now s.cluster.shards s.shards
+HasShards s = HoldsShards (so_far s.corpus.now s.script.now s.history) s.corpus.now s.script.now.commands s.cluster.shards s.shards
 
 -- All tables say of the past what they should, while one cancel, perhaps, is still naming tasks.
 pub record IsTiedWhile (naming : Option ℕ) (s : State) : Type 0 where
@@ -178,3 +186,5 @@ turned_in s t = after_turn s.cluster s.corpus.now (scripted s.script.now) t s.hi
 pub record KeepsLaws (s : State) : Type 0 where
   pub lawful : Lawful s.cluster s.history
   pub plain : AnswersPlainly s.cluster s.corpus.now s.script.now s.history
+  -- each page began where no task used its context
+  pub alone : OneAtATime (scripted s.script.now) s.history

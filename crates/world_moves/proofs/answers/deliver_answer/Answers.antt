@@ -46,6 +46,9 @@ take_reply-requires-clause-takes c =
     let was = sym c.get_mut.ensures.value ∙ ap option_copied_mut c.in-Some-get_mut.is in
     takes_reply s.cluster s.corpus.now s.script.now s.history _ _ _ c.requires.tied.ties c.args.nth c.take_answer-receipt.result.0 c.take_answer-receipt.result.1 c.take_answer-receipt.ensures.taken c.in-Some.parent (sym c.parent.ensures ∙ c.in-Some.is) c.in_ok-reply.reply c.in_ok-reply.ensures.reply c.in-Some-get_mut.running.now was
 
+pub take_reply-requires-clause-moment : goal.take_reply-requires-clause-moment
+take_reply-requires-clause-moment c = c.requires.tied.tells.clock_fits
+
 pub returns-clause-delivered : goal.returns-clause-delivered
 returns-clause-delivered c =
     let s = c.args.state.now in

@@ -58,8 +58,8 @@ returns-clause-laws c =
     let entry = ap (λ o. unwrap_or o (opened 0 [])) e.1 in
     let acts = c.as_slice.ensures.value ∙ c.in-Ok.ensures.acts ∙ ap (λ k. due_acts c.args.parent (with_ack k c.args.node)) entry in
     then_err c.perform.result _ _ c.perform.ensures.part (λ performed. (let laws = part_laws s.cluster s.corpus.now s.script.now s.history _ _ s.flight c.requires.tied.ties c.requires.tied.awaits c.args.nth c.args.parent c.args.node c.requires.there e.0 e.2 _ c.requires.tied.counts
-    c.append.new.history c.perform.new.history _ c.in_ok-append.ensures.ok acts performed in
-    record { lawful = laws.0; plain = laws.1 }))
+    c.append.new.history c.perform.new.history _ c.in_ok-append.ensures.ok acts performed c.requires.tied.pages.alone in
+    record { lawful = laws.0; plain = laws.1; alone = laws.2 }))
 
 pub returns-clause-delivered : goal.returns-clause-delivered
 returns-clause-delivered c =
@@ -101,7 +101,7 @@ returns-clause-tied c =
           (quiet_sent s.script.now s.history _ s.flight _ (Acked p n) _ refl
           (carry_both s.script.now s.history _ _ (carry_taken s.script.now s.history s.flight c.args.nth c.requires.tied.tells.carried) (acts_carry s.script.now s.history p.node c.as_slice.result.now)) c.requires.tied.tells));
       pages = rw happened (answered_pages s.cluster s.corpus.now s.script.now (Acked p n ∷ s.history) s.contexts.items p (quiet_pages s.cluster s.corpus.now s.script.now s.history s.contexts.items c.requires.tied.pages (Acked p n) refl));
-      shards = rw happened (record { has = shards_answered s.cluster p (Acked p n ∷ s.history) s.corpus.now s.script.now s.shards c.requires.tied.shards.has; of_corpus = c.requires.tied.shards.of_corpus });
+      shards = rw happened (record { has = shards_answered s.cluster p (Acked p n ∷ s.history) s.corpus.now s.script.now s.shards c.requires.tied.shards.has; from_start = c.requires.tied.shards.from_start });
       awaits = rw happened (answers_await s.cluster p (Acked p n ∷ s.history) tt);
     }))
 

@@ -1,8 +1,12 @@
-use Rattle.std.proofs.Common.{◌∙◌, refl, ap, sym, subst}
-use Rattle.std.specs.Prelude.{option_map}
+use Rattle.std.proofs.Common.{◌≡◌, ◌∙◌, refl, ap, sym, subst}
+use Rattle.std.specs.Prelude.{option_map, OnOk, OnErr, Err}
 use Rattle.std.specs.Option.{option_copied}
 use Rattle.task_events.specs.declared.reply.Reply.TheVariants.{Cancelled}
+use Rattle.task_events.specs.declared.event.Event.TheVariants.{End}
+use Rattle.task_events.specs.declared.stop.Stop.TheVariants.{HistoryFull}
 use Rattle.task_events.specs.Allowed.{EndAllowed}
+use Rattle.world_moves.specs.Cancels.{with_due}
+use Rattle.world_moves.specs.Moves.{IsPartOf, IsCutShort}
 use Rattle.world_moves.specs.Ties.{counts_in}
 use Rattle.world_moves.proofs.CountsKept.{counted_so}
 use Rattle.world_moves.proofs.StepsAfter.{is_kept}
@@ -27,3 +31,31 @@ leave-requires-clause-leaves c =
       no_rejection = refl;
     } in
     (refl, (c.args.cancel, says, subst (λ reply. EndAllowed t reply s.history) (sym says) allowed))
+
+-- it ends with that reply
+pub returns-clause-happened : goal.returns-clause-happened
+returns-clause-happened c =
+    let s = c.args.state.now in
+    let t = c.args.task in
+    let was = sym c.get.ensures.value ∙ ap option_copied c.in-Some.is in
+    let counts = counted_so s.cluster s.corpus.now s.script.now s.history _ _ _ c.requires.tied.ties t c.requires.live c.requires.passed _ was in
+    let says = c.cancelled-reply.ensures ∙ ap (Cancelled t c.args.cancel) (sym counts) in
+    subst (λ reply. OnOk c.leave.result (c.leave.new.state.history ≡ with_due (End t reply) s.history)) says c.leave.ensures.happened
+
+pub returns-clause-part : goal.returns-clause-part
+returns-clause-part c =
+    let s = c.args.state.now in
+    let t = c.args.task in
+    let was = sym c.get.ensures.value ∙ ap option_copied c.in-Some.is in
+    let counts = counted_so s.cluster s.corpus.now s.script.now s.history _ _ _ c.requires.tied.ties t c.requires.live c.requires.passed _ was in
+    let says = c.cancelled-reply.ensures ∙ ap (Cancelled t c.args.cancel) (sym counts) in
+    subst (λ reply. OnErr c.leave.result (IsPartOf s.history c.leave.new.state.history (with_due (End t reply) s.history))) says c.leave.ensures.part
+
+pub returns-clause-full : goal.returns-clause-full
+returns-clause-full c =
+    let s = c.args.state.now in
+    let t = c.args.task in
+    let was = sym c.get.ensures.value ∙ ap option_copied c.in-Some.is in
+    let counts = counted_so s.cluster s.corpus.now s.script.now s.history _ _ _ c.requires.tied.ties t c.requires.live c.requires.passed _ was in
+    let says = c.cancelled-reply.ensures ∙ ap (Cancelled t c.args.cancel) (sym counts) in
+    subst (λ reply. c.leave.result ≡ Err HistoryFull → IsCutShort (λ past. IsPartOf s.history past (with_due (End t reply) s.history)) c.leave.new.state.history) says c.leave.ensures.full

@@ -10,6 +10,7 @@ use Rattle.world_moves.specs.Left.{left_in}
 use Rattle.world_moves.specs.Flights.{told_parent}
 use Rattle.task_events.specs.Lawful.{Lawful}
 use Rattle.world_moves.specs.Moves.{IsPartOf}
+use Rattle.world_moves.specs.Owning.{OneAtATime}
 use Rattle.world_moves.specs.Plain.{AnswersPlainly}
 use Rattle.world_moves.specs.Ties.{task_at}
 use Rattle.world_moves.proofs.KeptTasks.{at_changed, off_changed}
@@ -18,17 +19,18 @@ use Rattle.world_moves.proofs.StepsAfter.{is_kept}
 use Rattle.world_moves.proofs.CancelAnswersAfter.{shards_answered, answers_lawful, answers_await, answers_tied, answers_noted, answers_described}
 use Rattle.world_moves.proofs.DescriptionsAfter.{described_with, rows_left, carry_both, told_carries, acts_carry}
 use Rattle.world_moves.proofs.CancelledEnds.{leaves_so, shards_left, leaver_lives, awaits_none, left_lawful, left_plain, none_part, first_part, leaver_open, after_cancelled, after_unmarked}
-use Rattle.world_moves.proofs.CoresAfterLeave.{core_is, known_there, no_receipt, unmarked_there, nobody_there, answered_then, counted_then, sent_then, part_then, answers_plain, set_again}
+use Rattle.world_moves.proofs.CoresAfterLeave.{core_is, known_there, no_receipt, unmarked_there, nobody_there, answered_then, counted_then, sent_then, part_then, answers_plain, set_again, answers_alone}
 use Rattle.task_laws.proofs.Reach.{reach_facts}
 use Rattle.world_moves.proofs.CancelsAfterLeave.{noted_unmarked, noted_ended, nothing_due, core_there, counts_unmarked, starts_none}
 use Rattle.world_moves.proofs.TasksAfterLeave.{own_track, has_table, in_cluster, table_is, stands, runs}
 use Rattle.corpus_shards.proofs.Cases.{then_ok, then_err, on_err}
 use Rattle.world_moves.proofs.Outcomes.{all_ok}
-use Rattle.world_moves.proofs.Parts.{part_lawful, part_plain, later_part}
+use Rattle.world_moves.proofs.Parts.{part_lawful, part_plain, part_alone, left_alone, later_part}
 use Rattle.world_moves.proofs.CutShort.{cut_as, cut_first}
 use Rattle.world_moves.proofs.PagesAfter.{answered_pages}
 use Rattle.world_moves.proofs.PagesLeft.{in_use, left_pages}
 use Rattle.world_moves.proofs.ends.leave.Goals as goal
+use Rattle.command_roots.specs.Roots.{scripted}
 
 pub unreachable-requires : goal.unreachable-requires
 unreachable-requires c =
@@ -130,7 +132,7 @@ returns-then-not-has-clause-tied c =
           (rows_left s.script.now s.history s.tables.items (c.args.task.node - 1) c.args.task.number c.index_mut.result.now its c.requires.tied.tells.rows_are)
           (carry_both s.script.now s.history s.flight _ c.requires.tied.tells.carried (told_carries s.script.now s.history c.end_in-receipt.result _)) c.requires.tied.tells);
       pages = rw c.in_ok-append.ensures.ok (left_pages s.cluster s.corpus.now s.script.now s.history _ _ _ c.requires.tied.ties s.contexts.items c.requires.tied.pages c.args.task live r was s.clock c.requires.tied.tells.clock_is _ e c.requires.leaves c.note_leave.new.contexts.items c.note_leave.ensures.as_many c.note_leave.ensures.left c.note_leave.ensures.refused);
-      shards = rw c.in_ok-append.ensures.ok (record { has = shards_left _ c.args.task s.history s.corpus.now s.script.now s.cluster s.shards e c.requires.leaves c.requires.tied.shards.has; of_corpus = c.requires.tied.shards.of_corpus });
+      shards = rw c.in_ok-append.ensures.ok (record { has = shards_left _ c.args.task s.history s.corpus.now s.script.now s.cluster s.shards e c.requires.leaves c.requires.tied.shards.has; from_start = c.requires.tied.shards.from_start });
       awaits = rw c.in_ok-append.ensures.ok (awaits_none _ c.args.task s.history e c.requires.leaves);
     }
 
@@ -182,6 +184,8 @@ returns-clause-laws c =
           (answers_lawful s.cluster c.args.task (e ∷ s.history) (left_lawful _ c.args.task s.history s.cluster c.requires.tied.ties.lawful c.requires.tied.awaits e m) (awaits_none _ c.args.task s.history e m));
       plain = part_plain s.cluster s.corpus.now s.script.now (e ∷ s.history) c.perform.new.history _ part
           (answers_plain s.cluster s.corpus.now s.script.now c.args.task (e ∷ s.history) (left_plain s.cluster s.corpus.now s.script.now c.args.task s.history e m c.requires.tied.ties.plain));
+      alone = part_alone (scripted s.script.now) (e ∷ s.history) c.perform.new.history _ part
+          (answers_alone (scripted s.script.now) c.args.task (e ∷ s.history) (left_alone (scripted s.script.now) _ c.args.task s.history e m c.requires.tied.pages.alone));
     }))
 
 pub returns-clause-happened : goal.returns-clause-happened
@@ -235,7 +239,7 @@ returns-clause-tied c =
           (rows_left s.script.now s.history s.tables.items (c.args.task.node - 1) c.args.task.number c.index_mut.result.now its c.requires.tied.tells.rows_are)
           (carry_both s.script.now s.history _ _ (carry_both s.script.now s.history s.flight _ c.requires.tied.tells.carried (told_carries s.script.now s.history receipt _)) (acts_carry s.script.now s.history c.args.task.node acts)) c.requires.tied.tells));
       pages = rw happened (answered_pages s.cluster s.corpus.now s.script.now (e ∷ s.history) c.note_leave.new.contexts.items c.args.task (left_pages s.cluster s.corpus.now s.script.now s.history _ _ _ c.requires.tied.ties s.contexts.items c.requires.tied.pages c.args.task live r was s.clock c.requires.tied.tells.clock_is _ e m c.note_leave.new.contexts.items c.note_leave.ensures.as_many c.note_leave.ensures.left c.note_leave.ensures.refused));
-      shards = rw happened (record { has = shards_answered s.cluster c.args.task (e ∷ s.history) s.corpus.now s.script.now s.shards (shards_left _ c.args.task s.history s.corpus.now s.script.now s.cluster s.shards e m c.requires.tied.shards.has); of_corpus = c.requires.tied.shards.of_corpus });
+      shards = rw happened (record { has = shards_answered s.cluster c.args.task (e ∷ s.history) s.corpus.now s.script.now s.shards (shards_left _ c.args.task s.history s.corpus.now s.script.now s.cluster s.shards e m c.requires.tied.shards.has); from_start = c.requires.tied.shards.from_start });
       awaits = rw happened (answers_await s.cluster c.args.task (e ∷ s.history) awaits);
     })
 
@@ -262,6 +266,7 @@ returns-in_default-ended-clause-laws c =
     record {
       lawful = subst (Lawful s.cluster) (sym c.in_ok-append.ensures.ok) (left_lawful _ c.args.task s.history s.cluster c.requires.tied.ties.lawful c.requires.tied.awaits e m);
       plain = subst (AnswersPlainly s.cluster s.corpus.now s.script.now) (sym c.in_ok-append.ensures.ok) (left_plain s.cluster s.corpus.now s.script.now c.args.task s.history e m c.requires.tied.ties.plain);
+      alone = subst (OneAtATime (scripted s.script.now)) (sym c.in_ok-append.ensures.ok) (left_alone (scripted s.script.now) _ c.args.task s.history e m c.requires.tied.pages.alone);
     }
 
 pub returns-clause-full : goal.returns-clause-full

@@ -7,6 +7,8 @@ use Rattle.cancel_core.specs.Acts.{begun}
 use Rattle.cancel_core.specs.Cancellations.{with_entry}
 use Rattle.task_table.specs.Answer.{after_mark as table_after}
 use Rattle.task_events.specs.Lawful.{AwaitsNoMark, Lawful}
+use Rattle.command_roots.specs.Roots.{scripted}
+use Rattle.world_moves.specs.Owning.{OneAtATime}
 use Rattle.world_moves.specs.Plain.{AnswersPlainly}
 use Rattle.task_events.specs.declared.event.Event.TheVariants.{Mark}
 use Rattle.task_laws.proofs.Reach.{reach_facts}
@@ -24,6 +26,8 @@ use Rattle.world_moves.proofs.SameTies.{same_ties}
 use Rattle.world_moves.proofs.StepsAfter.{is_kept, kept_running}
 use Rattle.world_moves.proofs.Tables.{table_of, node_has_table}
 use Rattle.world_moves.proofs.PagesAfter.{quiet_pages}
+use Rattle.command_roots.specs.Roots.{scripted}
+use Rattle.world_moves.specs.Owning.{OneAtATime}
 use Rattle.world_moves.proofs.marks.mark.Goals as goal
 
 pub unreachable-requires : goal.unreachable-requires
@@ -76,6 +80,7 @@ returns-in-Err-clause-laws c =
     record {
       lawful = subst (Lawful s.cluster) (sym c.in_ok-append.ensures.ok) c.requires.lawful;
       plain = subst (AnswersPlainly s.cluster s.corpus.now s.script.now) (sym c.in_ok-append.ensures.ok) c.requires.ties.plain;
+      alone = subst (OneAtATime (scripted s.script.now)) (sym c.in_ok-append.ensures.ok) c.requires.pages.alone;
     }
 
 pub returns-clause-tied : goal.returns-clause-tied

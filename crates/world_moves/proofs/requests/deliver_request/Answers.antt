@@ -35,7 +35,7 @@ use Rattle.world_moves.proofs.DescriptionsAfter.{quiet_sent, carry_both, carry_t
 use Rattle.world_moves.proofs.DescriptionsStart.{new_number, rows_put, carried_put}
 use Rattle.world_moves.proofs.QuietCounts.{still_counts}
 use Rattle.world_moves.proofs.CutShort.{cut_only}
-use Rattle.task_work.specs.Works.{is_page, new_work}
+use Rattle.task_work.specs.Works.{is_page, IsNewWork}
 use Rattle.world_moves.proofs.AskedOwn.{sent_there}
 use Rattle.world_moves.proofs.Lent.{copied_alike}
 use Rattle.world_moves.proofs.PagesAfter.{quiet_pages, put_pages}
@@ -106,7 +106,7 @@ returns-in_ok-running-in-Ok-put_on-clause-tied c =
     let is : running ≡ first t (Some token) true a.asked running.work headers = c.in_ok-running-in-Ok-put_on.ensures.running
     ∙ (λ i. first t (c.in-Ok-put_on.ensures.token i) true (asked i) running.work headers) in
     let page = option_copied c.page_asked-page.result in
-    let work : new_work t a.asked s.cluster.shards page ≡ Some running.work = ap (λ (r : Request). new_work t r s.cluster.shards page) (sym asked) ∙ c.in_ok-running-in-Ok-put_on.ensures.work in
+    let work = subst (λ (r : Request). IsNewWork t r s.cluster.shards page running.work) asked c.in_ok-running-in-Ok-put_on.ensures.work in
     let carried : headers ≡ headers_of (scripted s.script.now) token.parent s.history = all_here (Carries s.script.now s.history) s.flight c.args.nth _ c.requires.tied.tells.carried c.take_request-token.ensures.taken in
     let child = c.in-Ok.ensures a.asked a.stands ∙ ap (λ q. task_for a.asked (Some q) s.clock headers) c.parent-parent.ensures in
     both_ok c.keep_started.result _ _ _ c.keep_started.ensures.happened c.keep_started.ensures.kept (λ event kept. (let happened : c.keep_started.new.history ≡ Put t token.parent token.ask ∷ s.history = cc (event, c.id-task.ensures, c.parent-parent.ensures, c.ask-ask.ensures) in
@@ -128,6 +128,7 @@ returns-in_ok-running-in-Ok-put_on-clause-tied c =
         clock_is = c.requires.tied.tells.clock_is;
         clock_low = c.requires.tied.tells.clock_low;
         clock_high = longer longest_tick s.clock (length s.history) (length (Put t token.parent token.ask ∷ s.history)) (omega arith) c.requires.tied.tells.clock_high;
+        clock_fits = c.requires.tied.tells.clock_fits;
         few_begun = c.requires.tied.tells.few_begun;
       });
       pages = rw happened (put_pages s.cluster s.corpus.now s.script.now s.history s.contexts.items c.requires.tied.pages c.requires.tied.ties.lawful t token.parent token.ask ties.lawful.0);

@@ -1,5 +1,5 @@
 use Rattle.std.proofs.Common.{rules, ◌≡◌, ◌∙◌, ◌∷◌, Some, ap, sym, subst}
-use Rattle.std.specs.Prelude.{OnSome, OnErr}
+use Rattle.std.specs.Prelude.{OnSome, OnOk, OnErr}
 use Rattle.task_work.specs.Works.{place_of}
 use Rattle.task_events.specs.declared.event.Event.TheVariants.{Work}
 use Rattle.task_events.specs.Written.{with_notes}
@@ -9,9 +9,10 @@ use Rattle.world_moves.specs.Good.{so_far}
 use Rattle.world_moves.specs.Moves.{IsPartOf, IsCutShort}
 use Rattle.world_moves.specs.Ties.{IsTied, task_at, turned_in}
 use Rattle.world_moves.proofs.KeptTasks.{at_changed, off_changed}
-use Rattle.world_moves.proofs.Parts.{part_lawful, part_plain}
+use Rattle.world_moves.proofs.Parts.{part_lawful, part_plain, part_alone}
 use Rattle.world_moves.proofs.TurnTies.{placed, nothing_yet, shard_there, works_on, noted_is, turn_tied}
 use Rattle.world_moves.proofs.turns.turn.Goals as goal
+use Rattle.command_roots.specs.Roots.{scripted}
 
 pub unreachable-requires-in_default-place : goal.unreachable-requires-in_default-place
 unreachable-requires-in_default-place c =
@@ -60,7 +61,7 @@ tied_then c =
     let has = c.in-Ok-make.ensures.written (so_far s.corpus.now s.script.now s.history) s.cluster.shards c.requires.tied.shards.has in
     let was_on = works_on c.args.state.now c.requires.tied c.args.task c.in-Some.running.now c.requires.live c.requires.passed c.requires.unmarked (sym c.in-Some.ensures.value) c.requires.next c.as_str-2.result.now c.in-Some-place.number place c.make.new.self c.make.new.self has c.in-Some-get_mut.shard.now c.in-Some-get_mut.ensures.writes in
     turn_tied c.args.state.now c.requires.tied c.args.task c.in-Some.running.now c.requires.live c.requires.passed c.requires.unmarked (sym c.in-Some.ensures.value) c.requires.next c.as_str-2.result.now c.in-Some-place.number place c.make.new.self (c.get_mut-2.follows.lender c.turn.new.shard) has c.in-Some-get_mut.shard.now c.in-Some-get_mut.ensures.writes
-    c.turn.new.self c.turn.new.shard (c.in-Ok-turn.ensures.ok was_on) (c.in-Ok-turn.ensures.holds_on was_on) c.in-Ok-turn.ensures.written (search rules) (subst (λ o. OnSome o (Replaces c.as_str-2.result.now c.in-Some-place.number c.turn.new.shard c.make.new.self (c.get_mut-2.follows.lender c.turn.new.shard))) c.in-Some-get_mut.is (c.get_mut-2.follows.holds c.turn.new.shard)) c.make.ensures.of_corpus (c.get_mut.follows.lender w)
+    c.turn.new.self c.turn.new.shard (c.in-Ok-turn.ensures.ok was_on) (c.in-Ok-turn.ensures.holds_on was_on) c.in-Ok-turn.ensures.written (search rules) (subst (λ o. OnSome o (Replaces c.as_str-2.result.now c.in-Some-place.number c.turn.new.shard c.make.new.self (c.get_mut-2.follows.lender c.turn.new.shard))) c.in-Some-get_mut.is (c.get_mut-2.follows.holds c.turn.new.shard)) c.make.ensures.from_start (c.get_mut.follows.lender w)
     (at_changed c.args.task (Some w) (task_at s.tasks) _ changed) (off_changed c.args.task (Some w) (task_at s.tasks) _ changed)
 
 pub returns-clause-tied : goal.returns-clause-tied
@@ -71,6 +72,9 @@ returns-clause-tied c =
       history = past;
       tasks = c.get_mut.follows.lender (record c.in-Some.running.now { work = c.turn.new.self });
     })) (noted c ∙ sym happened) (tied_then c))
+
+pub returns-clause-happened : goal.returns-clause-happened
+returns-clause-happened c = subst (λ past. OnOk c.note_turn.result (c.note_turn.new.history ≡ past)) (sym (noted c)) c.note_turn.ensures.happened
 
 pub returns-clause-part : goal.returns-clause-part
 returns-clause-part c = subst (λ past. OnErr c.note_turn.result (IsPartOf c.args.state.now.history c.note_turn.new.history past)) (sym (noted c)) c.note_turn.ensures.part
@@ -84,6 +88,7 @@ returns-clause-laws c =
     record {
       lawful = part_lawful s.cluster s.corpus.now s.script.now s.history c.note_turn.new.history (turned_in s c.args.task) first after.ties.lawful;
       plain = part_plain s.cluster s.corpus.now s.script.now s.history c.note_turn.new.history (turned_in s c.args.task) first after.ties.plain;
+      alone = part_alone (scripted s.script.now) s.history c.note_turn.new.history (turned_in s c.args.task) first after.pages.alone;
     })
 
 pub returns-clause-full : goal.returns-clause-full
