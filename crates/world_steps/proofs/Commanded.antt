@@ -1,9 +1,13 @@
 -- Why commands come to an early end, and what they can do.
 use Rattle.std.proofs.Common.{◌≡◌, ◌⊎◌, ◌≤◌, ◌<◌, ◌+◌, ◌*◌, ◌^◌, ◌-◌, ℕ, zero, suc, Bool, true, false, List, [], ◌∷◌, ◌++◌, length, get_or, Option, Some, None, refl, sym, ap, subst, inl, inr, ◌∙◌, arith}
+use Rattle.std.specs.Option.{option_map_or}
 use Rattle.std.specs.Prelude.{slice_get, is_some, is_ok, option_map, option_and_then, ◌&&◌, Result, Ok, Err}
+use Rattle.std.specs.Result.{result_ok}
 use Rattle.serde_json.specs.Data.{Data}
 use Rattle.query_match.specs.declared.body.SearchBody.{SearchBody}
+use Rattle.query_parse.specs.declared.reindex_body.ReindexBody.{ReindexBody}
 use Rattle.query_parse.specs.Bodies.{body_at}
+use Rattle.query_parse.specs.Reindexes.{reindex_at}
 use Rattle.search_phase.proofs.Requests.{slice_get_none}
 use Rattle.task_events.specs.declared.context.Context.{Context}
 use Rattle.scroll_table.specs.declared.context.PageError.{PageError}
@@ -16,14 +20,14 @@ use Rattle.task_events.specs.declared.event.Event.TheVariants.{Begin}
 use Rattle.task_events.specs.declared.request.Request.TheVariants as asks
 use Rattle.script_lang.specs.declared.command.ContextTarget.{ContextTarget}
 use Rattle.script_lang.specs.declared.command.Command.{Command}
-use Rattle.script_lang.specs.declared.command.Command.TheVariants.{Search, Scroll, ClearScroll, Cancel, ListTasks, Tick, Deliver, Step, ListStep, Settle, History}
+use Rattle.script_lang.specs.declared.command.Command.TheVariants.{Search, Scroll, ClearScroll, Reindex, Cancel, ListTasks, Tick, Deliver, Step, ListStep, Settle, History}
 use Rattle.script_lang.specs.declared.command.Script.{Script}
 use Rattle.script_lang.specs.KeepAlives.{day_ms}
 use Rattle.world_moves.specs.Moves.{Delivers, IsPartly, Starts}
 use Rattle.world_moves.specs.declared.state.State.{State}
 use Rattle.world_moves.specs.Describing.{longest_tick}
-use Rattle.corpus_shards.specs.Placed.{has_index}
-use Rattle.corpus_shards.specs.Stored.{is_of_corpus}
+use Rattle.corpus_shards.specs.Stored.{was_there}
+use Rattle.command_roots.specs.Known.{is_known}
 use Rattle.command_roots.specs.Roots.{body_or_none, command_at, context_named, least_size, request_in, root_request}
 use Rattle.world_moves.specs.Ties.{IsTied, Keeps}
 use Rattle.world_steps.specs.Runs.{AnswersStep, FirstMoves, Steps}
@@ -31,7 +35,7 @@ use Rattle.world_steps.specs.declared.acting.Stepped.{Stepped}
 use Rattle.world_steps.specs.declared.acting.Stepped.TheVariants.{Done}
 use Rattle.node_parts.specs.declared.listing.Listing.{Listing}
 use Rattle.world_moves.specs.Listings.{ListSteps}
-use Rattle.world_steps.specs.Scripts.{CanDo, CanRun, can_start, closing, error_in, DeliversWhere, ListsWhere, StartsWhere, PartlyDoes, PartlyCommands, PartlyDrains}
+use Rattle.world_steps.specs.Scripts.{CanDo, CanRun, can_copy, can_start, closing, error_in, DeliversWhere, ListsWhere, StartsWhere, PartlyDoes, PartlyCommands, PartlyDrains}
 
 -- a part of a delivery is one of a delivery where there is a message
 pub partly_where : (cluster : Cluster) (nth : ℕ) (h new : List Event) → IsPartly (λ g made. Delivers cluster g nth made) h new → IsPartly (DeliversWhere cluster nth) h new
@@ -64,6 +68,7 @@ pub nothing_done : (cluster : Cluster) (corpus : Corpus) (script : Script) (k : 
 nothing_done cluster corpus script k (Search index node scroll body opaque_id) h new same = inl same
 nothing_done cluster corpus script k (Scroll target keep opaque_id) h new same = inl same
 nothing_done cluster corpus script k (ClearScroll target) h new same = inl same
+nothing_done cluster corpus script k (Reindex node body slices rate opaque_id) h new same = inl same
 nothing_done cluster corpus script k (Tick ms) h new same = inl same
 nothing_done cluster corpus script k (Cancel target reason wait) h new same = inl same
 nothing_done cluster corpus script k (ListTasks wanted group detailed) h new same = inl same
@@ -134,29 +139,37 @@ false_and false b e = refl
 both_hold : {found : SearchBody} {o : Option SearchBody} {b : Bool} → o ≡ Some found → b ≡ true → (is_some o && b) ≡ true
 both_hold good known = rw (good, known) refl
 
-module _ (cluster : Cluster) (corpus : Corpus) (index : List ℕ) (scroll : Option ℕ) (body : Data) (k node : ℕ) where
+module _ (cluster : Cluster) (corpus : Corpus) (commands : List Command) (index : List ℕ) (scroll : Option ℕ) (body : Data) (k node : ℕ) where
   abbrev body_of : Option SearchBody
   body_of = body_or_none (body_at (is_some scroll) (least_size scroll) body)
 
   abbrev pub Where : List Event → List Event → Type 0
-  Where h new = StartsWhere cluster (can_start corpus index scroll body) k node h new
+  Where h new = StartsWhere cluster (can_start corpus commands index scroll body) k node h new
 
-  pub unknown_index : (h : List Event) → has_index corpus.lines index ≡ false → Where h h
-  unknown_index h unknown = stays_where cluster (can_start corpus index scroll body) k node (false_and (is_some body_of) (has_index corpus.lines index) unknown) h
+  pub unknown_index : (h : List Event) → is_known corpus commands index ≡ false → Where h h
+  unknown_index h unknown = stays_where cluster (can_start corpus commands index scroll body) k node (false_and (is_some body_of) (is_known corpus commands index) unknown) h
 
-  pub can_come : (found : SearchBody) → body_of ≡ Some found → has_index corpus.lines index ≡ true → can_start corpus index scroll body ≡ true
+  pub can_come : (found : SearchBody) → body_of ≡ Some found → is_known corpus commands index ≡ true → can_start corpus commands index scroll body ≡ true
   can_come found good known = both_hold good known
 
-  pub comes : (found : SearchBody) (h new : List Event) → body_of ≡ Some found → has_index corpus.lines index ≡ true → (started : Bool) → Starts cluster h k node started new → Where h new
-  comes found h new good known started s = comes_where cluster (can_start corpus index scroll body) k node (can_come found good known) h new started s
+  pub comes : (found : SearchBody) (h new : List Event) → body_of ≡ Some found → is_known corpus commands index ≡ true → (started : Bool) → Starts cluster h k node started new → Where h new
+  comes found h new good known started s = comes_where cluster (can_start corpus commands index scroll body) k node (can_come found good known) h new started s
 
-  pub partly_comes : (found : SearchBody) (h new : List Event) → body_of ≡ Some found → has_index corpus.lines index ≡ true
+  pub partly_comes : (found : SearchBody) (h new : List Event) → body_of ≡ Some found → is_known corpus commands index ≡ true
       → IsPartly (λ x y. (started : Bool) × Starts cluster x k node started y) h new → IsPartly Where h new
-  partly_comes found h new good known part = partly_comes_where cluster (can_start corpus index scroll body) k node (can_come found good known) h new part
+  partly_comes found h new good known part = partly_comes_where cluster (can_start corpus commands index scroll body) k node (can_come found good known) h new part
 
--- the shards tell whether an index is of the corpus
-pub index_known : (s : State) → IsTied s → (index name : List ℕ) (found : Bool) → name ≡ index → found ≡ is_of_corpus s.shards name → has_index s.corpus.now.lines index ≡ found
-index_known s tied index name found same is = sym (tied.shards.of_corpus index) ∙ sym (ap (is_of_corpus s.shards) same) ∙ sym is
+-- the shards tell whether an index is known
+pub index_known : (s : State) → IsTied s → (index name : List ℕ) (found : Bool) → name ≡ index → found ≡ was_there s.shards name → is_known s.corpus.now s.script.now.commands index ≡ found
+index_known s tied index name found same is = sym (tied.shards.from_start index) ∙ sym (ap (was_there s.shards) same) ∙ sym is
+
+-- ---- a reindex
+
+-- one whose body has no fault can copy where its source is known
+pub copy_known : (s : State) → IsTied s → (body : Data) (read : ReindexBody) (name : List ℕ) (found : Bool) → result_ok (reindex_at body) ≡ Some read → name ≡ read.source → found ≡ was_there s.shards name
+    → can_copy s.corpus.now s.script.now.commands body ≡ found
+copy_known s tied body read name found good same is =
+    ap (λ (o : Option ReindexBody). option_map_or (λ r. is_known s.corpus.now s.script.now.commands r.source) o false) good ∙ index_known s tied read.source name found same is
 
 -- ---- a page
 

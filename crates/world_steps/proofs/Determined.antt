@@ -19,7 +19,7 @@ use Rattle.task_events.specs.Messages.Message.{Request, Answer, Ban, Ack, Unban}
 use Rattle.task_events.specs.Tasks.{live_on, last_number, parent_of}
 use Rattle.task_laws.proofs.Same.{same_fields}
 use Rattle.script_lang.specs.declared.command.Command.{Command}
-use Rattle.script_lang.specs.declared.command.Command.TheVariants.{Search, Scroll, ClearScroll, Cancel, ListTasks, Tick, Deliver, Step, ListStep, Settle, History}
+use Rattle.script_lang.specs.declared.command.Command.TheVariants.{Search, Scroll, ClearScroll, Reindex, Cancel, ListTasks, Tick, Deliver, Step, ListStep, Settle, History}
 use Rattle.script_lang.specs.declared.command.Script.{Script}
 use Rattle.world_steps.specs.declared.acting.Stepped.{Stepped}
 use Rattle.world_steps.specs.declared.acting.Stepped.TheVariants.{Done, Waiting, NotRunning}
@@ -31,7 +31,7 @@ use Rattle.world_steps.proofs.ListingKeys.{one_listing}
 use Rattle.command_roots.specs.Roots.{command_at}
 use Rattle.world_steps.specs.Draining.{IsNextDue, NoneLive, StartsAgain, Empties, ticked_to}
 use Rattle.world_steps.specs.Runs.{after_step, Steps, AnswersStep, FirstMoves, IsSettled, Passes, Settles}
-use Rattle.world_steps.specs.Scripts.{can_start, can_page, page_node, StartsWhere, DeliversWhere, ListsWhere, Does, Commands, HasRun, IsRun}
+use Rattle.world_steps.specs.Scripts.{can_copy, can_start, can_page, page_node, StartsWhere, DeliversWhere, ListsWhere, Does, Commands, HasRun, IsRun}
 
 some_one : {A : Type 0} (o : Option A) (x y : A) → o ≡ Some x → o ≡ Some y → x ≡ y
 some_one o x y e f = let both : Some x ≡ Some y = sym e ∙ f in cc
@@ -269,9 +269,10 @@ module _ (cluster : Cluster) (corpus : Corpus) (script : Script) where
   place_one nth h new other (inr (past, same)) (inr (past_too, same_too)) = same ∙ sym same_too
 
   does_one : (k : ℕ) (command : Command) (h new other : List Event) → Does cluster corpus script k command h new → Does cluster corpus script k command h other → new ≡ other
-  does_one k (Search index node scroll body opaque_id) h new other a b = where_one (can_start corpus index scroll body) k node h new other a b
+  does_one k (Search index node scroll body opaque_id) h new other a b = where_one (can_start corpus script.commands index scroll body) k node h new other a b
   does_one k (Scroll target keep opaque_id) h new other a b = where_one (can_page script target h) k (page_node target h) h new other a b
   does_one k (ClearScroll target) h new other a b = a ∙ sym b
+  does_one k (Reindex node body slices rate opaque_id) h new other a b = where_one (can_copy corpus script.commands body) k node h new other a b
   does_one k (Tick ms) h new other a b = a ∙ sym b
   does_one k (Cancel target reason wait) h new other a b = a ∙ sym b
   does_one k (ListTasks wanted group detailed) h new other a b = a ∙ sym b

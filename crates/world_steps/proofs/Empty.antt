@@ -87,6 +87,7 @@ nothing_told cluster script tables are = record {
   clock_is = refl;
   clock_low = λ low. omega arith;
   clock_high = omega arith;
+  clock_fits = omega arith;
   few_begun = omega arith;
 }
 
@@ -113,6 +114,7 @@ nothing_opened cluster corpus script tables are = record {
   page_within = λ t c e. absurd (cc);
   used = λ t ask live passed e. absurd (cc);
   owns = nothing_owned script;
+  alone = tt;
 }
   where
     none : FinMap task_id_cmp Context

@@ -1,5 +1,5 @@
 -- The search that opens a context passes over no rows and shows some: with a keep-alive `from` is 0, and `size` is not.
-use Rattle.std.proofs.Common.{cond, ◌≡◌, ℕ, Bool, true, false, List, [], ◌∷◌, Option, Some, None, refl, sym, ap, subst, ◌∙◌}
+use Rattle.std.proofs.Common.{cond, ◌≡◌, ◌≢◌, ◌⊎◌, inl, inr, ℕ, Bool, true, false, List, [], ◌∷◌, Option, Some, None, refl, sym, ap, subst, ◌∙◌}
 use Rattle.std.specs.Prelude.{◌||◌, ◌+◌, ◌==◌, nat_le, not, is_some, option_map, option_and_then, Result, Ok, Err, codes}
 use Rattle.std.specs.Option.{option_or}
 use Rattle.std.proofs.lemmas.Bool.{eqb-true}
@@ -14,23 +14,26 @@ use Rattle.query_parse.specs.Bodies.{size_passing, count_or, from_of, size_of, s
 use Rattle.task_ids.specs.declared.task_id.TaskId.{TaskId}
 use Rattle.task_events.specs.declared.context.Context.{Context}
 use Rattle.task_events.specs.declared.event.Event.{Event}
-use Rattle.task_events.specs.declared.event.Event.TheVariants.{Root, Ask, Put, End}
+use Rattle.task_events.specs.declared.event.Event.TheVariants.{Root, Ask, Put, Pass, End}
 use Rattle.task_events.specs.declared.reply.Reply.{Reply}
-use Rattle.task_events.specs.declared.reply.Reply.TheVariants.{Search as Found, Top, Hits, AllFailed, Cancelled, Rejected}
+use Rattle.task_events.specs.declared.reply.Reply.TheVariants.{Search as Found, Top, Hits, AllFailed, Wrote, Cancelled, Rejected}
 use Rattle.task_events.specs.declared.request.Request.{Request}
 use Rattle.task_events.specs.declared.request.Request.TheVariants as asks
+use Rattle.task_events.specs.declared.request.ReindexAsk.{ReindexAsk}
 use Rattle.task_events.specs.declared.request.SearchAsk.{SearchAsk}
 use Rattle.task_events.specs.Clock.{clock}
 use Rattle.task_events.specs.Contexts.{opens_context, opened, after_end}
 use Rattle.task_events.specs.Requests.{Scripted, request_of}
-use Rattle.task_events.specs.Same.{same_task}
+use Rattle.task_events.specs.Asks.{request_of_ask}
+use Rattle.task_events.specs.Same.{same_task, same_pair}
 use Rattle.script_lang.specs.declared.command.Command.{Command}
-use Rattle.script_lang.specs.declared.command.Command.TheVariants.{Search, Scroll, ClearScroll, Cancel, ListTasks, Tick, Deliver, Step, ListStep, Settle, History}
+use Rattle.script_lang.specs.declared.command.Command.TheVariants.{Search, Scroll, ClearScroll, Reindex, Cancel, ListTasks, Tick, Deliver, Step, ListStep, Settle, History}
 use Rattle.script_lang.specs.declared.command.Script.{Script}
-use Rattle.command_roots.specs.Roots.{scripted, command_at, root_request, request_in, context_named, search_ask, body_or_none, least_size}
+use Rattle.command_roots.specs.Roots.{scripted, command_at, root_request, request_in, context_named, reindex_of, search_ask, body_or_none, least_size}
 use Rattle.search_phase.proofs.Sorting.{by_test}
+use Rattle.task_laws.proofs.Same.{same_pair_tells}
+use Rattle.world_moves.specs.Owning.{AsksForOwn, IsOwnSearch, OneAtATime}
 use Rattle.world_steps.specs.PagesFollow.{first_context}
-use Rattle.world_steps.proofs.UsedAlone.{OneAtATime, asked_part}
 
 -- ---- a body
 
@@ -127,6 +130,10 @@ scroll_asks_none : (o : Option TaskId) (keep : Option ℕ) (ask : SearchAsk) →
 scroll_asks_none None keep ask e = cc
 scroll_asks_none (Some id) keep ask e = cc
 
+reindex_asks_none : (o : Option ReindexAsk) (ask : SearchAsk) → option_map asks.Reindex o ≡ Some (asks.Search ask) → ⊥
+reindex_asks_none None ask e = cc
+reindex_asks_none (Some copy) ask e = cc
+
 command_shown : (command : Command) (h : List Event) (ask : SearchAsk) → request_in command h ≡ Some (asks.Search ask) → opens_context ask ≡ true → ShowsFromFirst ask
 command_shown (Search index node scroll body opaque_id) h ask e opens = search_shown index scroll (body_at (is_some scroll) (least_size scroll) body) ask of_body e opens
   where
@@ -134,6 +141,7 @@ command_shown (Search index node scroll body opaque_id) h ask e opens = search_s
     of_body b read kept =
         body_shown 1 body b (ap (λ k. body_at k (cond k 1 0) body) (sym kept) ∙ read)
 command_shown (Scroll context keep opaque_id) h ask e opens = absurd (scroll_asks_none (context_named context h) keep ask e)
+command_shown (Reindex node body slices rate opaque_id) h ask e opens = absurd (reindex_asks_none (reindex_of (Reindex node body slices rate opaque_id)) ask e)
 command_shown (ClearScroll context) h ask e opens = absurd (cc)
 command_shown (Cancel target reason wait) h ask e opens = absurd (cc)
 command_shown (ListTasks wanted group detailed) h ask e opens = absurd (cc)
@@ -153,6 +161,27 @@ root_shown script k h ask e opens = of_command (command_at script k) e
 
 -- ---- every past
 
+-- a search that a task asks for is its own
+asked_own : (said : Scripted) (p : TaskId) (k : ℕ) (h : List Event) → OneAtATime said h → (ask : SearchAsk) → request_of_ask p k h ≡ Some (asks.Search ask) → IsOwnSearch p ask
+asked_own said p k [] alone ask e = absurd (cc)
+asked_own said p k (Root j t ∷ h) alone ask e = asked_own said p k h alone.1 ask e
+asked_own said p k (Pass t ∷ h) alone ask e = asked_own said p k h alone.1 ask e
+asked_own said p k (Ask q j n made ∷ h) alone ask e =
+    by_test (same_pair p k q j)
+    (λ one.
+    let is : Some made ≡ Some (asks.Search ask) = rw one at e in
+    let same : made ≡ asks.Search ask = cc in
+    subst (λ x. IsOwnSearch x ask) (sym (asker p k q j one)) (subst (AsksForOwn q) same alone.0))
+    (λ other. asked_own said p k h alone.1 ask (rw other at e))
+  where
+    asker : (p : TaskId) (k : ℕ) (q : TaskId) (j : ℕ) → same_pair p k q j ≡ true → p ≡ q
+    asker p k q j one = of_case (same_pair_tells p k q j)
+      where
+        of_case : ((same_pair p k q j ≡ true) × (p ≡ q) × (k ≡ j)) ⊎ ((same_pair p k q j ≡ false) × (p ≡ q → k ≢ j)) → p ≡ q
+        of_case (inl (is_one, same, place)) = same
+        of_case (inr (differs, apart)) = absurd (let f : false ≡ true = sym differs ∙ one in cc)
+asked_own said p k (_ ∷ h) alone ask e = asked_own said p k h alone ask e
+
 module _ (script : Script) where
   abbrev said : Scripted
   said = scripted script
@@ -165,9 +194,10 @@ module _ (script : Script) where
       (λ other. task_shown t h alone.1 ask (rw other at e) opens)
   task_shown t (Put u p k ∷ h) alone ask e opens =
       by_test (same_task t u)
-      (λ own. absurd (let f : false ≡ true = asked_part said p k h alone (asks.Search ask) (rw own at e) in cc))
+      (λ own. let first = asked_own said p k h alone ask (rw own at e) in record { from = first.from; size = first.some })
       (λ other. task_shown t h alone ask (rw other at e) opens)
   task_shown t (Ask p k n r ∷ h) alone ask e opens = task_shown t h alone.1 ask e opens
+  task_shown t (Pass u ∷ h) alone ask e opens = task_shown t h alone.1 ask e opens
   task_shown t (_ ∷ h) alone ask e opens = task_shown t h alone ask e opens
 
   -- the end that opens a context is that of a search which opens one
@@ -175,9 +205,14 @@ module _ (script : Script) where
   opened_by now t None reply id c e = absurd (cc)
   opened_by now t (Some (asks.Query ask)) reply id c e = absurd (cc)
   opened_by now t (Some (asks.Fetch ask)) reply id c e = absurd (cc)
+  opened_by now t (Some (asks.Reindex ask)) reply id c e = absurd (cc)
+  opened_by now t (Some (asks.Slice ask)) reply id c e = absurd (cc)
+  opened_by now t (Some (asks.Bulk ask)) reply id c e = absurd (cc)
+  opened_by now t (Some (asks.BulkShard ask)) reply id c e = absurd (cc)
   opened_by now t (Some (asks.Scroll ask)) reply id c e = by_test (same_task ask.id id) (λ own. absurd (let f : None ≡ Some c = rw own at e in cc)) (λ other. absurd (let f : None ≡ Some c = rw other at e in cc))
   opened_by now t (Some (asks.Search ask)) (Top top) id c e = absurd (cc)
   opened_by now t (Some (asks.Search ask)) (Hits hits) id c e = absurd (cc)
+  opened_by now t (Some (asks.Search ask)) (Wrote counts) id c e = absurd (cc)
   opened_by now t (Some (asks.Search ask)) (AllFailed failed) id c e = absurd (cc)
   opened_by now t (Some (asks.Search ask)) (Cancelled task cancel counts) id c e = absurd (cc)
   opened_by now t (Some (asks.Search ask)) (Rejected node) id c e = absurd (cc)
@@ -196,6 +231,7 @@ module _ (script : Script) where
   context_shown id [] alone c e = absurd (cc)
   context_shown id (Root k u ∷ h) alone c e = context_shown id h alone.1 c e
   context_shown id (Ask p k n r ∷ h) alone c e = context_shown id h alone.1 c e
+  context_shown id (Pass t ∷ h) alone c e = context_shown id h alone.1 c e
   context_shown id (End t reply ∷ h) alone c e = of_end (after_end (clock h) t (request_of said t h) reply id None) refl e (context_shown id h alone c)
     where
       of_end : (o : Option Context) → after_end (clock h) t (request_of said t h) reply id None ≡ o → option_or o (first_context said id h) ≡ Some c → (first_context said id h ≡ Some c → ShowsFromFirst c.ask) → ShowsFromFirst c.ask

@@ -8,6 +8,7 @@ pub mod Cutting
 pub mod Determined
 pub mod Empty
 pub mod Emptying
+pub mod FewAsks
 pub mod FirstListing
 pub mod FirstReady
 pub mod Fitting
@@ -33,7 +34,6 @@ pub mod ReadBefore
 pub mod Readiness
 pub mod Resting
 pub mod RootsAfter
-pub mod RunsAlone
 pub mod ShardsAnswered
 pub mod Soon
 pub mod Stances

@@ -138,10 +138,10 @@ module _ (cluster : Cluster) (h : List Event) (c : ℕ) (wait : Bool) (naming : 
   pub pages_after_answer : (corpus : Corpus) (script : Script) (contexts : List (FinMap task_id_cmp Context)) → Paging cluster corpus script h contexts → Paging cluster corpus script (answer_by wait c ∷ h) contexts
   pages_after_answer corpus script contexts p = pages_by corpus script contexts p wait
 
-  pub shards_after_answer : (corpus : Corpus) (script : Script) (shards : Shards) → HoldsShards (so_far corpus script h) corpus cluster.shards shards → HoldsShards (so_far corpus script (answer_by wait c ∷ h)) corpus cluster.shards shards
+  pub shards_after_answer : (corpus : Corpus) (script : Script) (shards : Shards) → HoldsShards (so_far corpus script h) corpus script.commands cluster.shards shards → HoldsShards (so_far corpus script (answer_by wait c ∷ h)) corpus script.commands cluster.shards shards
   shards_after_answer corpus script shards = by_kind wait
     where
-      by_kind : (b : Bool) → HoldsShards (so_far corpus script h) corpus cluster.shards shards → HoldsShards (so_far corpus script (answer_by b c ∷ h)) corpus cluster.shards shards
+      by_kind : (b : Bool) → HoldsShards (so_far corpus script h) corpus script.commands cluster.shards shards → HoldsShards (so_far corpus script (answer_by b c ∷ h)) corpus script.commands cluster.shards shards
       by_kind true has = has
       by_kind false has = has
 

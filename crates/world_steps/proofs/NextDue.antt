@@ -1,5 +1,5 @@
 -- The soonest alarm is the soonest moment for which a task waits.
-use Rattle.std.proofs.Common.{◌≡◌, ◌<◌, ◌≤◌, ℕ, ◌+◌, false, Option, Some, None, sym, ap, ◌∙◌, arith}
+use Rattle.std.proofs.Common.{◌≡◌, ◌<◌, ◌≤◌, ℕ, ◌+◌, false, length, Option, Some, None, sym, ap, ◌∙◌, arith}
 use Rattle.std.specs.Prelude.{nat_le, IfNone, IfSome}
 use Rattle.std.proofs.lemmas.Bool.Decides.{nat_tests}
 use Rattle.task_ids.specs.declared.task_id.TaskId.{TaskId}
@@ -39,6 +39,6 @@ module _ (s : State) (ready : Ready) (tied : IsTied s) (known : HasReady s ready
   later (Some moment) there = within there.0 moment (sym (known.alarms there.0) ∙ there.1)
 
   -- and where there is none nothing is live
-  pub none : (o : Option ℕ) → IfNone o ((q : TaskId) → alarm_at ready.alarms q ≡ None) → IsSettled s.cluster s.corpus.now s.script.now s.history → IfNone o (IsDrained s.history)
-  none None never settled = drained s.cluster s.corpus.now s.script.now s.history _ _ _ tied.ties settled (λ t. sym (known.alarms t) ∙ never t)
-  none (Some moment) never settled = tt
+  pub none : length s.history ≤ 4000000 → (o : Option ℕ) → IfNone o ((q : TaskId) → alarm_at ready.alarms q ≡ None) → IsSettled s.cluster s.corpus.now s.script.now s.history → IfNone o (IsDrained s.history)
+  none room None never settled = drained s.cluster s.corpus.now s.script.now s.history _ _ _ tied.ties room settled (λ t. sym (known.alarms t) ∙ never t)
+  none room (Some moment) never settled = tt

@@ -14,7 +14,7 @@ use Rattle.task_events.specs.declared.event.Event.TheVariants.{Pass, Write, Begi
 use Rattle.task_events.specs.declared.reply.FailedShard.{FailedShard}
 use Rattle.task_events.specs.declared.reply.Hit.{Hit}
 use Rattle.task_events.specs.declared.reply.Reply.{Reply}
-use Rattle.task_events.specs.declared.reply.Reply.TheVariants.{Search, Top, Hits, AllFailed, Cancelled, Rejected}
+use Rattle.task_events.specs.declared.reply.Reply.TheVariants.{Search, Top, Hits, AllFailed, Wrote, Cancelled, Rejected}
 use Rattle.task_events.specs.declared.reply.SearchReply.{SearchReply}
 use Rattle.task_events.specs.declared.reply.ShardCount.{ShardCount}
 use Rattle.task_events.specs.declared.request.HitKey.{HitKey}
@@ -35,7 +35,7 @@ use Rattle.task_events.specs.Readings.{Reading, search_reading, page_reading}
 use Rattle.task_events.specs.Requests.{Scripted, request_of}
 use Rattle.task_events.specs.Same.{same_task}
 use Rattle.task_events.specs.ShardOutcomes.{answered_shards, failed_shards}
-use Rattle.task_events.specs.Tasks.{is_live, has_ended}
+use Rattle.task_events.specs.Tasks.{is_live, is_new, has_ended}
 use Rattle.task_laws.proofs.Asks.{ask_facts}
 use Rattle.script_lang.specs.declared.command.Script.{Script}
 use Rattle.command_roots.specs.Roots.{scripted}
@@ -43,19 +43,18 @@ use Rattle.search_phase.specs.Growth.{HaveGrown, AreWithin}
 use Rattle.search_phase.proofs.Growth.{AreWithin-grow, found_keys-grow, listed-grow, writes_of-grow}
 use Rattle.search_phase.proofs.Sorting.{by_test}
 use Rattle.world_moves.specs.Good.{so_far}
+use Rattle.world_moves.specs.Owning.{OneAtATime}
 use Rattle.world_moves.specs.Plain.{AnswersPlainly, EndsPlainly, IsPlainReply}
 use Rattle.world_moves.proofs.ContextsPast.{begun_there, left_owned, unexpired_there, stands_ended}
 use Rattle.world_steps.specs.PagesFollow.{listed, cuts, shows_none, joined, is_of_context, shown_by, pages, gave_all, all_given, first_context}
-use Rattle.world_steps.specs.Scripts.{IsRunSoFar}
 use Rattle.world_steps.proofs.AllShown.{all_cut}
 use Rattle.world_steps.proofs.FromFirst.{context_shown}
 use Rattle.world_steps.proofs.ReadBefore.{counts_within}
-use Rattle.world_steps.proofs.RunsAlone.{runs_alone}
 use Rattle.world_steps.proofs.Cutting.{cuts_push, last_next, rows_next}
 use Rattle.world_steps.proofs.KeysApart.{AreDifferent}
 use Rattle.world_steps.proofs.NextCut.{good_parts, shows_cut}
 use Rattle.world_steps.proofs.ShardsAnswered.{shards_of, search_different, page_answers}
-use Rattle.world_steps.proofs.UsedAlone.{OneAtATime, IsInUse, all_in_use, is_one, same_itself}
+use Rattle.world_steps.proofs.UsedAlone.{IsInUse, all_in_use, is_one, same_itself}
 
 -- ---- where a context stands
 
@@ -92,6 +91,10 @@ module _ (writes : ℕ → List Doc) (first : Context) (rows : ℕ) where
   taken now t (Some (asks.Search ask)) id o before = before
   taken now t (Some (asks.Query ask)) id o before = before
   taken now t (Some (asks.Fetch ask)) id o before = before
+  taken now t (Some (asks.Reindex ask)) id o before = before
+  taken now t (Some (asks.Slice ask)) id o before = before
+  taken now t (Some (asks.Bulk ask)) id o before = before
+  taken now t (Some (asks.BulkShard ask)) id o before = before
   taken now t (Some (asks.Scroll ask)) id o before = changed (same_task ask.id id) (with_use now ask.keep t) (λ d. (refl, refl, refl)) o before
 
   -- a page that shows nothing leaves the cursor
@@ -105,10 +108,15 @@ end_elsewhere : (now : ℕ) (t : TaskId) (q : Option Request) (reply : Reply) (i
 end_elsewhere now t None reply id o e = refl
 end_elsewhere now t (Some (asks.Query ask)) reply id o e = refl
 end_elsewhere now t (Some (asks.Fetch ask)) reply id o e = refl
+end_elsewhere now t (Some (asks.Reindex ask)) reply id o e = refl
+end_elsewhere now t (Some (asks.Slice ask)) reply id o e = refl
+end_elsewhere now t (Some (asks.Bulk ask)) reply id o e = refl
+end_elsewhere now t (Some (asks.BulkShard ask)) reply id o e = refl
 end_elsewhere now t (Some (asks.Scroll ask)) reply id o e = rw e refl
 end_elsewhere now t (Some (asks.Search ask)) (Search found) id o e = rw e refl
 end_elsewhere now t (Some (asks.Search ask)) (Top top) id o e = refl
 end_elsewhere now t (Some (asks.Search ask)) (Hits hits) id o e = refl
+end_elsewhere now t (Some (asks.Search ask)) (Wrote counts) id o e = refl
 end_elsewhere now t (Some (asks.Search ask)) (AllFailed failed) id o e = refl
 end_elsewhere now t (Some (asks.Search ask)) (Cancelled task cancel counts) id o e = refl
 end_elsewhere now t (Some (asks.Search ask)) (Rejected node) id o e = refl
@@ -118,6 +126,7 @@ shows_or_not : (reply : Reply) → ((found : SearchReply) × (reply ≡ Search f
 shows_or_not (Search found) = inl (found, refl)
 shows_or_not (Top top) = inr (refl, refl, λ now t ask id o. refl)
 shows_or_not (Hits hits) = inr (refl, refl, λ now t ask id o. refl)
+shows_or_not (Wrote counts) = inr (refl, refl, λ now t ask id o. refl)
 shows_or_not (AllFailed failed) = inr (refl, refl, λ now t ask id o. refl)
 shows_or_not (Cancelled task cancel counts) = inr (refl, refl, λ now t ask id o. refl)
 shows_or_not (Rejected node) = inr (refl, refl, λ now t ask id o. refl)
@@ -131,16 +140,20 @@ both_given false b e = absurd (cc)
 
 module _ (cluster : Cluster) (said : Scripted) (id : TaskId) where
   -- a task that is of the context is its search, or a page of one that stands
-  of_search_or_page : (h : List Event) → Lawful cluster h → OneAtATime said h → (t : TaskId) → is_live t h ≡ true → is_of_context id t (request_of said t h) ≡ true
+  of_search_or_page : (h : List Event) → Lawful cluster h → OneAtATime said h → (t : TaskId) → is_live t h ≡ true → is_new t h ≡ false → is_of_context id t (request_of said t h) ≡ true
       → (t ≡ id) ⊎ ((ask : ScrollAsk) × (request_of said t h ≡ Some (asks.Scroll ask)) × (ask.id ≡ id) × IsInUse said t ask h)
-  of_search_or_page h lawful alone t live own = of_request (request_of said t h) refl own
+  of_search_or_page h lawful alone t live passed own = of_request (request_of said t h) refl own
     where
       of_request : (q : Option Request) → request_of said t h ≡ q → is_of_context id t q ≡ true → (t ≡ id) ⊎ ((ask : ScrollAsk) × (request_of said t h ≡ Some (asks.Scroll ask)) × (ask.id ≡ id) × IsInUse said t ask h)
       of_request None e is = absurd (cc)
       of_request (Some (asks.Query ask)) e is = absurd (cc)
       of_request (Some (asks.Fetch ask)) e is = absurd (cc)
+      of_request (Some (asks.Reindex ask)) e is = absurd (cc)
+      of_request (Some (asks.Slice ask)) e is = absurd (cc)
+      of_request (Some (asks.Bulk ask)) e is = absurd (cc)
+      of_request (Some (asks.BulkShard ask)) e is = absurd (cc)
       of_request (Some (asks.Search ask)) e is = inl (is_one t id is)
-      of_request (Some (asks.Scroll ask)) e is = inr (ask, e, is_one ask.id id is, all_in_use cluster said h lawful alone t ask live e)
+      of_request (Some (asks.Scroll ask)) e is = inr (ask, e, is_one ask.id id is, all_in_use cluster said h lawful alone t ask live passed e)
 
   page_has_search : (h : List Event) (t : TaskId) (ask : ScrollAsk) → ask.id ≡ id → IsInUse said t ask h → has_ended id h ≡ true
   page_has_search h t ask own b = stands_ended said id h b.context (sym (ap (λ i. context_at said i h) own) ∙ b.stands)
@@ -155,7 +168,7 @@ module _ (cluster : Cluster) (said : Scripted) (id : TaskId) where
       let before : has_ended id h ≡ false = rw other at not_yet in
       let rest = unshown h lawful.1 alone before in
       by_test (is_of_context id t (request_of said t h))
-      (λ is. of_task other before (of_search_or_page h lawful.1 alone t lawful.0.goes_on.live is))
+      (λ is. of_task other before (of_search_or_page h lawful.1 alone t lawful.0.goes_on.live lawful.0.goes_on.passed is))
       (λ elsewhere.
       let same : after_end (clock h) t (request_of said t h) reply id None ≡ None = end_elsewhere (clock h) t (request_of said t h) reply id None elsewhere in
       rw (elsewhere, same, rest.0) (refl, rest.1)))
@@ -170,6 +183,7 @@ module _ (cluster : Cluster) (said : Scripted) (id : TaskId) where
       (λ other. unshown h lawful.1 alone (rw other at not_yet))
   unshown (Root k t ∷ h) lawful alone not_yet = unshown h lawful.1 alone.1 not_yet
   unshown (Ask p k n r ∷ h) lawful alone not_yet = unshown h lawful.1 alone.1 not_yet
+  unshown (Pass t ∷ h) lawful alone not_yet = unshown h lawful.1 alone.1 not_yet
   unshown (e ∷ h) lawful alone not_yet = unshown h lawful.1 alone not_yet
 
 -- ---- every past
@@ -409,8 +423,8 @@ module _ (cluster : Cluster) (corpus : Corpus) (script : Script) (id : TaskId) w
           step_silent t reply h (ap (λ l. cond (is_of_context id t (request_of said t h)) l []) silent ∙ never (is_of_context id t (request_of said t h)) []) none
           (λ w c n before. subst (λ q. IfStands (StandsAt w c n) (after_end (clock h) t q reply id (context_at said id h))) (sym asked) (returned w c n (clock h) t ask reply id (context_at said id h) cursor before)) rest
 
-  step_end : (t : TaskId) (reply : Reply) (h : List Event) → Lawful cluster h → OneAtATime said h → is_live t h ≡ true → EndsPlainly cluster look t (page_of said t h) (mark_of t h) (counted cluster corpus said t h) (request_of said t h) h reply → Law h → EndLaw t reply h
-  step_end t reply h lawful alone live plain rest = by_test (is_of_context id t (request_of said t h)) (λ own. of_request (request_of said t h) refl own) (λ elsewhere. step_else t reply h elsewhere rest)
+  step_end : (t : TaskId) (reply : Reply) (h : List Event) → Lawful cluster h → OneAtATime said h → is_live t h ≡ true → is_new t h ≡ false → EndsPlainly cluster look t (page_of said t h) (mark_of t h) (counted cluster corpus said t h) (request_of said t h) h reply → Law h → EndLaw t reply h
+  step_end t reply h lawful alone live passed plain rest = by_test (is_of_context id t (request_of said t h)) (λ own. of_request (request_of said t h) refl own) (λ elsewhere. step_else t reply h elsewhere rest)
     where
       ends : (q : Option Request) → request_of said t h ≡ q → EndsPlainly cluster look t (page_of said t h) (mark_of t h) (counted cluster corpus said t h) q h reply
       ends q e = subst (λ x. EndsPlainly cluster look t (page_of said t h) (mark_of t h) (counted cluster corpus said t h) x h reply) e plain
@@ -419,8 +433,12 @@ module _ (cluster : Cluster) (corpus : Corpus) (script : Script) (id : TaskId) w
       of_request None e is = absurd (cc)
       of_request (Some (asks.Query ask)) e is = absurd (cc)
       of_request (Some (asks.Fetch ask)) e is = absurd (cc)
+      of_request (Some (asks.Reindex ask)) e is = absurd (cc)
+      of_request (Some (asks.Slice ask)) e is = absurd (cc)
+      of_request (Some (asks.Bulk ask)) e is = absurd (cc)
+      of_request (Some (asks.BulkShard ask)) e is = absurd (cc)
       of_request (Some (asks.Search ask)) e is = step_search t ask reply h lawful alone live e is (ends (Some (asks.Search ask)) e) rest
-      of_request (Some (asks.Scroll ask)) e is = step_page t ask reply h (all_in_use cluster said h lawful alone t ask live e) e is (ends (Some (asks.Scroll ask)) e) rest
+      of_request (Some (asks.Scroll ask)) e is = step_page t ask reply h (all_in_use cluster said h lawful alone t ask live passed e) e is (ends (Some (asks.Scroll ask)) e) rest
 
   pages_cut : (h : List Event) → Lawful cluster h → AnswersPlainly cluster corpus script h → OneAtATime said h → Law h
   pages_cut [] lawful plain alone c first no_from given = absurd (cc)
@@ -434,9 +452,9 @@ module _ (cluster : Cluster) (corpus : Corpus) (script : Script) (id : TaskId) w
       let b = pages_cut h lawful.1 plain alone c first no_from given in
       record { different = b.different; within = b.within; cut = b.cut; stands = λ d e. b.stands d (unexpired_there (clock h + ms) (context_at said id h) d e) }
   pages_cut (End t reply ∷ h) lawful plain alone c first no_from given =
-      gone_with t reply h (step_end t reply h lawful.1 alone lawful.0.goes_on.live plain.0 (pages_cut h lawful.1 plain.1 alone)) c first no_from given
+      gone_with t reply h (step_end t reply h lawful.1 alone lawful.0.goes_on.live lawful.0.goes_on.passed plain.0 (pages_cut h lawful.1 plain.1 alone)) c first no_from given
   pages_cut (Pass t ∷ h) lawful plain alone c first no_from given =
-      let b = pages_cut h lawful.1 plain alone c first no_from given in
+      let b = pages_cut h lawful.1 plain alone.1 c first no_from given in
       record { different = b.different; within = b.within; cut = b.cut; stands = taken (writes h c) c (rows c (pages said id h)) (clock h) t (request_of said t h) id (context_at said id h) b.stands }
   pages_cut (Write index shard outcome doc ∷ h) lawful plain alone c first no_from given =
       follows_on (writes h c) (writes (Write index shard outcome doc ∷ h) c) (writes_of-grow (look h) (line_of index (next_doc said h)) cluster.shards c.ask.index) c (pages said id h) (context_at said id h)
@@ -444,12 +462,9 @@ module _ (cluster : Cluster) (corpus : Corpus) (script : Script) (id : TaskId) w
   pages_cut (Ask p k n r ∷ h) lawful plain alone c first no_from given = pages_cut h lawful.1 plain alone.1 c first no_from given
   pages_cut (_ ∷ h) lawful plain alone c first no_from given = pages_cut h lawful.1 plain alone c first no_from given
 
-  -- in a run so far
-  module _ (h : List Event) (run : IsRunSoFar cluster corpus script h) (lawful : Lawful cluster h) (plain : AnswersPlainly cluster corpus script h)
+  -- where each page found its context free
+  module _ (h : List Event) (alone : OneAtATime said h) (lawful : Lawful cluster h) (plain : AnswersPlainly cluster corpus script h)
       (c : Context) (first : first_context said id h ≡ Some c) (given : all_given c.shards said id h ≡ true) where
-    alone : OneAtATime said h
-    alone = runs_alone cluster corpus script h run
-
     pub pages_of_run : pages said id h ≡ cuts c.ask.body.size (length (pages said id h)) (listed (writes h c) c)
     pages_of_run = (pages_cut h lawful plain alone c first (context_shown script id h alone c first).from given).cut
 

@@ -8,21 +8,22 @@ use Rattle.task_ids.specs.declared.cluster.Cluster.{Cluster}
 use Rattle.task_ids.specs.declared.corpus.Corpus.{Corpus}
 use Rattle.task_ids.specs.declared.task_id.TaskId.{TaskId}
 use Rattle.script_lang.specs.declared.command.Command.{Command}
-use Rattle.script_lang.specs.declared.command.Command.TheVariants.{Search, Scroll, ClearScroll, Cancel, ListTasks, Tick, Deliver, Step, ListStep, Settle, History}
+use Rattle.script_lang.specs.declared.command.Command.TheVariants.{Search, Scroll, ClearScroll, Reindex, Cancel, ListTasks, Tick, Deliver, Step, ListStep, Settle, History}
 use Rattle.script_lang.specs.declared.command.Script.{Script}
 use Rattle.task_events.specs.declared.context.Context.{Context}
 use Rattle.task_events.specs.declared.event.Event.{Event}
 use Rattle.task_events.specs.declared.request.Request.{Request}
 use Rattle.task_events.specs.declared.request.Request.TheVariants as asks
+use Rattle.task_events.specs.declared.request.ReindexAsk.{ReindexAsk}
 use Rattle.task_events.specs.declared.request.ScrollAsk.{ScrollAsk}
 use Rattle.task_events.specs.declared.request.SearchAsk.{SearchAsk}
 use Rattle.task_events.specs.Lawful.{Lawful}
 use Rattle.task_events.specs.Contexts.{is_busy, is_expired, is_owned_by, asked_page, context_at}
 use Rattle.task_work.specs.Works.{is_page}
 use Rattle.scroll_table.specs.Contexts.{answer_for}
-use Rattle.command_roots.specs.Roots.{command_at, context_named, request_in, root_request, scripted, search_of}
+use Rattle.command_roots.specs.Roots.{command_at, context_named, reindex_of, request_in, root_request, scripted, search_of}
 use Rattle.search_phase.proofs.Sorting.{by_test}
-use Rattle.world_moves.specs.Good.{IsWithin, so_far}
+use Rattle.world_moves.specs.Good.{so_far}
 use Rattle.world_moves.specs.Owning.{MayTakeFree}
 use Rattle.world_moves.specs.Paging.{Paging, CanTake, context_in}
 use Rattle.world_moves.proofs.AllKinds.{IsPageOf}
@@ -50,15 +51,20 @@ nobodys c owned = of_owner c.owner refl
 
 -- ---- what commands ask for
 
--- a page of a context that belongs to no task, or a search
+-- a page of a context that belongs to no task, a search, or a reindex
 abbrev pub IsOfNobody : Request → Type 0
 IsOfNobody (asks.Scroll ask) = ask.owner ≡ None
 IsOfNobody (asks.Search ask) = ⊤
+IsOfNobody (asks.Reindex ask) = ⊤
 IsOfNobody _ = ⊥
 
 of_search : (o : Option SearchAsk) (r : Request) → option_map asks.Search o ≡ Some r → IsOfNobody r
 of_search None r e = absurd (cc)
 of_search (Some ask) r e = let same : asks.Search ask ≡ r = cc in subst IsOfNobody same tt
+
+of_reindex : (o : Option ReindexAsk) (r : Request) → option_map asks.Reindex o ≡ Some r → IsOfNobody r
+of_reindex None r e = absurd (cc)
+of_reindex (Some ask) r e = let same : asks.Reindex ask ≡ r = cc in subst IsOfNobody same tt
 
 of_scroll : (keep : Option ℕ) (o : Option TaskId) (r : Request) → option_map (λ id. asks.Scroll (record { id = id; keep = keep; owner = None })) o ≡ Some r → IsOfNobody r
 of_scroll keep None r e = absurd (cc)
@@ -67,6 +73,7 @@ of_scroll keep (Some id) r e = let same : asks.Scroll (record { id = id; keep = 
 of_command : (command : Command) (h : List Event) (r : Request) → request_in command h ≡ Some r → IsOfNobody r
 of_command (Scroll target keep opaque_id) h r e = of_scroll keep (context_named target h) r e
 of_command (Search index node scroll body opaque_id) h r e = of_search (search_of (Search index node scroll body opaque_id)) r e
+of_command (Reindex node body slices rate opaque_id) h r e = of_reindex (reindex_of (Reindex node body slices rate opaque_id)) r e
 of_command (ClearScroll target) h r e = absurd (cc)
 of_command (Tick ms) h r e = absurd (cc)
 of_command (Cancel target reason wait) h r e = absurd (cc)
@@ -84,13 +91,6 @@ root_of_nobody script k h r asked = at_command (command_at script k) asked
     at_command None e = absurd (cc)
     at_command (Some command) e = of_command command h r e
 
--- it names no version of a shard
-pub root_within : (cluster : Cluster) (corpus : Corpus) (r : Request) → IsOfNobody r → IsWithin cluster corpus r
-root_within cluster corpus (asks.Search ask) free = tt
-root_within cluster corpus (asks.Scroll ask) free = tt
-root_within cluster corpus (asks.Query ask) free = absurd free
-root_within cluster corpus (asks.Fetch ask) free = absurd free
-
 -- ---- in the world
 
 module _ (cluster : Cluster) (corpus : Corpus) (script : Script) (h : List Event) (tables : List (FinMap task_id_cmp Context)) (p : Paging cluster corpus script h tables) (lawful : Lawful cluster h) where
@@ -98,6 +98,10 @@ module _ (cluster : Cluster) (corpus : Corpus) (script : Script) (h : List Event
   take_usable now (asks.Search other) can r one ask is = absurd (let same : asks.Search other ≡ r = cc in cc)
   take_usable now (asks.Query other) can r one ask is = absurd (let same : asks.Query other ≡ r = cc in cc)
   take_usable now (asks.Fetch other) can r one ask is = absurd (let same : asks.Fetch other ≡ r = cc in cc)
+  take_usable now (asks.Reindex other) can r one ask is = absurd (let same : asks.Reindex other ≡ r = cc in cc)
+  take_usable now (asks.Slice other) can r one ask is = absurd (let same : asks.Slice other ≡ r = cc in cc)
+  take_usable now (asks.Bulk other) can r one ask is = absurd (let same : asks.Bulk other ≡ r = cc in cc)
+  take_usable now (asks.BulkShard other) can r one ask is = absurd (let same : asks.BulkShard other ≡ r = cc in cc)
   take_usable now (asks.Scroll other) can r one ask is =
       let same : other ≡ ask = cc in
       let found = usable_found other.owner now (context_in tables other.id) can in
@@ -111,6 +115,10 @@ module _ (cluster : Cluster) (corpus : Corpus) (script : Script) (h : List Event
       of_request (asks.Search ask) free can = tt
       of_request (asks.Query ask) free can = tt
       of_request (asks.Fetch ask) free can = tt
+      of_request (asks.Reindex ask) free can = tt
+      of_request (asks.Slice ask) free can = tt
+      of_request (asks.Bulk ask) free can = tt
+      of_request (asks.BulkShard ask) free can = tt
       of_request (asks.Scroll ask) free can = λ c there.
           let mine = subst (λ by. IsOk (answer_for by now (context_in tables ask.id))) free can in
           nobodys c (usable_owned None now c (subst (λ o. IsOk (answer_for None now o)) (p.stand ask.id ∙ there) mine))
@@ -120,12 +128,20 @@ module _ (cluster : Cluster) (corpus : Corpus) (script : Script) (h : List Event
   page_there (asks.Search ask) = refl
   page_there (asks.Query ask) = refl
   page_there (asks.Fetch ask) = refl
+  page_there (asks.Reindex ask) = refl
+  page_there (asks.Slice ask) = refl
+  page_there (asks.Bulk ask) = refl
+  page_there (asks.BulkShard ask) = refl
   page_there (asks.Scroll ask) = p.stand ask.id
 
   pub page_given : (now : ℕ) (request : Request) → CanTake now tables request → is_page request ≡ is_some (asked_page (λ id. context_in tables id) (Some request))
   page_given now (asks.Search ask) can = refl
   page_given now (asks.Query ask) can = refl
   page_given now (asks.Fetch ask) can = refl
+  page_given now (asks.Reindex ask) can = refl
+  page_given now (asks.Slice ask) can = refl
+  page_given now (asks.Bulk ask) can = refl
+  page_given now (asks.BulkShard ask) can = refl
   page_given now (asks.Scroll ask) can = let found = usable_found ask.owner now (context_in tables ask.id) can in sym (ap is_some found.1)
 
   of_context : (ask : ScrollAsk) (o : Option Context) → context_at (scripted script) ask.id h ≡ o → IsPageOf cluster (so_far corpus script h) o (asks.Scroll ask)
@@ -136,6 +152,10 @@ module _ (cluster : Cluster) (corpus : Corpus) (script : Script) (h : List Event
   page_sound (asks.Search ask) = tt
   page_sound (asks.Query ask) = tt
   page_sound (asks.Fetch ask) = tt
+  page_sound (asks.Reindex ask) = tt
+  page_sound (asks.Slice ask) = tt
+  page_sound (asks.Bulk ask) = tt
+  page_sound (asks.BulkShard ask) = tt
   page_sound (asks.Scroll ask) = of_context ask (context_at (scripted script) ask.id h) refl
 
   -- its context stands on a node of the cluster

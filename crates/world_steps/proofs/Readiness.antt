@@ -227,3 +227,15 @@ all_rung s ready known later = record {
 
     none : (q : TaskId) → has_come s.clock (alarm_at ready.alarms q) ≡ false
     none q = by_moment q (alarm_at ready.alarms q) refl
+
+-- ---- one task is noted
+
+module _ (s : State) (t : TaskId) where
+  -- for which moment it waits now, if it waits for one
+  pub noted_alarm : (o : Option ℕ) (old new : TaskId → Option ℕ) → o ≡ due_of s.cluster s.corpus.now s.script.now t s.history → ((q : TaskId) → new q ≡ cond (same_task t q) o (old q))
+      → (q : TaskId) → new q ≡ cond (same_task t q) (due_of s.cluster s.corpus.now s.script.now q s.history) (old q)
+  noted_alarm o old new is set q = set q ∙ of_case (same_task_tells t q)
+    where
+      of_case : ((same_task t q ≡ true) × (t ≡ q)) ⊎ ((same_task t q ≡ false) × (t ≢ q)) → cond (same_task t q) o (old q) ≡ cond (same_task t q) (due_of s.cluster s.corpus.now s.script.now q s.history) (old q)
+      of_case (inl (one, same)) = ap (λ b. cond b o (old q)) one ∙ is ∙ ap (λ u. due_of s.cluster s.corpus.now s.script.now u s.history) same ∙ sym (ap (λ b. cond b (due_of s.cluster s.corpus.now s.script.now q s.history) (old q)) one)
+      of_case (inr (other, apart)) = ap (λ b. cond b o (old q)) other ∙ sym (ap (λ b. cond b (due_of s.cluster s.corpus.now s.script.now q s.history) (old q)) other)

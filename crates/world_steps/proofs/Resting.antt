@@ -1,5 +1,5 @@
 -- Where it has settled and a task is live, some task waits for a moment.
-use Rattle.std.proofs.Common.{◌≡◌, ◌≢◌, ℕ, Bool, true, false, List, [], Option, Some, None, refl, sym, ap, ◌∙◌}
+use Rattle.std.proofs.Common.{◌≡◌, ◌≢◌, ◌≤◌, ℕ, Bool, true, false, List, [], length, Option, Some, None, refl, sym, ap, ◌∙◌}
 use Rattle.std.specs.Prelude.{is_some}
 use Rattle.task_ids.specs.declared.task_id.TaskId.{TaskId}
 use Rattle.task_ids.specs.declared.cluster.Cluster.{Cluster}
@@ -26,6 +26,7 @@ use Rattle.world_steps.specs.World.{due_by}
 use Rattle.world_moves.specs.Ties.{Ties}
 use Rattle.world_moves.proofs.NoneAwaited.{none_to_await}
 use Rattle.world_moves.proofs.StepsAfter.{is_kept, runs_of}
+use Rattle.world_steps.proofs.FewAsks.{few_asks}
 use Rattle.world_steps.proofs.Plans.{laws_at, next_new, next_old, ends_marked, waits_kept, writes_at}
 
 waits_then : (cluster : Cluster) (t : TaskId) (h : List Event) (d : Do) → event_of cluster t h d ≡ None → does_wait d ≡ true
@@ -43,8 +44,8 @@ some_moment (Some moment) e = (moment, refl)
 
 module _ (cluster : Cluster) (corpus : Corpus) (script : Script) (h : List Event) (tasks : TaskId → Option Running) (tables : List Table) (flight : List Sent) (ties : Ties cluster corpus script h tasks tables flight) where
   -- a task with no ask unanswered waits for a moment, if it waits
-  leaf_waits : (u : TaskId) → IsLeaf u h → runs.next_of cluster corpus script u h ≡ None → (moment : ℕ) × (due_of cluster corpus script u h ≡ Some moment)
-  leaf_waits u l none = by_kept (tasks u) refl
+  leaf_waits : length h ≤ 4000000 → (u : TaskId) → IsLeaf u h → runs.next_of cluster corpus script u h ≡ None → (moment : ℕ) × (due_of cluster corpus script u h ≡ Some moment)
+  leaf_waits room u l none = by_kept (tasks u) refl
     where
       by_kept : (o : Option Running) → tasks u ≡ o → (moment : ℕ) × (due_of cluster corpus script u h ≡ Some moment)
       by_kept None e = absurd (is_kept cluster corpus script h tasks tables flight ties u l.live e)
@@ -53,11 +54,11 @@ module _ (cluster : Cluster) (corpus : Corpus) (script : Script) (h : List Event
           let laws = laws_at cluster corpus script h tasks tables flight ties u l.live l.passed r e in
           let kept = runs_of cluster corpus script h tasks tables flight ties u r e in
           let waits = waits_then cluster u h (next_of r.work writes (clock h)) (sym (next_old cluster corpus script h tasks tables flight ties u l.live l.passed l.unmarked r e) ∙ none) in
-          let found = some_moment (due_in (next_of r.work writes (clock h))) (sym (laws.moves writes (clock h) (none_to_await cluster u h ties.lawful l.answered)) ∙ waits) in
+          let found = some_moment (due_in (next_of r.work writes (clock h))) (sym (laws.moves (few_asks cluster u h ties.lawful room (none_to_await cluster u h ties.lawful l.answered)) writes (clock h) (none_to_await cluster u h ties.lawful l.answered)) ∙ waits) in
           (found.0, waits_kept cluster corpus script h tasks tables flight ties u l.live r e ∙ due_plain r writes (clock h) (kept.new ∙ l.passed) (ap (λ track. track.closed) kept.track ∙ l.unmarked) ∙ found.1)
 
-  pub drained : runs.IsSettled cluster corpus script h → ((t : TaskId) → due_of cluster corpus script t h ≡ None) → IsDrained h
-  drained s none_due = record { nothing_in_flight = s.nothing_in_flight; no_listing = closed; nothing_live = λ t. gone t (is_live t h) refl }
+  pub drained : length h ≤ 4000000 → runs.IsSettled cluster corpus script h → ((t : TaskId) → due_of cluster corpus script t h ≡ None) → IsDrained h
+  drained room s none_due = record { nothing_in_flight = s.nothing_in_flight; no_listing = closed; nothing_live = λ t. gone t (is_live t h) refl }
     where
       closed : (n : ℕ) (p : TaskId) → listing_is_open n p h ≡ false
       closed n p = s.no_listing (record { node = n; parent = p })
@@ -86,5 +87,5 @@ module _ (cluster : Cluster) (corpus : Corpus) (script : Script) (h : List Event
       gone t false e = e
       gone t true e =
           let found = leaf cluster h ties.lawful rest t e in
-          let waits = leaf_waits found.0 found.1 (s.all_wait found.0 found.1.live) in
+          let waits = leaf_waits room found.0 found.1 (s.all_wait found.0 found.1.live) in
           absurd (let never = none_due found.0 in let some = waits.1 in cc)

@@ -7,7 +7,7 @@ use Rattle.task_ids.specs.declared.cluster.Cluster.{Cluster}
 use Rattle.task_ids.specs.declared.corpus.Corpus.{Corpus}
 use Rattle.task_ids.specs.declared.doc.Doc.{Doc}
 use Rattle.task_table.specs.Table.{Table}
-use Rattle.task_work.specs.Works.{IsWorkOn, new_work}
+use Rattle.task_work.specs.Works.{IsWorkOn, IsNewWork}
 use Rattle.script_lang.specs.declared.command.Script.{Script}
 use Rattle.task_events.specs.declared.context.Context.{Context}
 use Rattle.task_events.specs.declared.request.Request.{Request}
@@ -23,11 +23,11 @@ use Rattle.world_moves.specs.declared.flight.Sent.{Sent}
 use Rattle.node_parts.specs.declared.running.Running.{Running}
 use Rattle.world_moves.specs.Facts.{Facts, facts_of}
 use Rattle.world_moves.specs.Moves.{IsStart}
-use Rattle.command_roots.specs.Roots.{root_request, root_headers, scripted}
+use Rattle.command_roots.specs.Roots.{command_at, root_request, root_headers, scripted}
 use Rattle.world_moves.specs.Ties.{Ties}
 use Rattle.world_moves.specs.Good.{so_far}
 use Rattle.world_moves.proofs.AllKinds.{IsPageOf, works_first}
-use Rattle.world_steps.proofs.PagesStart.{root_of_nobody, root_within}
+use Rattle.world_moves.proofs.RequestsWithin.{root_within}
 use Rattle.world_moves.proofs.FactsAfter.{at_root}
 use Rattle.world_moves.proofs.FlightAfter.{all_stay}
 use Rattle.world_moves.proofs.KeptTasks.{kept_after, kept_same}
@@ -74,14 +74,14 @@ module _ (cluster : Cluster) (corpus : Corpus) (script : Script) (h : List Event
 
       pub after_taking : (request : Request) (page : Option Context) (headers : Headers) (running : Running) (kept : TaskId → Option Running) → root_request script command h ≡ Some request → headers ≡ root_headers script command
           → page ≡ asked_page (λ id. context_at (scripted script) id h) (Some request) → IsPageOf cluster (so_far corpus script h) page request
-          → running ≡ first t None false request running.work headers → new_work t request cluster.shards page ≡ Some running.work → ((writes : List Doc) → IsWorkOn running.work writes)
+          → running ≡ first t None false request running.work headers → IsNewWork t request cluster.shards page running.work → ((writes : List Doc) → IsWorkOn running.work writes)
           → kept t ≡ Some running → ((q : TaskId) → same_task t q ≡ false → kept q ≡ tasks q)
           → Ties cluster corpus script (Root command t ∷ h) kept after flight
       after_taking request page headers running kept asked carried shows sound is work on here others = record {
         lawful = (record { begins = begun; in_cluster = rw node_is high; takes = takes }, ties.lawful, awaits);
         kept = kept_after cluster corpus (scripted script) t (Root command t) h tasks kept refl refl ties.kept
             (rw here (runs_first cluster (so_far corpus script) (Root command t ∷ h) t None false request page headers _ running facts is
-            (works_first cluster (so_far corpus script h) t false request page running.work work on sound (root_within cluster (so_far corpus script h) request (root_of_nobody script command h request asked))))) others;
+            (works_first cluster (so_far corpus script h) t false request page running.work work on sound (root_within cluster (so_far corpus script h) (command_at script command) h request asked)))) others;
         listed = put_listed cluster h tables ties.listed node low high t task after put (Root command t) (record { last = λ n. refl; live = refl });
         sent = all_stay (Root command t) h flight _ ties.sent;
         good = ties.good;

@@ -1,7 +1,8 @@
 -- No task waits longer than a tick can take.
-use Rattle.std.proofs.Common.{◌≡◌, ◌≤◌, ℕ, zero, suc, ◌+◌, ◌-◌, Bool, true, false, cond, ◌&&◌, not, List, [], ◌∷◌, ◌++◌, Option, Some, None, refl, sym, ap, subst, ◌∙◌, arith}
-use Rattle.std.specs.Prelude.{is_some, option_and_then, option_map, slice_set}
+use Rattle.std.proofs.Common.{◌≡◌, ◌≤◌, ℕ, zero, suc, ◌+◌, ◌-◌, Bool, true, false, cond, ◌&&◌, not, List, [], ◌∷◌, ◌++◌, Option, Some, None, refl, sym, ap, subst, ◌∙◌, arith, ◌≢◌, get_or, length}
+use Rattle.std.specs.Prelude.{◌==◌, is_some, option_and_then, option_map, slice_set}
 use Rattle.std.specs.List.{AllByRecursion}
+use Rattle.std.proofs.lemmas.Bool.Decides.{nat_tests}
 use Rattle.task_ids.specs.declared.task_id.TaskId.{TaskId}
 use Rattle.task_ids.specs.declared.cluster.Cluster.{Cluster}
 use Rattle.task_ids.specs.declared.corpus.Corpus.{Corpus}
@@ -9,17 +10,25 @@ use Rattle.task_table.specs.Table.{Table}
 use Rattle.task_events.specs.declared.request.Request.{Request}
 use Rattle.task_events.specs.declared.request.Request.TheVariants as asks
 use Rattle.task_events.specs.declared.step.Do.{Do}
+use Rattle.task_events.specs.declared.request.ReindexAsk.{ReindexAsk}
 use Rattle.task_events.specs.declared.event.Event.{Event}
 use Rattle.task_events.specs.declared.event.Event.TheVariants.{Ask, Answered, Tick}
 use Rattle.task_events.specs.Clock.{clock}
 use Rattle.task_events.specs.Kind.{Progress}
 use Rattle.task_events.specs.Kinds.{kind_of}
 use Rattle.task_events.specs.Bans.{mark_of}
+use Rattle.task_events.specs.Readings.{search_reading}
+use Rattle.task_events.specs.ReindexTask.{reindex_step, cut_step}
 use Rattle.task_events.specs.Requests.{request_of}
 use Rattle.task_events.specs.Same.{same_task}
+use Rattle.task_events.specs.SliceTask.{slice_step}
 use Rattle.task_events.specs.Steps.{came_by, planned_step}
 use Rattle.task_events.specs.Tasks.{is_live, is_new}
+use Rattle.reindex.specs.declared.root.ReindexRoot.TheVariants.{Alone, Cut}
+use Rattle.reindex.specs.Slices.{Slicing}
+use Rattle.reindex.proofs.SliceRuns.{slice_follows}
 use Rattle.task_work.specs.declared.work.Work.{Work}
+use Rattle.task_work.specs.declared.work.Work.TheVariants as works
 use Rattle.task_work.specs.Works.{due_in}
 use Rattle.script_lang.specs.declared.command.Script.{Script}
 use Rattle.command_roots.specs.Roots.{scripted}
@@ -28,21 +37,57 @@ use Rattle.world_moves.specs.declared.flight.Sent.{Sent}
 use Rattle.world_moves.specs.Describing.{longest_tick}
 use Rattle.world_moves.specs.Facts.{awaited_by, requested_by}
 use Rattle.world_moves.specs.Good.{so_far}
+use Rattle.world_moves.specs.ReindexRuns.{SlicesFor}
 use Rattle.world_moves.specs.Ties.{Ties, WorksFor}
+use Rattle.world_moves.proofs.ReindexLaws.{more_slices}
+use Rattle.world_moves.proofs.SliceLaws.{due_so}
 use Rattle.world_moves.proofs.StepsAfter.{is_kept, kept_running}
 use Rattle.world_steps.specs.Draining.{due_of}
 use Rattle.world_steps.proofs.Plans.{progress_at, same_plan}
-use Rattle.world_steps.proofs.Timely.{waits_for_answers}
+use Rattle.world_steps.proofs.Timely.{ask_or_end_waits, search_waits, page_waits, work_waits}
+
+-- ---- a slice
+
+all_low : (now : ℕ) (came : List ℕ) → AllByRecursion (λ moment. moment ≤ now) came → (i : ℕ) → get_or came i 0 ≤ now
+all_low now [] all i = omega arith
+all_low now (m ∷ came) all zero = all.0
+all_low now (m ∷ came) all (suc i) = all_low now came all.1 i
+
+module _ (cluster : Cluster) (corpus : Corpus) (t : TaskId) (ask : ReindexAsk) where
+  due_slice : (slice : ℕ) (p : Progress) (requests : List Request) (awaited : List (Option ℕ)) (now due : ℕ) → AllByRecursion (λ moment. moment ≤ now) p.came → (s : Slicing) → SlicesFor cluster.shards t ask slice p.asked p.came requests awaited s
+      → due_in (slice_step t ask slice cluster.shards p.asked p.came now) ≡ Some due → due ≤ now + longest_tick
+  unfolding longest_tick
+  due_slice slice p requests awaited now due low s x e =
+      let soon = due_so cluster corpus t ask slice p.asked p.came requests awaited s x now due (ap due_in (sym (slice_follows x.here now)) ∙ e) in
+      let last = all_low now p.came low (length p.came - 1) in
+      omega (arith, soon, last)
+
+  alone_steps : (p : Progress) (now : ℕ) → ask.slices ≡ 1 → reindex_step t ask cluster.shards p.asked p.came now ≡ slice_step t ask 0 cluster.shards p.asked p.came now
+  alone_steps p now one = let test : (ask.slices == 1) ≡ true = grind (arith, nat_tests) in rw test refl
+
+  cut_steps : (p : Progress) (now : ℕ) → ask.slices ≢ 1 → reindex_step t ask cluster.shards p.asked p.came now ≡ cut_step ask p.asked
+  cut_steps p now many = let test = more_slices ask many in rw test refl
 
 -- ---- every kind
 
 module _ (cluster : Cluster) (corpus : Corpus) (t : TaskId) (p : Progress) (requests : List Request) (awaited : List (Option ℕ)) (now due : ℕ) (low : AllByRecursion (λ moment. moment ≤ now) p.came) where
+  -- a plan that waits for no moment
+  never : (o : Option ℕ) → o ≡ Some due → o ≡ None → due ≤ now + longest_tick
+  never o waits none = absurd (let f : None ≡ Some due = sym none ∙ waits in cc)
+
   -- a moment for which a plan waits follows soon upon the last answer
   pub soon : (r : Request) (w : Work) → WorksFor cluster corpus t false p requests awaited (Some r) w → due_in ((kind_of r).step cluster corpus t p now) ≡ Some due → due ≤ now + longest_tick
-  soon (asks.Search ask) w x e = absurd (let none = waits_for_answers cluster t (asks.Search ask) corpus p now in cc)
-  soon (asks.Scroll ask) w x e = absurd (let none = waits_for_answers cluster t (asks.Scroll ask) corpus p now in cc)
-  soon (asks.Query ask) w x e = absurd (let none = waits_for_answers cluster t (asks.Query ask) corpus p now in cc)
-  soon (asks.Fetch ask) w x e = absurd (let none = waits_for_answers cluster t (asks.Fetch ask) corpus p now in cc)
+  soon (asks.Search ask) w x e = never _ e (search_waits (search_reading t ask cluster.shards) p.asked)
+  soon (asks.Scroll ask) w x e = never _ e (page_waits p.page p.asked)
+  soon (asks.Query ask) w x e = never _ e (work_waits _ _)
+  soon (asks.Fetch ask) w x e = never _ e (work_waits _ _)
+  soon (asks.Slice ask) (works.Slice s) x e = due_slice cluster corpus t ask.reindex ask.slice p requests awaited now due low s x e
+  soon (asks.Slice ask) _ x e = absurd x
+  soon (asks.Reindex ask) (works.Reindex (Alone s)) x e = due_slice cluster corpus t ask 0 p requests awaited now due low s x.1 (sym (ap due_in (alone_steps cluster corpus t ask p now x.0)) ∙ e)
+  soon (asks.Reindex ask) (works.Reindex (Cut c)) x e = never _ (sym (ap due_in (cut_steps cluster corpus t ask p now x.0)) ∙ e) (ask_or_end_waits _ _ _)
+  soon (asks.Reindex ask) _ x e = absurd x
+  soon (asks.Bulk ask) w x e = never _ e (ask_or_end_waits _ _ _)
+  soon (asks.BulkShard ask) w x e = never _ e (work_waits _ _)
 
 -- ---- no answer came after now
 

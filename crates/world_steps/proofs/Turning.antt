@@ -27,7 +27,7 @@ use Rattle.task_events.specs.Tasks.{is_live, is_new}
 use Rattle.task_events.specs.Turns.{is_begin}
 use Rattle.script_lang.specs.declared.command.Script.{Script}
 use Rattle.script_lang.specs.declared.command.Command.{Command}
-use Rattle.script_lang.specs.declared.command.Command.TheVariants.{Search, Scroll, ClearScroll, Cancel, ListTasks, Tick, Deliver, Step, ListStep, Settle, History}
+use Rattle.script_lang.specs.declared.command.Command.TheVariants.{Search, Scroll, ClearScroll, Reindex, Cancel, ListTasks, Tick, Deliver, Step, ListStep, Settle, History}
 use Rattle.world_steps.specs.declared.acting.Stepped.{Stepped}
 use Rattle.world_steps.specs.declared.acting.Stepped.TheVariants.{Done, Waiting, NotRunning}
 use Rattle.script_lang.specs.declared.command.CancelTarget.{CancelTarget}
@@ -41,7 +41,7 @@ use Rattle.world_moves.specs.Moves.{IsDelivery, Delivers, IsStart, Starts}
 use Rattle.command_roots.specs.Roots.{root_of, scripted}
 use Rattle.world_steps.specs.Draining.{Empties, StartsAgain, ticked_to}
 use Rattle.world_steps.specs.Runs.{after_step, AnswersStep, FirstMoves, Passes, Settles}
-use Rattle.world_steps.specs.Scripts.{can_start, can_page, page_node, StartsWhere, DeliversWhere, ListsWhere, Does, Commands, Drains, IsTurn, closing}
+use Rattle.world_steps.specs.Scripts.{can_copy, can_start, can_page, page_node, StartsWhere, DeliversWhere, ListsWhere, Does, Commands, Drains, IsTurn, closing}
 
 -- some events came after, with none of which a command began
 abbrev pub Follows : List Event → List Event → Type 0
@@ -216,9 +216,10 @@ module _ (cluster : Cluster) (corpus : Corpus) (script : Script) where
   delivered_where nth h new (inr (none, same)) = stays h new same
 
   done : (k : ℕ) (command : Command) (h new : List Event) → Does cluster corpus script k command h new → Follows h new
-  done k (Search index node scroll body opaque_id) h new d = started_where (can_start corpus index scroll body) k node h new d
+  done k (Search index node scroll body opaque_id) h new d = started_where (can_start corpus script.commands index scroll body) k node h new d
   done k (Scroll target keep opaque_id) h new d = started_where (can_page script target h) k (page_node target h) h new d
   done k (ClearScroll target) h new same = stays h new same
+  done k (Reindex node body slices rate opaque_id) h new d = started_where (can_copy corpus script.commands body) k node h new d
   done k (Tick ms) h new same = one_event h new (TickEvent ms) refl same
   done k (Cancel target reason wait) h new d = cancel_after cluster script k target wait h new d
   done k (ListTasks wanted group detailed) h new same = stays h new same

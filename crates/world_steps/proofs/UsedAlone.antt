@@ -7,7 +7,7 @@ use Rattle.task_events.specs.declared.context.Context.{Context}
 use Rattle.task_events.specs.declared.event.Event.{Event}
 use Rattle.task_events.specs.declared.event.Event.TheVariants.{Begin, Root, Ask, Put, Pass, Refuse, End, Tick}
 use Rattle.task_events.specs.declared.reply.Reply.{Reply}
-use Rattle.task_events.specs.declared.reply.Reply.TheVariants.{Search, Top, Hits, AllFailed, Cancelled, Rejected}
+use Rattle.task_events.specs.declared.reply.Reply.TheVariants.{Search, Top, Hits, AllFailed, Wrote, Cancelled, Rejected}
 use Rattle.task_events.specs.declared.request.Request.{Request}
 use Rattle.task_events.specs.declared.request.Request.TheVariants as asks
 use Rattle.task_events.specs.declared.request.ScrollAsk.{ScrollAsk}
@@ -21,29 +21,8 @@ use Rattle.task_events.specs.Tasks.{is_live, is_new, has_ended}
 use Rattle.task_laws.proofs.Asks.{ask_facts}
 use Rattle.task_laws.proofs.Same.{same_task_tells}
 use Rattle.search_phase.proofs.Sorting.{by_test}
-use Rattle.world_moves.specs.Facts.{Facts}
+use Rattle.world_moves.specs.Owning.{FindsFree, OneAtATime}
 use Rattle.world_moves.proofs.ContextsPast.{stands_ended}
-use Rattle.world_moves.proofs.UnbornTasks.{unborn}
-
--- ---- one page at a time
-
--- where a page is asked for, its context stands and no task uses it
-abbrev pub FindsFree : (TaskId → Option Context) → Option Request → Type 0
-FindsFree look (Some (asks.Scroll ask)) = IsSomeAnd (look ask.id) (λ c. is_busy c ≡ false)
-FindsFree look _ = ⊤
-
--- it asks for work on one shard
-abbrev pub is_part : Request → Bool
-is_part (asks.Query ask) = true
-is_part (asks.Fetch ask) = true
-is_part _ = false
-
--- Searches and pages are asked for by commands only, and a page only where no task uses its context.
-abbrev pub OneAtATime : Scripted → List Event → Type 0
-OneAtATime script [] = ⊤
-OneAtATime script (Root k t ∷ h) = FindsFree (λ id. context_at script id h) (script.root k h) × OneAtATime script h
-OneAtATime script (Ask p k n r ∷ h) = (is_part r ≡ true) × OneAtATime script h
-OneAtATime script (_ ∷ h) = OneAtATime script h
 
 -- ---- ids
 
@@ -93,16 +72,6 @@ pub record IsInUse (said : Scripted) (t : TaskId) (ask : ScrollAsk) (h : List Ev
   pub busy : context.busy ≡ Some t
   pub same : IsAsBefore start context
 
--- what a task asks another for is work on one shard
-pub asked_part : (said : Scripted) (p : TaskId) (k : ℕ) (h : List Event) → OneAtATime said h → (r : Request) → request_of_ask p k h ≡ Some r → is_part r ≡ true
-asked_part said p k [] alone r e = absurd (cc)
-asked_part said p k (Root j t ∷ h) alone r e = asked_part said p k h alone.1 r e
-asked_part said p k (Ask q j n made ∷ h) alone r e =
-    by_test (same_pair p k q j)
-    (λ one. let is : Some made ≡ Some r = rw one at e in let same : made ≡ r = cc in ap is_part (sym same) ∙ alone.0)
-    (λ other. asked_part said p k h alone.1 r (rw other at e))
-asked_part said p k (_ ∷ h) alone r e = asked_part said p k h alone r e
-
 module _ (said : Scripted) (t : TaskId) (ask : ScrollAsk) where
   -- it is used by another
   abbrev Other : TaskId → Type 0
@@ -114,6 +83,10 @@ module _ (said : Scripted) (t : TaskId) (ask : ScrollAsk) where
   root_stays now u look c at busy (Some (asks.Search other)) free = refl
   root_stays now u look c at busy (Some (asks.Query other)) free = refl
   root_stays now u look c at busy (Some (asks.Fetch other)) free = refl
+  root_stays now u look c at busy (Some (asks.Reindex other)) free = refl
+  root_stays now u look c at busy (Some (asks.Slice other)) free = refl
+  root_stays now u look c at busy (Some (asks.Bulk other)) free = refl
+  root_stays now u look c at busy (Some (asks.BulkShard other)) free = refl
   root_stays now u look c at busy (Some (asks.Scroll other)) free =
       by_test (same_task other.id ask.id)
       (λ yes.
@@ -127,10 +100,15 @@ module _ (said : Scripted) (t : TaskId) (ask : ScrollAsk) where
   end_stays now u c None reply no_search no_page = refl
   end_stays now u c (Some (asks.Query other)) reply no_search no_page = refl
   end_stays now u c (Some (asks.Fetch other)) reply no_search no_page = refl
+  end_stays now u c (Some (asks.Reindex other)) reply no_search no_page = refl
+  end_stays now u c (Some (asks.Slice other)) reply no_search no_page = refl
+  end_stays now u c (Some (asks.Bulk other)) reply no_search no_page = refl
+  end_stays now u c (Some (asks.BulkShard other)) reply no_search no_page = refl
   end_stays now u c (Some (asks.Scroll other)) reply no_search no_page = by_test (same_task other.id ask.id) (λ yes. absurd (no_page other refl yes)) (λ no. rw no refl)
   end_stays now u c (Some (asks.Search other)) (Search found) no_search no_page = by_test (same_task u ask.id) (λ yes. absurd (no_search yes)) (λ no. rw no refl)
   end_stays now u c (Some (asks.Search other)) (Top top) no_search no_page = refl
   end_stays now u c (Some (asks.Search other)) (Hits hits) no_search no_page = refl
+  end_stays now u c (Some (asks.Search other)) (Wrote counts) no_search no_page = refl
   end_stays now u c (Some (asks.Search other)) (AllFailed failed) no_search no_page = refl
   end_stays now u c (Some (asks.Search other)) (Cancelled task cancel counts) no_search no_page = refl
   end_stays now u c (Some (asks.Search other)) (Rejected node) no_search no_page = refl
@@ -150,6 +128,24 @@ module _ (said : Scripted) (t : TaskId) (ask : ScrollAsk) where
         same = record { ask = refl; shards = refl; cursor = refl };
       }
 
+  -- and so does a child that passes
+  pass_takes : (u : TaskId) (h : List Event) → same_task t u ≡ true → FindsFree (λ id. context_at said id h) (request_of said u h) → request_of said u h ≡ Some (asks.Scroll ask) → IsInUse said t ask (Pass u ∷ h)
+  pass_takes u h own free e = of_context (context_at said ask.id h) refl (subst (FindsFree (λ id. context_at said id h)) e free)
+    where
+      mine : request_of said t h ≡ Some (asks.Scroll ask)
+      mine = ap (λ x. request_of said x h) (is_one t u own) ∙ e
+
+      of_context : (o : Option Context) → context_at said ask.id h ≡ o → FindsFree (λ id. context_at said id h) (Some (asks.Scroll ask)) → IsInUse said t ask (Pass u ∷ h)
+      of_context None stands is = absurd (rw stands at is)
+      of_context (Some d) there is = record {
+        start = d;
+        context = with_use (clock h) ask.keep u d;
+        page = rw (own, mine) there;
+        stands = rw e (rw (same_itself ask.id, there) refl);
+        busy = ap Some (sym (is_one t u own));
+        same = record { ask = refl; shards = refl; cursor = refl };
+      }
+
   -- a context that is used belongs to it for the time
   owned_stays : (u : TaskId) (c : Context) → c.busy ≡ Some t → without_owned u (Some c) ≡ Some c
   owned_stays u c e = let busy : is_busy c ≡ true = busy_by c t e in rw busy (of_test (is_owned_by (Some u) c))
@@ -157,14 +153,6 @@ module _ (said : Scripted) (t : TaskId) (ask : ScrollAsk) where
       of_test : (b : Bool) → cond (b && false) None (Some c) ≡ Some c
       of_test true = refl
       of_test false = refl
-
-  -- a task that shows no page takes no context
-  part_stays : (now : ℕ) (u : TaskId) (o : Option Context) (q : Option Request) → ((r : Request) → q ≡ Some r → is_part r ≡ true) → after_taking now u q ask.id o ≡ o
-  part_stays now u o None part = refl
-  part_stays now u o (Some (asks.Query other)) part = refl
-  part_stays now u o (Some (asks.Fetch other)) part = refl
-  part_stays now u o (Some (asks.Search other)) part = refl
-  part_stays now u o (Some (asks.Scroll other)) part = absurd (let f = part (asks.Scroll other) refl in cc)
 
   -- what stays as it was stays in use
   goes_on : (e : Event) (h : List Event) → (b : IsInUse said t ask h) → page_of said t (e ∷ h) ≡ page_of said t h → context_at said ask.id (e ∷ h) ≡ Some b.context → IsInUse said t ask (e ∷ h)
@@ -179,14 +167,19 @@ module _ (said : Scripted) (t : TaskId) (ask : ScrollAsk) where
       goes_on (Root k u) h b (rw other refl)
       (ap (after_taking (clock h) u (said.root k h) ask.id) b.stands ∙ root_stays (clock h) u (λ id. context_at said id h) b.context b.stands b.busy (said.root k h) free)
 
+  passed_goes_on : (u : TaskId) (h : List Event) → same_task t u ≡ false → FindsFree (λ id. context_at said id h) (request_of said u h) → IsInUse said t ask h → IsInUse said t ask (Pass u ∷ h)
+  passed_goes_on u h other free b =
+      goes_on (Pass u) h b (rw other refl)
+      (ap (after_taking (clock h) u (request_of said u h) ask.id) b.stands ∙ root_stays (clock h) u (λ id. context_at said id h) b.context b.stands b.busy (request_of said u h) free)
+
   ticked_goes_on : (ms : ℕ) (h : List Event) → IsInUse said t ask h → IsInUse said t ask (Tick ms ∷ h)
   ticked_goes_on ms h b = goes_on (Tick ms) h b refl (ap (unexpired (clock h + ms)) b.stands ∙ ticked_stays (clock h + ms) t b.context b.busy)
 
 -- ---- every past
 
--- every live task that shows a page has its context
+-- every live task that has passed and shows a page has its context
 abbrev pub AllInUse : Scripted → List Event → Type 0
-AllInUse said h = (t : TaskId) (ask : ScrollAsk) → is_live t h ≡ true → request_of said t h ≡ Some (asks.Scroll ask) → IsInUse said t ask h
+AllInUse said h = (t : TaskId) (ask : ScrollAsk) → is_live t h ≡ true → is_new t h ≡ false → request_of said t h ≡ Some (asks.Scroll ask) → IsInUse said t ask h
 
 module _ (cluster : Cluster) (said : Scripted) where
   still_live : (b : Bool) (o : Bool) → cond b false o ≡ true → (b ≡ false) × (o ≡ true)
@@ -194,13 +187,13 @@ module _ (cluster : Cluster) (said : Scripted) where
   still_live false o e = (refl, e)
 
   -- and where another task ends
-  ended_goes_on : (h : List Event) (u : TaskId) (reply : Reply) → is_live u h ≡ true → has_ended u h ≡ false → AllInUse said h → (t : TaskId) (ask : ScrollAsk) → same_task t u ≡ false → IsInUse said t ask h → IsInUse said t ask (End u reply ∷ h)
-  ended_goes_on h u reply live not_ended all t ask other b =
+  ended_goes_on : (h : List Event) (u : TaskId) (reply : Reply) → is_live u h ≡ true → is_new u h ≡ false → has_ended u h ≡ false → AllInUse said h → (t : TaskId) (ask : ScrollAsk) → same_task t u ≡ false → IsInUse said t ask h → IsInUse said t ask (End u reply ∷ h)
+  ended_goes_on h u reply live passed not_ended all t ask other b =
       goes_on said t ask (End u reply) h b refl
       (ap (λ o. without_owned u (after_end (clock h) u (request_of said u h) reply ask.id o)) b.stands
       ∙ ap (without_owned u) (end_stays said t ask (clock h) u b.context (request_of said u h) reply
       (λ search. let ended : has_ended u h ≡ true = ap (λ x. has_ended x h) (is_one u ask.id search) ∙ stands_ended said ask.id h b.context b.stands in absurd (let f : false ≡ true = sym not_ended ∙ ended in cc))
-      (λ page asked same. apart page same (all u page live asked))) ∙ owned_stays said t ask u b.context b.busy)
+      (λ page asked same. apart page same (all u page live passed asked))) ∙ owned_stays said t ask u b.context b.busy)
     where
       apart : (page : ScrollAsk) → same_task page.id ask.id ≡ true → IsInUse said u page h → ⊥
       apart page same used =
@@ -211,48 +204,30 @@ module _ (cluster : Cluster) (said : Scripted) where
           let f : false ≡ true = sym other ∙ ap (same_task t) task ∙ same_itself t in
           absurd (cc)
 
-  -- a child that has not passed was asked for work on one shard
-  new_part : (h : List Event) → Lawful cluster h → OneAtATime said h → (u : TaskId) → is_new u h ≡ true → (r : Request) → request_of said u h ≡ Some r → is_part r ≡ true
-  new_part [] lawful alone u new r e = absurd (cc)
-  new_part (Root k t ∷ h) lawful alone u new r e =
-      by_test (same_task u t)
-      (λ own. absurd (let none = unborn cluster t said h lawful.1 (let next = lawful.0.takes.next in omega arith) in let f : false ≡ true = sym (ap (λ (f : Facts). f.new) none) ∙ ap (λ x. is_new x h) (sym (is_one u t own)) ∙ new in cc))
-      (λ other. new_part h lawful.1 alone.1 u new r (rw other at e))
-  new_part (Put t p k ∷ h) lawful alone u new r e =
-      by_test (same_task u t)
-      (λ own. asked_part said p k h alone r (rw own at e))
-      (λ other. new_part h lawful.1 alone u (rw other at new) r (rw other at e))
-  new_part (Pass t ∷ h) lawful alone u new r e = new_part h lawful.1 alone u (still_live (same_task u t) (is_new u h) new).1 r e
-  new_part (Refuse t c ∷ h) lawful alone u new r e = new_part h lawful.1 alone u (still_live (same_task u t) (is_new u h) new).1 r e
-  new_part (Ask p k n made ∷ h) lawful alone u new r e = new_part h lawful.1 alone.1 u new r e
-  new_part (_ ∷ h) lawful alone u new r e = new_part h lawful.1 alone u new r e
-
   pub all_in_use : (h : List Event) → Lawful cluster h → OneAtATime said h → AllInUse said h
-  all_in_use [] lawful alone t ask live request = absurd (cc)
-  all_in_use (Begin k ∷ h) lawful alone t ask live request = begun_goes_on said t ask k h (all_in_use h lawful.1 alone t ask live request)
-  all_in_use (Root k u ∷ h) lawful alone t ask live request =
+  all_in_use [] lawful alone t ask live passed request = absurd (cc)
+  all_in_use (Begin k ∷ h) lawful alone t ask live passed request = begun_goes_on said t ask k h (all_in_use h lawful.1 alone t ask live passed request)
+  all_in_use (Root k u ∷ h) lawful alone t ask live passed request =
       by_test (same_task t u)
       (λ own. root_takes said t ask k u h own alone.0 (rw own at request))
-      (λ other. rooted_goes_on said t ask k u h other alone.0 (all_in_use h lawful.1 alone.1 t ask (rw other at live) (rw other at request)))
-  all_in_use (Put u p k ∷ h) lawful alone t ask live request =
+      (λ other. rooted_goes_on said t ask k u h other alone.0 (all_in_use h lawful.1 alone.1 t ask (rw other at live) passed (rw other at request)))
+  all_in_use (Put u p k ∷ h) lawful alone t ask live passed request =
       by_test (same_task t u)
-      (λ own. absurd (let f : false ≡ true = asked_part said p k h alone (asks.Scroll ask) (rw own at request) in cc))
-      (λ other. let b = all_in_use h lawful.1 alone t ask (rw other at live) (rw other at request) in goes_on said t ask (Put u p k) h b refl b.stands)
-  all_in_use (Pass u ∷ h) lawful alone t ask live request =
-      let part = new_part h lawful.1 alone u lawful.0.first in
+      (λ own. absurd (let f : true ≡ false = rw own at passed in cc))
+      (λ other. let b = all_in_use h lawful.1 alone t ask (rw other at live) (rw other at passed) (rw other at request) in goes_on said t ask (Put u p k) h b refl b.stands)
+  all_in_use (Pass u ∷ h) lawful alone t ask live passed request =
       by_test (same_task t u)
-      (λ own. absurd (let f : false ≡ true = part (asks.Scroll ask) (ap (λ x. request_of said x h) (sym (is_one t u own)) ∙ request) in cc))
-      (λ other.
-      let b = all_in_use h lawful.1 alone t ask live request in
-      goes_on said t ask (Pass u) h b (rw other refl) (part_stays said t ask (clock h) u (context_at said ask.id h) (request_of said u h) part ∙ b.stands))
-  all_in_use (Refuse u c ∷ h) lawful alone t ask live request =
-      let b = all_in_use h lawful.1 alone t ask (still_live (same_task t u) (is_live t h) live).1 request in
+      (λ own. pass_takes said t ask u h own alone.0 (ap (λ x. request_of said x h) (sym (is_one t u own)) ∙ request))
+      (λ other. passed_goes_on said t ask u h other alone.0 (all_in_use h lawful.1 alone.1 t ask live (rw other at passed) request))
+  all_in_use (Refuse u c ∷ h) lawful alone t ask live passed request =
+      let lives = still_live (same_task t u) (is_live t h) live in
+      let b = all_in_use h lawful.1 alone t ask lives.1 (rw lives.0 at passed) request in
       goes_on said t ask (Refuse u c) h b refl b.stands
-  all_in_use (End u reply ∷ h) lawful alone t ask live request =
+  all_in_use (End u reply ∷ h) lawful alone t ask live passed request =
       let lives = still_live (same_task t u) (is_live t h) live in
       let all = all_in_use h lawful.1 alone in
       let ends : is_live u h ≡ true = lawful.0.goes_on.live in
-      ended_goes_on h u reply ends ((ask_facts cluster h lawful.1).live_or_ended u ends) all t ask lives.0 (all t ask lives.1 request)
-  all_in_use (Tick ms ∷ h) lawful alone t ask live request = ticked_goes_on said t ask ms h (all_in_use h lawful.1 alone t ask live request)
-  all_in_use (Ask p k n r ∷ h) lawful alone t ask live request = let b = all_in_use h lawful.1 alone.1 t ask live request in goes_on said t ask (Ask p k n r) h b refl b.stands
-  all_in_use (e ∷ h) lawful alone t ask live request = let b = all_in_use h lawful.1 alone t ask live request in goes_on said t ask e h b refl b.stands
+      ended_goes_on h u reply ends lawful.0.goes_on.passed ((ask_facts cluster h lawful.1).live_or_ended u ends) all t ask lives.0 (all t ask lives.1 passed request)
+  all_in_use (Tick ms ∷ h) lawful alone t ask live passed request = ticked_goes_on said t ask ms h (all_in_use h lawful.1 alone t ask live passed request)
+  all_in_use (Ask p k n r ∷ h) lawful alone t ask live passed request = let b = all_in_use h lawful.1 alone.1 t ask live passed request in goes_on said t ask (Ask p k n r) h b refl b.stands
+  all_in_use (e ∷ h) lawful alone t ask live passed request = let b = all_in_use h lawful.1 alone t ask live passed request in goes_on said t ask e h b refl b.stands

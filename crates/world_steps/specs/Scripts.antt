@@ -2,8 +2,10 @@
 use Rattle.std.specs.Prelude.{◌≡◌, ℕ, zero, suc, ◌+◌, ◌≤◌, Bool, true, false, ◌&&◌, List, [], ◌∷◌, ◌++◌, ◌⊎◌, length, is_some, is_ok, Option, Some, None, Result, Ok, Err, ⊤}
 use Rattle.std.specs.List.{list_any}
 use Rattle.std.specs.Option.{option_map_or}
+use Rattle.std.specs.Result.{result_ok}
 use Rattle.serde_json.specs.Data.{Data}
 use Rattle.query_parse.specs.Bodies.{body_at}
+use Rattle.query_parse.specs.Reindexes.{reindex_at}
 use Rattle.task_ids.specs.declared.cluster.Cluster.{Cluster}
 use Rattle.task_ids.specs.declared.corpus.Corpus.{Corpus}
 use Rattle.task_events.specs.declared.event.Event.{Event}
@@ -15,16 +17,17 @@ use Rattle.task_events.specs.Turns.{is_begin}
 use Rattle.scroll_table.specs.declared.context.PageError.{PageError}
 use Rattle.script_lang.specs.declared.command.Command.{Command}
 use Rattle.script_lang.specs.declared.command.ContextTarget.{ContextTarget}
-use Rattle.script_lang.specs.declared.command.Command.TheVariants.{Search, Scroll, ClearScroll, Cancel, ListTasks, Tick, Deliver, Step, ListStep, Settle, History}
+use Rattle.script_lang.specs.declared.command.Command.TheVariants.{Search, Scroll, ClearScroll, Reindex, Cancel, ListTasks, Tick, Deliver, Step, ListStep, Settle, History}
 use Rattle.script_lang.specs.declared.command.Script.{Script}
 use Rattle.world_steps.specs.declared.acting.Stepped.{Stepped}
 use Rattle.node_parts.specs.declared.listing.Listing.{Listing}
 use Rattle.world_moves.specs.Cancels.{after_cancel}
 use Rattle.world_moves.specs.Listings.{is_open, ListSteps}
+use Rattle.script_lang.specs.Fits.{IsSliceCount, IsRate}
 use Rattle.script_lang.specs.KeepAlives.{day_ms}
 use Rattle.world_moves.specs.Moves.{Delivers, Starts, NodeLacksNumber, DeliveryLacksNumber, IsPartly, Stops}
+use Rattle.command_roots.specs.Known.{is_known}
 use Rattle.command_roots.specs.Roots.{body_or_none, command_at, context_named, least_size, page_answer}
-use Rattle.corpus_shards.specs.Placed.{has_index}
 use Rattle.world_steps.specs.Draining.{Empties, PartlyEmpties, EmptyingLacksNumber}
 use Rattle.world_steps.specs.Runs.{AnswersStep, Settles, PartlySettles, SettlingLacksNumber}
 
@@ -34,11 +37,13 @@ IsTurn k h new = (events : List Event) × (new ≡ events ++ Begin k ∷ h) × (
 
 -- ---- the scripts that run
 
--- a command that the world can do: a search starts on a node of the cluster, and the clock moves by a day at most
+-- a command that the world can do: a search and a reindex start on a node of the cluster, a reindex has numbers in their ranges, and the
+-- clock moves by a day at most
 abbrev pub CanDo : ℕ → Command → Type 0
 CanDo nodes (Search index node scroll body opaque_id) = (1 ≤ node) × (node ≤ nodes)
 CanDo nodes (Scroll target keep opaque_id) = ⊤
 CanDo nodes (ClearScroll target) = ⊤
+CanDo nodes (Reindex node body slices rate opaque_id) = ((1 ≤ node) × (node ≤ nodes)) × IsSliceCount slices × IsRate rate
 CanDo nodes (Cancel target reason wait) = ⊤
 CanDo nodes (ListTasks wanted group detailed) = ⊤
 CanDo nodes (Tick ms) = ms ≤ day_ms
@@ -59,9 +64,13 @@ closing script = length script.commands + 1
 
 -- ---- one command
 
--- the body of a search has no fault, and some document is of its index
-abbrev pub can_start : Corpus → List ℕ → Option ℕ → Data → Bool
-can_start corpus index scroll body = is_some (body_or_none (body_at (is_some scroll) (least_size scroll) body)) && has_index corpus.lines index
+-- the body of a search has no fault, and its index is known
+abbrev pub can_start : Corpus → List Command → List ℕ → Option ℕ → Data → Bool
+can_start corpus commands index scroll body = is_some (body_or_none (body_at (is_some scroll) (least_size scroll) body)) && is_known corpus commands index
+
+-- the body of a reindex has no fault, and the index that it reads is known
+abbrev pub can_copy : Corpus → List Command → Data → Bool
+can_copy corpus commands body = option_map_or (λ read. is_known corpus commands read.source) (result_ok (reindex_at body)) false
 
 -- the context that a scroll is about stands, and no task uses it
 abbrev pub can_page : Script → ContextTarget → List Event → Bool
@@ -92,9 +101,10 @@ ListsWhere l h new = ListSteps l h new ⊎ ((is_open l h ≡ false) × (new ≡ 
 module _ (cluster : Cluster) (corpus : Corpus) (script : Script) where
   -- what a command with this number appends after its beginning
   abbrev pub Does : ℕ → Command → List Event → List Event → Type 0
-  Does k (Search index node scroll body opaque_id) h new = StartsWhere cluster (can_start corpus index scroll body) k node h new
+  Does k (Search index node scroll body opaque_id) h new = StartsWhere cluster (can_start corpus script.commands index scroll body) k node h new
   Does k (Scroll target keep opaque_id) h new = StartsWhere cluster (can_page script target h) k (page_node target h) h new
   Does k (ClearScroll target) h new = new ≡ h
+  Does k (Reindex node body slices rate opaque_id) h new = StartsWhere cluster (can_copy corpus script.commands body) k node h new
   Does k (Cancel target reason wait) h new = new ≡ after_cancel cluster script k target wait h
   Does k (ListTasks wanted group detailed) h new = new ≡ h
   Does k (Tick ms) h new = new ≡ TickEvent ms ∷ h
@@ -144,8 +154,9 @@ module _ (cluster : Cluster) (corpus : Corpus) (script : Script) where
 
   -- The next event of a command would start or put a task for which its node has no number.
   abbrev pub CommandLacksNumber : Command → List Event → List Event → Type 0
-  CommandLacksNumber (Search index node scroll body opaque_id) h new = (can_start corpus index scroll body ≡ true) × NodeLacksNumber cluster h node × (new ≡ h)
+  CommandLacksNumber (Search index node scroll body opaque_id) h new = (can_start corpus script.commands index scroll body ≡ true) × NodeLacksNumber cluster h node × (new ≡ h)
   CommandLacksNumber (Scroll target keep opaque_id) h new = (can_page script target h ≡ true) × NodeLacksNumber cluster h (page_node target h) × (new ≡ h)
+  CommandLacksNumber (Reindex node body slices rate opaque_id) h new = (can_copy corpus script.commands body ≡ true) × NodeLacksNumber cluster h node × (new ≡ h)
   CommandLacksNumber (Deliver nth) h new = DeliveryLacksNumber cluster h nth × (new ≡ h)
   CommandLacksNumber Settle h new = SettlingLacksNumber cluster corpus script h new
   CommandLacksNumber _ h new = ⊥

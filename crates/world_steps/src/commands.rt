@@ -1,17 +1,21 @@
 //! What commands do, and the closing drain.
 
-ghost use Rattle.std.specs.Prelude.{◌≡◌, ◌⊎◌, ◌∷◌, ◌+◌, ◌*◌, ◌≤◌, length, true, false, is_some, Some, option_map, OnOk, OnErr, IfErr};
+ghost use Rattle.std.specs.Prelude.{◌≡◌, ◌⊎◌, ◌∷◌, ◌+◌, ◌*◌, ◌≤◌, length, true, false, is_some, Some, option_map, option_and_then, OnOk, OnErr, IfErr};
+ghost use Rattle.std.specs.Result.{result_ok};
 ghost use Rattle.query_parse.specs.Bodies.{body_at};
+ghost use Rattle.query_parse.specs.Reindexes.{reindex_at};
 ghost use Rattle.task_events.specs.Cancels.{last_command, beginning};
 ghost use Rattle.task_events.specs.Clock.{clock};
+ghost use Rattle.script_lang.specs.Fits.{IsSliceCount, IsRate};
 ghost use Rattle.script_lang.specs.KeepAlives.{day_ms};
 ghost use Rattle.task_events.specs.Laws.{IsDrained};
+ghost use Rattle.command_roots.specs.Reindexes.{reindex_ask};
 ghost use Rattle.command_roots.specs.Roots.{body_or_none, command_at, least_size, root_request, search_ask};
 ghost use Rattle.task_ids.specs.Limits.{IsCancel};
 ghost use Rattle.world_moves.specs.Cancels.{after_cancel, AllAnswered};
 ghost use Rattle.world_moves.specs.Moves.{DeliveryLacksNumber, IsPartly, NodeLacksNumber, Stops, StopsMove};
 ghost use Rattle.world_steps.specs.Runs.{AnswersStep};
-ghost use Rattle.world_steps.specs.Scripts.{CanDo, CanRun, can_start, StartsWhere, DeliversWhere, ListsWhere, Does, PartlyDoes, Commands, PartlyCommands, Drains, PartlyDrains, StopsDoing, StopsCommand, StopsDrain};
+ghost use Rattle.world_steps.specs.Scripts.{CanDo, CanRun, can_copy, can_start, StartsWhere, DeliversWhere, ListsWhere, Does, PartlyDoes, Commands, PartlyCommands, Drains, PartlyDrains, StopsDoing, StopsCommand, StopsDrain};
 ghost use Rattle.world_moves.specs.Ties.{IsTied, Keeps, KeepsLaws};
 ghost use Rattle.world_steps.specs.World.{HasReady};
 
@@ -20,9 +24,9 @@ use crate::cancel_commands::cancel;
 use crate::draining::empty;
 use crate::moving::{deliver_and_refresh, list_and_refresh, settle, step_and_refresh};
 use crate::ready::{Ready, refresh};
-use crate::roots::{begin, start};
+use crate::roots::{begin, start, start_reindex};
 use crate::scrolls::scroll;
-use command_roots::{body_of, search_ask};
+use command_roots::{body_of, reindex_ask, reindex_body, search_ask};
 use node_parts::listing::Listing;
 use script_lang::{CancelTarget, Command};
 use task_events::{Event, Request, Stop};
@@ -31,7 +35,7 @@ use task_laws::drained_bans;
 use world_moves::clock::tick;
 use world_moves::state::State;
 
-/// A search that has begun comes to its node, where its body has no fault and some document is of its index.
+/// A search that has begun comes to its node, where its body has no fault and its index is known.
 fn search(
     state: &mut State<'_>,
     ready: &mut Ready,
@@ -47,13 +51,13 @@ fn search(
     requires asked { root_request state.old.script.now number state.old.history ≡ option_map Request.Search (option_map (search_ask index.now scroll) (body_or_none (body_at (is_some scroll) (least_size scroll) body.now))) }
     requires low { 1 ≤ node }
     requires high { node ≤ state.old.cluster.nodes }
-    ensures done { OnOk result (StartsWhere state.old.cluster (can_start state.old.corpus.now index.now scroll body.now) number node state.old.history state.new.history) }
+    ensures done { OnOk result (StartsWhere state.old.cluster (can_start state.old.corpus.now state.old.script.now.commands index.now scroll body.now) number node state.old.history state.new.history) }
     ensures tied { OnOk result (IsTied state.new) }
     ensures known { OnOk result (HasReady state.new ready.new) }
     ensures keeps { Keeps state.old state.new }
-    ensures part { OnErr result (IsPartly (StartsWhere state.old.cluster (can_start state.old.corpus.now index.now scroll body.now) number node) state.old.history state.new.history) }
+    ensures part { OnErr result (IsPartly (StartsWhere state.old.cluster (can_start state.old.corpus.now state.old.script.now.commands index.now scroll body.now) number node) state.old.history state.new.history) }
     ensures laws { KeepsLaws state.new }
-    ensures stop { IfErr result (λ stop. Stops (IsPartly (StartsWhere state.old.cluster (can_start state.old.corpus.now index.now scroll body.now) number node) state.old.history) ((can_start state.old.corpus.now index.now scroll body.now ≡ true) × NodeLacksNumber state.old.cluster state.old.history node × (state.new.history ≡ state.old.history)) state.new.history stop) }
+    ensures stop { IfErr result (λ stop. Stops (IsPartly (StartsWhere state.old.cluster (can_start state.old.corpus.now state.old.script.now.commands index.now scroll body.now) number node) state.old.history) ((can_start state.old.corpus.now state.old.script.now.commands index.now scroll body.now ≡ true) × NodeLacksNumber state.old.cluster state.old.history node × (state.new.history ≡ state.old.history)) state.new.history stop) }
 {
     let Ok(found) = body_of(state.alloc, body, scroll.is_some()) else {
         return Err(Stop::Memory);
@@ -70,6 +74,53 @@ fn search(
     };
     let before = state.history.len();
     start(state, number, node, ask)?;
+    match refresh(state, ready, before) {
+        Ok(()) => Ok(()),
+        Err(stop) => Err(stop),
+    }
+}
+
+/// A reindex that has begun comes to its node, where its body has no fault and the index that it reads is known.
+fn reindex(
+    state: &mut State<'_>,
+    ready: &mut Ready,
+    number: u32,
+    node: u32,
+    body: &DocSource,
+    slices: u32,
+    rate: Option<u32>,
+) -> Result<(), Stop>
+    requires tied { IsTied state.old }
+    requires known { HasReady state.old ready.old }
+    requires begun { beginning state.old.history ≡ Some number }
+    requires asked { root_request state.old.script.now number state.old.history ≡ option_map Request.Reindex (option_and_then (λ read. reindex_ask read slices rate) (result_ok (reindex_at body.now))) }
+    requires low { 1 ≤ node }
+    requires high { node ≤ state.old.cluster.nodes }
+    requires slices { IsSliceCount slices }
+    requires rate { IsRate rate }
+    ensures done { OnOk result (StartsWhere state.old.cluster (can_copy state.old.corpus.now state.old.script.now.commands body.now) number node state.old.history state.new.history) }
+    ensures tied { OnOk result (IsTied state.new) }
+    ensures known { OnOk result (HasReady state.new ready.new) }
+    ensures keeps { Keeps state.old state.new }
+    ensures part { OnErr result (IsPartly (StartsWhere state.old.cluster (can_copy state.old.corpus.now state.old.script.now.commands body.now) number node) state.old.history state.new.history) }
+    ensures laws { KeepsLaws state.new }
+    ensures stop { IfErr result (λ stop. Stops (IsPartly (StartsWhere state.old.cluster (can_copy state.old.corpus.now state.old.script.now.commands body.now) number node) state.old.history) ((can_copy state.old.corpus.now state.old.script.now.commands body.now ≡ true) × NodeLacksNumber state.old.cluster state.old.history node × (state.new.history ≡ state.old.history)) state.new.history stop) }
+{
+    let Ok(found) = reindex_body(state.alloc, body) else {
+        return Err(Stop::Memory);
+    };
+    let Some(body) = found else {
+        return Ok(());
+    };
+    if !state.shards.has(body.source.as_str()) {
+        drop(body);
+        return Ok(());
+    }
+    let Ok(ask) = reindex_ask(state.alloc, body, slices, rate) else {
+        return Err(Stop::Memory);
+    };
+    let before = state.history.len();
+    start_reindex(state, number, node, ask)?;
     match refresh(state, ready, before) {
         Ok(()) => Ok(()),
         Err(stop) => Err(stop),
@@ -218,6 +269,13 @@ fn act_on(
             ..
         } => search(state, ready, number, index, *node, *scroll, body),
         Command::Scroll { context, keep, .. } => scroll(state, ready, number, context, *keep),
+        Command::Reindex {
+            node,
+            body,
+            slices,
+            rate,
+            ..
+        } => reindex(state, ready, number, *node, body, *slices, *rate),
         Command::Tick { ms } => tick_and_refresh(state, ready, *ms),
         Command::Deliver { nth } => deliver(state, ready, *nth),
         Command::Cancel { target, wait, .. } => cancel_and_refresh(

@@ -27,6 +27,7 @@ fn next_due(state: &State<'_>, ready: &Ready) -> Option<u64>
     ensures later { IfSome result (λ due. (state.now.clock ≤ due) × (due ≤ state.now.clock + longest_tick)) }
     ensures none { IfNone result (IsDrained state.now.history) }
 {
+    let _left = state.history.left();
     ready.alarms.least()
 }
 

@@ -10,6 +10,7 @@ ghost use Rattle.task_ids.specs.declared.cluster.Cluster.{Cluster};
 ghost use Rattle.task_ids.specs.declared.corpus.Corpus.{Corpus};
 ghost use Rattle.task_ids.specs.declared.task_id.TaskId.{TaskId};
 ghost use Rattle.world_moves.specs.Good.{so_far};
+ghost use Rattle.world_moves.specs.Owning.{OneAtATime};
 ghost use Rattle.world_moves.specs.Plain.{AnswersPlainly};
 ghost use Rattle.world_steps.specs.PagesFollow.{all_given, cuts, first_context, joined, listed, pages, shows_none};
 ghost use Rattle.world_steps.specs.Scripts.{IsRun, IsRunSoFar};
@@ -31,12 +32,13 @@ pub fn whole_is_so_far()
 
 /// The pages of one context are the first cuts of one list, one after the other: of all rows that match in the shards that it keeps, in hit order,
 /// at the versions that it keeps, whatever is written later.
-/// Each page shows as many as the search's size, up to the end of the list. None of these shards may have failed in a page.
+/// Each page shows as many as the search's size, up to the end of the list. None of these shards may have failed in a page, and each page
+/// has found its context free, as the world promises of every history (`alone`).
 ///
 /// It computes nothing: its contract is the law.
 pub fn pages_follow()
     ensures { (cluster : Cluster) (corpus : Corpus) (script : Script) (h : List Event) (id : TaskId) (c : Context)
-        → IsRunSoFar cluster corpus script h → Lawful cluster h → AnswersPlainly cluster corpus script h
+        → OneAtATime (scripted script) h → Lawful cluster h → AnswersPlainly cluster corpus script h
         → first_context (scripted script) id h ≡ Some c → all_given c.shards (scripted script) id h ≡ true
         → let shown = pages (scripted script) id h in
         shown ≡ cuts c.ask.body.size (length shown) (listed (writes_of (so_far corpus script h) cluster.shards c.ask.index) c) }
@@ -47,7 +49,7 @@ pub fn pages_follow()
 /// It computes nothing: its contract is the law.
 pub fn empty_page_ends()
     ensures { (cluster : Cluster) (corpus : Corpus) (script : Script) (h : List Event) (id : TaskId) (c : Context)
-        → IsRunSoFar cluster corpus script h → Lawful cluster h → AnswersPlainly cluster corpus script h
+        → OneAtATime (scripted script) h → Lawful cluster h → AnswersPlainly cluster corpus script h
         → first_context (scripted script) id h ≡ Some c → all_given c.shards (scripted script) id h ≡ true
         → let shown = pages (scripted script) id h in
         list_any shows_none shown ≡ true → joined shown ≡ listed (writes_of (so_far corpus script h) cluster.shards c.ask.index) c }

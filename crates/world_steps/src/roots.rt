@@ -21,7 +21,7 @@ use script_lang::Script;
 use shared_value::Shared;
 use std::alloc::Global;
 use std::collections::BTreeMap;
-use task_events::{Event, History, Request, ScrollAsk, SearchAsk, Stop};
+use task_events::{Event, History, ReindexAsk, Request, ScrollAsk, SearchAsk, Stop};
 use task_ids::{Headers, NewTask, TaskId};
 use task_table::PutError;
 use world_moves::append::append;
@@ -235,6 +235,52 @@ pub(crate) fn start(
     ensures room { OnOk result (length state.new.history ≤ MAX_EVENTS) }
 {
     let request = search_request(state.alloc, ask)?;
+    let started = start_with(state, command, node, &request);
+    drop(request);
+    started
+}
+
+/// The request of a reindex.
+fn reindex_request(alloc: Global, ask: ReindexAsk) -> Result<Request, Stop>
+    ensures request { IfOk result (λ request. request ≡ Request.Reindex ask) }
+    ensures memory { IfErr result (λ stop. stop ≡ Stop.Memory) }
+{
+    match Shared::new(alloc, ask) {
+        Ok(reindex) => Ok(Request::Reindex(reindex)),
+        Err(refused) => {
+            drop(refused);
+            Err(Stop::Memory)
+        }
+    }
+}
+
+/// The reindex of a command that has begun comes to its node. It starts where a slot is free there, and is rejected
+/// where none is. The answer is whether it started.
+///
+/// Where a slot is free, the number of the task is looked for before there is room for the event.
+pub(crate) fn start_reindex(
+    state: &mut State<'_>,
+    command: u32,
+    node: u32,
+    ask: ReindexAsk,
+) -> Result<bool, Stop>
+    requires tied { IsTied state.old }
+    requires begun { beginning state.old.history ≡ Some command }
+    requires low { 1 ≤ node }
+    requires high { node ≤ state.old.cluster.nodes }
+    requires asked { root_request state.old.script.now command state.old.history ≡ Some (Request.Reindex ask) }
+    ensures started { IfOk result (λ started.
+        Starts state.old.cluster state.old.history command node started state.new.history) }
+    ensures tied { OnOk result (IsTied state.new) }
+    ensures keeps { Keeps state.old state.new }
+    ensures err { OnErr result (state.new.history ≡ state.old.history) }
+    ensures full { result ≡ Err Stop.HistoryFull
+        → IsCutShort (IsPartly (λ h new. (started : Bool) × Starts state.old.cluster h command node started new) state.old.history) state.new.history }
+    ensures spent { result ≡ Err Stop.NumbersSpent
+        → NodeLacksNumber state.old.cluster state.old.history node }
+    ensures room { OnOk result (length state.new.history ≤ MAX_EVENTS) }
+{
+    let request = reindex_request(state.alloc, ask)?;
     let started = start_with(state, command, node, &request);
     drop(request);
     started

@@ -1,4 +1,7 @@
-ghost use Rattle.std.specs.Prelude.{◌≡◌, ◌≤◌, ◌<◌, ◌^◌, ◌+◌, option_and_then, [], ◌∷◌, ◌++◌, length, Ok, Err, Some, None, OnOk, OnErr, IfOk, IfErr, IfSome, ℕ};
+ghost use Rattle.std.specs.Prelude.{◌≡◌, ◌≤◌, ◌<◌, ◌^◌, ◌+◌, ◌||◌, option_and_then, List, [], ◌∷◌, ◌++◌, length, Ok, Err, Some, None, OnOk, OnErr, IfOk, IfErr, IfSome, ℕ};
+ghost use Rattle.std.specs.List.{list_any};
+ghost use Rattle.std.specs.Str.{bytes_eq};
+ghost use Rattle.task_ids.specs.declared.corpus.Corpus.{Corpus};
 ghost use Rattle.task_events.specs.Lawful.{Lawful};
 ghost use Rattle.task_events.specs.Cancels.{last_command};
 ghost use Rattle.task_events.specs.Laws.{IsDrained};
@@ -7,10 +10,13 @@ ghost use Rattle.task_events.specs.Clock.{clock};
 ghost use Rattle.task_events.specs.Tasks.{is_live};
 ghost use Rattle.tasks_api.specs.Lists.{list_text};
 ghost use Rattle.task_events.specs.Contexts.{can_clear, context_at};
+ghost use Rattle.command_roots.specs.Known.{dests_of, is_known};
+ghost use Rattle.corpus_shards.specs.Stored.{HasWritten, NoneMade, was_there};
 ghost use Rattle.command_roots.specs.Roots.{context_named, page_answer, rows_of, scripted};
 ghost use Rattle.world_moves.specs.Cancels.{AllAnswered};
 ghost use Rattle.world_moves.specs.Listings.{ListSteps, AnswersListing};
 ghost use Rattle.world_moves.specs.Moves.{Delivers, IsPartly, StopsDelivery, StopsMove};
+ghost use Rattle.world_moves.specs.Owning.{OneAtATime};
 ghost use Rattle.world_moves.specs.Plain.{AnswersPlainly};
 ghost use Rattle.world_steps.specs.Runs.{Steps, AnswersStep, Settles, PartlySettles, StopsSettling};
 ghost use Rattle.world_steps.specs.Scripts.{CanRun, error_in, Commands, PartlyCommands, Drains, PartlyDrains, IsTurn, closing, StopsCommand, StopsDrain};
@@ -23,6 +29,7 @@ use crate::ready::Ready;
 use crate::{commands, moving, scrolls};
 use ban_table::BanTable;
 use cancel_core::CancelCore;
+use command_roots::dests_of;
 use corpus_shards::Shards;
 use node_parts::listing::Listing;
 use script_lang::{ContextTarget, Script};
@@ -151,9 +158,41 @@ fn new_bans(alloc: Global, nodes: u32) -> Result<Vec<BanTable>, AllocError>
     Ok(bans)
 }
 
+/// Makes the indices known to which the reindexes of a script write.
+fn know_dests(shards: &mut Shards, alloc: Global, script: &Script) -> Result<(), AllocError>
+    requires none_made { NoneMade shards.old }
+    ensures known { OnOk result ((index : List ℕ) → was_there shards.new index ≡ (was_there shards.old index || list_any (bytes_eq index) (dests_of script.now.commands))) }
+    ensures written { (corpus : Corpus) (count : ℕ) → HasWritten corpus count shards.old → HasWritten corpus count shards.new }
+{
+    let dests = dests_of(alloc, script.commands.as_slice())?;
+    shards.know_all(alloc, dests.as_slice())
+}
+
+/// The shards of the documents that are there at first, and of the indices to which the reindexes of a script write.
+fn new_shards(
+    alloc: Global,
+    corpus: &Corpus,
+    script: &Script,
+    count: u32,
+) -> Result<Shards, AllocError>
+    requires { 0 < count }
+    ensures written { IfOk result (λ shards. HasWritten corpus.now count shards) }
+    ensures from_start { IfOk result (λ shards. (index : List ℕ) → was_there shards index ≡ is_known corpus.now script.now.commands index) }
+{
+    let mut shards = Shards::new(alloc, corpus, count)?;
+    match know_dests(&mut shards, alloc, script) {
+        Ok(()) => Ok(shards),
+        Err(error) => {
+            drop(shards);
+            Err(error)
+        }
+    }
+}
+
 impl<'a> World<'a> {
     /// A world in which nothing has happened yet. It copies the documents into their shards, and reads the script where
-    /// it stands. It fails only for want of memory.
+    /// it stands. The indices are known from now on that some document is of, and those that a reindex of the script writes
+    /// to whose body has no fault. It fails only for want of memory.
     pub fn new(
         alloc: Global,
         cluster: Cluster,
@@ -180,7 +219,7 @@ impl<'a> World<'a> {
             drop(cores);
             return Err(AllocError);
         };
-        let Ok(shards) = Shards::new(alloc, corpus, cluster.shards) else {
+        let Ok(shards) = new_shards(alloc, corpus, script, cluster.shards) else {
             drop(tables);
             drop(bans);
             drop(cores);
@@ -217,6 +256,7 @@ impl<'a> World<'a> {
         ensures past { result.now ≡ self.now.past }
         ensures lawful { Lawful self.now.cluster self.now.past }
         ensures plain { AnswersPlainly self.now.cluster self.now.corpus self.now.script self.now.past }
+        ensures alone { OneAtATime (scripted self.now.script) self.now.past }
     {
         &self.state.history
     }
@@ -300,14 +340,16 @@ impl<'a> World<'a> {
         ensures past { result ≡ self.entry.past }
         ensures lawful { Lawful self.entry.cluster self.entry.past }
         ensures plain { AnswersPlainly self.entry.cluster self.entry.corpus self.entry.script self.entry.past }
+        ensures alone { OneAtATime (scripted self.entry.script) self.entry.past }
     {
         self.state.history
     }
 
     /// Begins a command of the script, the next in order, and does what it says. Commands are numbered from 1.
     ///
-    /// A search starts at its node, or is rejected there, where its body has no fault and some document is of its index; a scroll
-    /// so at the node of its context, where that stands and no task uses it; a clear takes its context away as it begins; a tick
+    /// A search starts at its node, or is rejected there, where its body has no fault and its index is known; a scroll so at the
+    /// node of its context, where that stands and no task uses it; a reindex so at its node, where its body has no fault and the
+    /// index that it reads is known; a clear takes its context away as it begins; a tick
     /// moves the clock, by a day at most, and takes away each context that was not used for its keep-alive; a cancel names and
     /// marks its task where it is live, or the live tasks that its filter lets through; a `deliver`, a `step`, a `list_step` and a
     /// `settle` make their moves where there are such; `list` and `history` make none.

@@ -1,6 +1,7 @@
 use Rattle.std.proofs.Common.{◌∙◌, ap, arith, sym, subst, Some}
-use Rattle.std.specs.Prelude.{IfErr}
+use Rattle.std.specs.Prelude.{IfErr, option_and_then}
 use Rattle.script_lang.specs.declared.command.Command.{Command}
+use Rattle.command_roots.specs.Roots.{request_in}
 use Rattle.world_steps.specs.Scripts.{StopsDoing}
 use Rattle.world_steps.proofs.Commanded.{asks_page}
 use Rattle.world_steps.proofs.commands.act_on.Goals as goal
@@ -25,6 +26,11 @@ returns-in-Scroll-clause-stop c =
     let s = c.args.state.now in
     subst (λ (command : Command). IfErr c.scroll.result (λ stop. StopsDoing s.cluster s.corpus.now s.script.now c.args.number command s.history c.scroll.new.state.history stop)) (sym c.in-Scroll.is) c.scroll.ensures.stop
 
+pub returns-in-Reindex-clause-stop : goal.returns-in-Reindex-clause-stop
+returns-in-Reindex-clause-stop c =
+    let s = c.args.state.now in
+    subst (λ (command : Command). IfErr c.reindex.result (λ stop. StopsDoing s.cluster s.corpus.now s.script.now c.args.number command s.history c.reindex.new.state.history stop)) (sym c.in-Reindex.is) c.reindex.ensures.stop
+
 pub returns-in-Tick-clause-stop : goal.returns-in-Tick-clause-stop
 returns-in-Tick-clause-stop c =
     let s = c.args.state.now in
@@ -35,6 +41,12 @@ scroll-requires-clause-asked c = λ id named.
     let s = c.args.state.now in
     let there = c.requires.there ∙ ap Some c.in-Scroll.is in
     asks_page s.script.now c.args.number s.history c.in-Scroll.context c.in-Scroll.keep _ there id named
+
+pub reindex-requires-clause-asked : goal.reindex-requires-clause-asked
+reindex-requires-clause-asked c =
+    let s = c.args.state.now in
+    let there = c.requires.there ∙ ap Some c.in-Reindex.is in
+    ap (option_and_then (λ command. request_in command s.history)) there
 
 pub tick_and_refresh-requires-clause-low : goal.tick_and_refresh-requires-clause-low
 tick_and_refresh-requires-clause-low c =

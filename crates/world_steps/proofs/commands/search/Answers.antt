@@ -15,7 +15,7 @@ use Rattle.world_steps.proofs.commands.search.Goals as goal
 pub returns-then-not-has-clause-done : goal.returns-then-not-has-clause-done
 returns-then-not-has-clause-done c =
     let s = c.args.state.now in
-    unknown_index s.cluster s.corpus.now c.args.index.now c.args.scroll c.args.body.now c.args.number c.args.node s.history (index_known s c.requires.tied c.args.index.now _ _ c.as_str.ensures c.if-not-has.ensures)
+    unknown_index s.cluster s.corpus.now s.script.now.commands c.args.index.now c.args.scroll c.args.body.now c.args.number c.args.node s.history (index_known s c.requires.tied c.args.index.now _ _ c.as_str.ensures c.if-not-has.ensures)
 
 pub refresh-requires-clause-before : goal.refresh-requires-clause-before
 refresh-requires-clause-before c =
@@ -30,14 +30,14 @@ refresh-requires-clause-had c =
 pub returns-in-Ok-refresh-clause-done : goal.returns-in-Ok-refresh-clause-done
 returns-in-Ok-refresh-clause-done c =
     let s = c.args.state.now in
-    comes s.cluster s.corpus.now c.args.index.now c.args.scroll c.args.body.now c.args.number c.args.node c.in-Some.body s.history c.start.new.state.history
+    comes s.cluster s.corpus.now s.script.now.commands c.args.index.now c.args.scroll c.args.body.now c.args.number c.args.node c.in-Some.body s.history c.start.new.state.history
     (ap (λ b. body_or_none (body_at b (if b then 1 else 0) c.args.body.now)) (sym c.is_some.ensures) ∙ sym c.in-Ok.ensures ∙ c.in-Some.is) (index_known s c.requires.tied c.args.index.now _ _ c.as_str.ensures c.if-not-has.ensures) c.in_ok-start.field-0 c.in_ok-start.ensures.started
 
 pub returns-in-Err-clause-part : goal.returns-in-Err-clause-part
 returns-in-Err-clause-part c =
     let s = c.args.state.now in
-    wholly (StartsWhere s.cluster (can_start s.corpus.now c.args.index.now c.args.scroll c.args.body.now) c.args.number c.args.node) s.history c.start.new.state.history
-    (comes s.cluster s.corpus.now c.args.index.now c.args.scroll c.args.body.now c.args.number c.args.node c.in-Some.body s.history c.start.new.state.history
+    wholly (StartsWhere s.cluster (can_start s.corpus.now s.script.now.commands c.args.index.now c.args.scroll c.args.body.now) c.args.number c.args.node) s.history c.start.new.state.history
+    (comes s.cluster s.corpus.now s.script.now.commands c.args.index.now c.args.scroll c.args.body.now c.args.number c.args.node c.in-Some.body s.history c.start.new.state.history
     (ap (λ b. body_or_none (body_at b (if b then 1 else 0) c.args.body.now)) (sym c.is_some.ensures) ∙ sym c.in-Ok.ensures ∙ c.in-Some.is) (index_known s c.requires.tied c.args.index.now _ _ c.as_str.ensures c.if-not-has.ensures) c.in_ok-start.field-0 c.in_ok-start.ensures.started)
     (started_there s.cluster s.history c.args.number c.args.node c.in_ok-start.field-0 c.start.new.state.history c.in_ok-start.ensures.started)
 
@@ -46,10 +46,10 @@ returns-in_err-start-clause-stop c =
     let s = c.args.state.now in
     let good = ap (λ b. body_or_none (body_at b (if b then 1 else 0) c.args.body.now)) (sym c.is_some.ensures) ∙ sym c.in-Ok.ensures ∙ c.in-Some.is in
     let known = index_known s c.requires.tied c.args.index.now _ _ c.as_str.ensures c.if-not-has.ensures in
-    stops c.from_residual.result (IsPartly (StartsWhere s.cluster (can_start s.corpus.now c.args.index.now c.args.scroll c.args.body.now) c.args.number c.args.node) s.history)
-    ((can_start s.corpus.now c.args.index.now c.args.scroll c.args.body.now ≡ true) × NodeLacksNumber s.cluster s.history c.args.node × (c.start.new.state.history ≡ s.history)) c.start.new.state.history
+    stops c.from_residual.result (IsPartly (StartsWhere s.cluster (can_start s.corpus.now s.script.now.commands c.args.index.now c.args.scroll c.args.body.now) c.args.number c.args.node) s.history)
+    ((can_start s.corpus.now s.script.now.commands c.args.index.now c.args.scroll c.args.body.now ≡ true) × NodeLacksNumber s.cluster s.history c.args.node × (c.start.new.state.history ≡ s.history)) c.start.new.state.history
     (λ failed. (let is_err : c.start.result ≡ Err HistoryFull = search rules in
-    cut_as (IsPartly (λ h new. (started : Bool) × Starts s.cluster h c.args.number c.args.node started new) s.history) (IsPartly (StartsWhere s.cluster (can_start s.corpus.now c.args.index.now c.args.scroll c.args.body.now) c.args.number c.args.node) s.history) c.start.new.state.history
-    (λ past. partly_comes s.cluster s.corpus.now c.args.index.now c.args.scroll c.args.body.now c.args.number c.args.node c.in-Some.body s.history past good known) (c.start.ensures.full is_err)))
+    cut_as (IsPartly (λ h new. (started : Bool) × Starts s.cluster h c.args.number c.args.node started new) s.history) (IsPartly (StartsWhere s.cluster (can_start s.corpus.now s.script.now.commands c.args.index.now c.args.scroll c.args.body.now) c.args.number c.args.node) s.history) c.start.new.state.history
+    (λ past. partly_comes s.cluster s.corpus.now s.script.now.commands c.args.index.now c.args.scroll c.args.body.now c.args.number c.args.node c.in-Some.body s.history past good known) (c.start.ensures.full is_err)))
     (λ failed. (let is_err : c.start.result ≡ Err NumbersSpent = search rules in
-    (can_come s.cluster s.corpus.now c.args.index.now c.args.scroll c.args.body.now c.args.number c.args.node c.in-Some.body good known, c.start.ensures.spent is_err, c.in_err-start.ensures.err)))
+    (can_come s.cluster s.corpus.now s.script.now.commands c.args.index.now c.args.scroll c.args.body.now c.args.number c.args.node c.in-Some.body good known, c.start.ensures.spent is_err, c.in_err-start.ensures.err)))

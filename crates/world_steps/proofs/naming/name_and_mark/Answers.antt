@@ -9,6 +9,8 @@ use Rattle.task_laws.proofs.Reach.{reach_facts}
 use Rattle.world_moves.specs.Cancels.{waiting_for, waits_for_end}
 use Rattle.world_moves.specs.Left.{left_in}
 use Rattle.world_moves.specs.Moves.{IsPartOf}
+use Rattle.command_roots.specs.Roots.{scripted}
+use Rattle.world_moves.specs.Owning.{OneAtATime}
 use Rattle.world_moves.specs.Plain.{AnswersPlainly}
 use Rattle.world_moves.proofs.CutShort.{cut_first}
 use Rattle.world_moves.proofs.DescriptionsAfter.{quiet}
@@ -59,6 +61,7 @@ returns-in-Err-clause-laws c =
     record {
       lawful = subst (Lawful s.cluster) (sym c.in_ok-append.ensures.ok) (cancel_lawful s.cluster s.history c.args.number c.args.task c.args.wait c.requires.naming c.requires.tied.ties.lawful c.requires.tied.awaits c.requires.live c.requires.fresh);
       plain = subst (AnswersPlainly s.cluster s.corpus.now s.script.now) (sym c.in_ok-append.ensures.ok) c.requires.tied.ties.plain;
+      alone = subst (OneAtATime (scripted s.script.now)) (sym c.in_ok-append.ensures.ok) c.requires.tied.pages.alone;
     }
 
 pub mark-requires-clause-ties : goal.mark-requires-clause-ties

@@ -88,6 +88,7 @@ returns-in_ok-keep_root-in-Ok-clause-tied c =
         clock_is = c.requires.tied.tells.clock_is;
         clock_low = c.requires.tied.tells.clock_low;
         clock_high = longer longest_tick s.clock (length s.history) (length (Root c.args.command t ∷ s.history)) (omega arith) c.requires.tied.tells.clock_high;
+        clock_fits = c.requires.tied.tells.clock_fits;
         few_begun = c.requires.tied.tells.few_begun;
       });
       pages = rw happened (rooted_pages s.cluster s.corpus.now s.script.now s.history s.contexts.items pages c.requires.tied.ties.lawful t (Some c.args.request.now)

@@ -14,16 +14,16 @@ use Rattle.world_steps.proofs.world.World.new.Goals as goal
 pub invariant_of-result : goal.invariant_of-result
 invariant_of-result c = record {
   tied = record {
-    ties = rw c.new-2.ensures (rw c.new-4.ensures (nothing_yet c.args.cluster c.args.corpus.now c.args.script.now (task_at c.new-3.result) c.in_ok-tables.tables.items (λ t. ap (lookup (is_at (task_id_cmp t))) c.new-3.ensures.empty) c.in_ok-tables.ensures));
-    cancels = rw c.new-2.ensures (nothing_cancelled c.args.cluster c.in_ok-tables.tables.items _ c.in-Ok.bans.items c.in-Ok-new_cores.cores.items c.new-7.result c.in_ok-tables.ensures
-        (λ k. ap (lookup (is_at (nat_cmp k))) c.new-5.ensures.empty) c.in-Ok.ensures c.in-Ok-new_cores.ensures (λ l. ap (list_any (is_at (listing_cmp l))) c.new-7.ensures.empty));
-    counts = rw c.new-2.ensures (nothing_counted (left_in c.new-6.result) (λ k. ap (λ m. unwrap_or (lookup (is_at (nat_cmp k)) m) 0) c.new-6.ensures.empty));
-    tells = rw (c.new-2.ensures, c.new-4.ensures) (nothing_told c.args.cluster c.args.script.now c.in_ok-tables.tables.items c.in_ok-tables.ensures);
-    pages = rw c.new-2.ensures (nothing_opened c.args.cluster c.args.corpus.now c.args.script.now c.in-Ok-new_contexts.contexts.items c.in-Ok-new_contexts.ensures);
-    shards = rw c.new-2.ensures (record { has = c.in-Ok-new.ensures.written; of_corpus = c.in-Ok-new.ensures.of_corpus });
-    awaits = rw c.new-2.ensures tt;
+    ties = rw c.new.ensures (rw c.new-3.ensures (nothing_yet c.args.cluster c.args.corpus.now c.args.script.now (task_at c.new-2.result) c.in_ok-tables.tables.items (λ t. ap (lookup (is_at (task_id_cmp t))) c.new-2.ensures.empty) c.in_ok-tables.ensures));
+    cancels = rw c.new.ensures (nothing_cancelled c.args.cluster c.in_ok-tables.tables.items _ c.in-Ok.bans.items c.in-Ok-new_cores.cores.items c.new-6.result c.in_ok-tables.ensures
+        (λ k. ap (lookup (is_at (nat_cmp k))) c.new-4.ensures.empty) c.in-Ok.ensures c.in-Ok-new_cores.ensures (λ l. ap (list_any (is_at (listing_cmp l))) c.new-6.ensures.empty));
+    counts = rw c.new.ensures (nothing_counted (left_in c.new-5.result) (λ k. ap (λ m. unwrap_or (lookup (is_at (nat_cmp k)) m) 0) c.new-5.ensures.empty));
+    tells = rw (c.new.ensures, c.new-3.ensures) (nothing_told c.args.cluster c.args.script.now c.in_ok-tables.tables.items c.in_ok-tables.ensures);
+    pages = rw c.new.ensures (nothing_opened c.args.cluster c.args.corpus.now c.args.script.now c.in-Ok-new_contexts.contexts.items c.in-Ok-new_contexts.ensures);
+    shards = rw c.new.ensures (record { has = c.in-Ok-new_shards.ensures.written; from_start = c.in-Ok-new_shards.ensures.from_start });
+    awaits = rw c.new.ensures tt;
   };
-  ready_known = rw c.new-2.ensures (record { tasks = c.new-8.ensures.tasks; kept = c.new-8.ensures.kept; alarms = c.new-8.ensures.alarms });
+  ready_known = rw c.new.ensures (record { tasks = c.new-7.ensures.tasks; kept = c.new-7.ensures.kept; alarms = c.new-7.ensures.alarms });
   can_run = c.requires.can;
   few = c.requires.few;
 }
