@@ -23,9 +23,13 @@ mod phases;
 #[cfg(test)]
 mod reindexes;
 #[cfg(test)]
+mod roots;
+#[cfg(test)]
 mod scripts;
 #[cfg(test)]
 mod shards;
+#[cfg(test)]
+mod slices;
 #[cfg(test)]
 mod tables;
 #[cfg(test)]

@@ -1,4 +1,4 @@
-//! Scripts for threads, which take no schedule, and the fields of lists, cancels, searches and scrolls.
+//! Scripts for threads, which take no schedule, and the fields of lists, cancels, searches, scrolls and reindexes.
 
 use script_lang::{Command, Mode, ScriptError, read_script};
 use std::alloc::Global;
@@ -253,6 +253,99 @@ fn names_earlier_commands(rt: HostRuntime) {
             Err(ScriptError::Bad { line: 7, cause })
         );
     }
+}
+
+/// The slices and the rate of a line that is a reindex.
+fn pace_of(alloc: Global, line: &str) -> Option<(u32, Option<u32>)> {
+    if line.len() > 67_108_864 {
+        return None;
+    }
+    let script = read_script(alloc, line.as_bytes(), 2, Mode::Run, &CLUSTER).ok()?;
+    match script.commands.as_slice().first() {
+        Some(Command::Reindex { slices, rate, .. }) => Some((*slices, *rate)),
+        _ => None,
+    }
+}
+
+#[test]
+fn reads_reindexes(rt: HostRuntime) {
+    let alloc = rt.alloc();
+    for (line, want) in [
+        (r#"{"reindex":{"body":{}}}"#, (1, None)),
+        (
+            r#"{"reindex":{"body":{"x":1},"node":"n3","slices":1,"requests_per_second":-1,"opaque_id":"q"}}"#,
+            (1, None),
+        ),
+        (
+            r#"{"reindex":{"body":{},"slices":32,"requests_per_second":1}}"#,
+            (32, Some(1)),
+        ),
+        (
+            r#"{"reindex":{"requests_per_second":1000000,"body":{}}}"#,
+            (1, Some(1_000_000)),
+        ),
+    ] {
+        assert_eq!(rt; pace_of(alloc, line), Some(want));
+    }
+    assert_eq!(rt;
+        counted(
+            alloc,
+            "{\"reindex\":{\"body\":{}}}\n{\"cancel\":{\"command\":1}}"
+        ),
+        Ok(2)
+    );
+}
+
+#[test]
+fn refuses_reindexes(rt: HostRuntime) {
+    let alloc = rt.alloc();
+    for (line, cause) in [
+        (r#"{"reindex":[]}"#, Cause::BadField),
+        (r#"{"reindex":{}}"#, Cause::BadField),
+        (r#"{"reindex":{"body":5}}"#, Cause::BadField),
+        (r#"{"reindex":{"body":null}}"#, Cause::BadField),
+        (r#"{"reindex":{"body":{},"slices":0}}"#, Cause::BadField),
+        (r#"{"reindex":{"body":{},"slices":33}}"#, Cause::BadField),
+        (
+            r#"{"reindex":{"body":{},"slices":"auto"}}"#,
+            Cause::BadField,
+        ),
+        (
+            r#"{"reindex":{"body":{},"requests_per_second":0}}"#,
+            Cause::BadField,
+        ),
+        (
+            r#"{"reindex":{"body":{},"requests_per_second":-2}}"#,
+            Cause::BadField,
+        ),
+        (
+            r#"{"reindex":{"body":{},"requests_per_second":1000001}}"#,
+            Cause::BadField,
+        ),
+        (
+            r#"{"reindex":{"body":{},"requests_per_second":18446744073709551615}}"#,
+            Cause::BadField,
+        ),
+        (
+            r#"{"reindex":{"body":{},"index":"a"}}"#,
+            Cause::UnknownField,
+        ),
+        (
+            r#"{"reindex":{"body":{},"node":"n4","slices":0}}"#,
+            Cause::BadField,
+        ),
+        (r#"{"reindex":{"body":{},"node":"n4"}}"#, Cause::UnknownNode),
+    ] {
+        assert_eq!(rt; counted(alloc, line), bad(cause));
+    }
+    let scroll = "{\"reindex\":{\"body\":{}}}\n{\"scroll\":{\"command\":1}}";
+    assert_eq!(rt;
+        counted(alloc, scroll),
+        Err(ScriptError::Bad {
+            line: 3,
+            cause: Cause::BadReference
+        })
+    );
 }
 
 #[test]

@@ -2,7 +2,6 @@ pub mod CancelLines
 pub mod LinesOfCommands
 pub mod NumberLemmas
 pub mod OneLine
-pub mod OptionLemmas
 pub mod PagesBegun
 pub mod PrintedLines
 pub mod ProgressLemmas

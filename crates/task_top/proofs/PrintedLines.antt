@@ -6,7 +6,10 @@ use Rattle.std.proofs.lemmas.List.Sums.{sum_by-append, sum_by-cons}
 use Rattle.serde_json.specs.Data.{Data}
 use Rattle.query_match.specs.declared.body.SearchBody.{SearchBody}
 use Rattle.query_parse.specs.declared.fault.BodyError.{BodyError}
+use Rattle.query_parse.specs.declared.fault.ReindexError.{ReindexError}
+use Rattle.query_parse.specs.declared.reindex_body.ReindexBody.{ReindexBody}
 use Rattle.query_parse.specs.Bodies.{body_at}
+use Rattle.query_parse.specs.Reindexes.{reindex_at}
 use Rattle.task_ids.specs.declared.cluster.Cluster.{Cluster}
 use Rattle.task_ids.specs.declared.corpus.Corpus.{Corpus}
 use Rattle.task_ids.specs.declared.task_id.TaskId.{TaskId}
@@ -19,11 +22,12 @@ use Rattle.task_events.specs.Clock.{clock}
 use Rattle.task_events.specs.Tasks.{is_live, reply_of}
 use Rattle.task_events.specs.Turns.{events_before, events_of, history_before}
 use Rattle.script_lang.specs.declared.command.Command.{Command}
-use Rattle.script_lang.specs.declared.command.Command.TheVariants.{Search, Scroll, ClearScroll, Tick, Cancel, ListTasks, Deliver, Step, ListStep, Settle, History}
+use Rattle.script_lang.specs.declared.command.Command.TheVariants.{Search, Scroll, ClearScroll, Reindex, Tick, Cancel, ListTasks, Deliver, Step, ListStep, Settle, History}
 use Rattle.script_lang.specs.declared.command.Script.{Script}
 use Rattle.tasks_api.specs.declared.filter.Filter.{Filter}
 use Rattle.tasks_api.specs.declared.list.GroupBy.{GroupBy}
 use Rattle.tasks_api.specs.Lists.{list_json, shown, task_json}
+use Rattle.command_roots.specs.Known.{is_known}
 use Rattle.command_roots.specs.Roots.{context_named, least_size, page_answer, rows_of}
 use Rattle.world_steps.specs.Scripts.{page_node}
 use Rattle.scroll_table.specs.declared.context.PageError.{PageError}
@@ -32,10 +36,10 @@ use Rattle.task_events.specs.declared.reply.SearchReply.{SearchReply}
 use Rattle.script_lang.specs.declared.command.ContextTarget.{ContextTarget}
 use Rattle.line_print.specs.declared.note.Note.{Note}
 use Rattle.line_print.specs.declared.note.Note.TheVariants.{NoSuchMessage, NotRunning, Waiting, NoListing}
-use Rattle.line_print.specs.Errors.{all_shards_failed, body_error, context_error, index_not_found, not_found, rejected, task_cancelled}
-use Rattle.line_print.specs.Lines.{cancel_line, cancelled, cleared, frees, moment_json, page_note, page_refusal, ended_line, error_line, finds_none, first_in, full_node_in, idle_error, idle_line, is_known, line_of, lines_from, moved_line, named_in, note_of, printed, reason_of, refusal, search_line, settled, started, target_in, told_all}
+use Rattle.line_print.specs.Errors.{all_shards_failed, body_error, context_error, index_not_found, not_found, reindex_error, rejected, task_cancelled}
+use Rattle.line_print.specs.Lines.{cancel_line, cancelled, cancelled_json, cleared, done_json, frees, moment_json, page_note, page_refusal, ended_line, error_line, finds_none, first_in, full_node_in, idle_error, idle_line, line_of, lines_from, moved_line, named_in, note_of, printed, reason_of, refusal, reindex_line, reindex_refusal, search_line, start_refusal, settled, started, target_in, told_all, wrote_line}
 use Rattle.line_print.proofs.PrintLemmas.{text_is_reply}
-use Rattle.task_top.specs.EachLine.{is_newline, EachHasItsLine, EachPrintsALine, HasItsLine, IsLine, IsSearchReply, TellsPage, TellsSearch}
+use Rattle.task_top.specs.EachLine.{is_newline, EachHasItsLine, EachPrintsALine, HasItsLine, IsLine, IsReindexReply, IsSearchReply, TellsPage, TellsReindex, TellsSearch}
 use Rattle.task_top.proofs.OneLine.{value_line}
 use Rattle.task_top.proofs.ProgressLemmas.{both_false}
 
@@ -53,6 +57,7 @@ module _ (cluster : Cluster) (corpus : Corpus) (commands : List Command) (h : Li
     ended t (replies.Search reply) told = reply_prints k (search_json (shards reply) reply)
     ended t (replies.AllFailed failed) told = error_prints k (all_shards_failed failed)
     ended t (replies.Cancelled u c counts) told = error_prints k (task_cancelled (reason_of commands c) u)
+    ended t (replies.Wrote counts) told = absurd told
     ended t (replies.Top top) told = absurd told
     ended t (replies.Hits hits) told = absurd told
     ended t (replies.Rejected n) told = absurd told
@@ -75,14 +80,60 @@ module _ (cluster : Cluster) (corpus : Corpus) (commands : List Command) (h : Li
     full_refused (Ok found) true reply = error_prints k (rejected node)
     full_refused (Ok found) false reply = error_prints k (index_not_found index)
 
-    search_prints : (scroll : Option ℕ) (body : Data) (opaque_id : Option (List ℕ)) → TellsSearch corpus index node scroll body k h → (noted : Option Note) → IsLine (line_of cluster corpus commands h k (Search index node scroll body opaque_id) noted)
+    search_prints : (scroll : Option ℕ) (body : Data) (opaque_id : Option (List ℕ)) → TellsSearch corpus commands index node scroll body k h → (noted : Option Note) → IsLine (line_of cluster corpus commands h k (Search index node scroll body opaque_id) noted)
     search_prints scroll body opaque_id (inl (fault, is, told)) noted = rw is (error_prints k (body_error fault))
     search_prints scroll body opaque_id (inr (inl unknown)) noted = rw unknown (unknown_refused (body_at (is_some scroll) (least_size scroll) body) (first_in full_node_in (events_of k h)) (option_and_then (λ t. reply_of t h) (started k h)))
-    search_prints scroll body opaque_id (inr (inr (inl full))) noted = rw full (full_refused (body_at (is_some scroll) (least_size scroll) body) (is_known corpus index) None)
+    search_prints scroll body opaque_id (inr (inr (inl full))) noted = rw full (full_refused (body_at (is_some scroll) (least_size scroll) body) (is_known corpus commands index) None)
     search_prints scroll body opaque_id (inr (inr (inr told))) noted =
         let begun = told.started in
         let replied = told.replied in
-        rw begun (either_line in_all (refusal index (body_at (is_some scroll) (least_size scroll) body) (is_known corpus index) None) (reply_of told.task h) (rw replied (ended in_all told.task told.reply told.told)))
+        rw begun (either_line in_all (refusal index (body_at (is_some scroll) (least_size scroll) body) (is_known corpus commands index) None) (reply_of told.task h) (rw replied (ended in_all told.task told.reply told.told)))
+
+  -- ---- a reindex
+
+  wrote : (t : TaskId) (reply : Reply) → IsReindexReply t reply → IsLine (wrote_line commands k (Some reply))
+  wrote t (replies.Wrote counts) told = reply_prints k (done_json counts)
+  wrote t (replies.Cancelled u c counts) told = reply_prints k (cancelled_json (reason_of commands c) counts)
+  wrote t (replies.Search reply) told = absurd told
+  wrote t (replies.AllFailed failed) told = absurd told
+  wrote t (replies.Top top) told = absurd told
+  wrote t (replies.Hits hits) told = absurd told
+  wrote t (replies.Rejected n) told = absurd told
+
+  -- where there is a reply, what refuses the task does not matter
+  either_wrote : (o : Option Data) (reply : Option Reply) → IsLine (wrote_line commands k reply) → IsLine (reindex_line commands k o reply)
+  either_wrote None reply line = line
+  either_wrote (Some error) reply line = error_prints k error
+
+  faulty_refused : (known : List ℕ → Bool) (r : Result ReindexBody ReindexError) (full : Option ℕ) (reply : Option Reply) → is_ok r ≡ false → IsLine (reindex_line commands k (reindex_refusal known r full) reply)
+  faulty_refused known (Err fault) full reply bad = error_prints k (reindex_error fault)
+  faulty_refused known (Ok read) full reply bad = absurd (cc)
+
+  source_refused : (index : List ℕ) (full : Option ℕ) (reply : Option Reply) → IsLine (reindex_line commands k (start_refusal index false full) reply)
+  source_refused index full reply = error_prints k (index_not_found index)
+
+  no_place : (index : List ℕ) (known : Bool) (node : ℕ) (reply : Option Reply) → IsLine (reindex_line commands k (start_refusal index known (Some node)) reply)
+  no_place index true node reply = error_prints k (rejected node)
+  no_place index false node reply = error_prints k (index_not_found index)
+
+  no_place_for : (known : List ℕ → Bool) (r : Result ReindexBody ReindexError) (node : ℕ) (reply : Option Reply) → IsLine (reindex_line commands k (reindex_refusal known r (Some node)) reply)
+  no_place_for known (Err fault) node reply = error_prints k (reindex_error fault)
+  no_place_for known (Ok read) node reply = no_place read.source (known read.source) node reply
+
+  reindex_prints : (node : ℕ) (body : Data) (slices : ℕ) (rate : Option ℕ) (opaque_id : Option (List ℕ)) → TellsReindex corpus commands node body k h
+      → (noted : Option Note) → IsLine (line_of cluster corpus commands h k (Reindex node body slices rate opaque_id) noted)
+  reindex_prints node body slices rate opaque_id (inl bad) noted =
+      faulty_refused (is_known corpus commands) (reindex_at body) (first_in full_node_in (events_of k h)) (option_and_then (λ t. reply_of t h) (started k h)) bad
+  reindex_prints node body slices rate opaque_id (inr (inl (read, is, unknown))) noted =
+      let full = first_in full_node_in (events_of k h) in
+      let reply = option_and_then (λ t. reply_of t h) (started k h) in
+      subst (λ (r : Result ReindexBody ReindexError). IsLine (reindex_line commands k (reindex_refusal (is_known corpus commands) r full) reply)) (sym is)
+      (subst (λ (known : Bool). IsLine (reindex_line commands k (start_refusal read.source known full) reply)) (sym unknown) (source_refused read.source full reply))
+  reindex_prints node body slices rate opaque_id (inr (inr (inl full))) noted = rw full (no_place_for (is_known corpus commands) (reindex_at body) node None)
+  reindex_prints node body slices rate opaque_id (inr (inr (inr told))) noted =
+      let begun = told.started in
+      let replied = told.replied in
+      rw begun (either_wrote (reindex_refusal (is_known corpus commands) (reindex_at body) None) (reply_of told.task h) (rw replied (wrote told.task told.reply told.told)))
 
   -- ---- a scroll
 
@@ -132,6 +183,7 @@ module _ (cluster : Cluster) (corpus : Corpus) (script : Script) (h : List Event
   by_command : (k : ℕ) (command : Command) → HasItsLine cluster corpus script h k command → IsLine (line_of cluster corpus script.commands h k command (note_of cluster script command (history_before k h)))
   by_command k (Search index node scroll body opaque_id) told = search_prints cluster corpus script.commands h k index node scroll body opaque_id told None
   by_command k (Scroll target keep opaque_id) told = page_prints cluster corpus script.commands h k script target keep opaque_id told
+  by_command k (Reindex node body slices rate opaque_id) told = reindex_prints cluster corpus script.commands h k node body slices rate opaque_id told None
   by_command k (ClearScroll target) told = reply_prints k (cleared (frees script (context_named target (history_before k h)) (history_before k h)))
   by_command k (Tick ms) told = reply_prints k (moment_json (clock (history_before k h) + ms))
   by_command k (Cancel target reason wait) told = cancel_prints cluster corpus script.commands h k (target_in script.commands h target) wait (events_of k h)

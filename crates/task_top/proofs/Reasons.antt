@@ -38,7 +38,7 @@ use Rattle.world_steps.specs.declared.acting.Stepped.{Stepped}
 use Rattle.world_steps.specs.declared.acting.Stepped.TheVariants.{Done, Waiting, NotRunning}
 use Rattle.world_steps.specs.Draining.{Empties, StartsAgain, ticked_to}
 use Rattle.world_steps.specs.Runs.{after_step, AnswersStep, FirstMoves, Passes, Settles, Steps}
-use Rattle.world_steps.specs.Scripts.{StartsWhere, DeliversWhere, ListsWhere, Does, HasRun, IsRun, can_page, can_start, closing, page_node}
+use Rattle.world_steps.specs.Scripts.{StartsWhere, DeliversWhere, ListsWhere, Does, HasRun, IsRun, can_copy, can_page, can_start, closing, page_node}
 use Rattle.task_top.specs.EachLine.{IsCancelAt, TellsReasons}
 
 -- ---- events that name no task
@@ -221,8 +221,9 @@ module _ (c : ℕ) (t : TaskId) where
 
     -- what a command names is its own, and it is a cancel
     by_command : (k : ℕ) (command : Command) → command_at script k ≡ Some command → (h new : List Event) → Does cluster corpus script k command h new → is_named c t new ≡ true → (is_named c t h ≡ true) ⊎ IsCancelAt script c
-    by_command k (commands.Search index node scroll body opaque_id) at h new does named = inl (sym (starts_where (can_start corpus index scroll body) k node h new does) ∙ named)
+    by_command k (commands.Search index node scroll body opaque_id) at h new does named = inl (sym (starts_where (can_start corpus script.commands index scroll body) k node h new does) ∙ named)
     by_command k (commands.Scroll target keep opaque_id) at h new does named = inl (sym (starts_where (can_page script target h) k (page_node target h) h new does) ∙ named)
+    by_command k (commands.Reindex node body slices rate opaque_id) at h new does named = inl (sym (starts_where (can_copy corpus script.commands body) k node h new does) ∙ named)
     by_command k (commands.ClearScroll target) at h new does named = inl (sym (ap (is_named c t) does) ∙ named)
     by_command k (commands.Tick ms) at h new does named = inl (sym (ap (is_named c t) does) ∙ named)
     by_command k (commands.Cancel target reason wait) at h new does named =

@@ -1,7 +1,6 @@
 -- No shard of a search failed to which nothing happened.
 use Rattle.std.proofs.Common.{◌≡◌, ◌≢◌, ◌⊎◌, ◌<◌, ◌≤◌, ℕ, Bool, true, false, cond, List, [], ◌∷◌, length, Option, Some, None, option_map, inl, inr, refl, sym, ap, subst, ◌∙◌, arith}
 use Rattle.std.specs.Prelude.{◌==◌, option_and_then, filter_map}
-use Rattle.std.specs.List.{range_with_len}
 use Rattle.std.specs.Option.{option_or}
 use Rattle.std.proofs.lemmas.Bool.{cases_lt, ne_eqb}
 use Rattle.task_ids.specs.declared.cluster.Cluster.{Cluster}
@@ -13,7 +12,7 @@ use Rattle.task_events.specs.declared.event.Event.TheVariants.{Root, Put, Reject
 use Rattle.task_events.specs.declared.reply.SearchReply.{SearchReply}
 use Rattle.task_events.specs.declared.reply.Counts.{Counts}
 use Rattle.task_events.specs.declared.reply.Reply.{Reply}
-use Rattle.task_events.specs.declared.reply.Reply.TheVariants.{Search, Top, Hits, AllFailed, Cancelled, Rejected}
+use Rattle.task_events.specs.declared.reply.Reply.TheVariants.{Search, Top, Hits, AllFailed, Wrote, Cancelled, Rejected}
 use Rattle.task_events.specs.declared.request.Request.{Request}
 use Rattle.task_events.specs.declared.request.Request.TheVariants as asks
 use Rattle.task_events.specs.declared.request.SearchAsk.{SearchAsk}
@@ -44,7 +43,7 @@ use Rattle.task_events.specs.Steps.{counted}
 use Rattle.world_moves.specs.Good.{so_far}
 use Rattle.world_moves.specs.Plain.{AnswersPlainly, EndsPlainly, IsPlainReply}
 use Rattle.command_roots.specs.Roots.{scripted}
-use Rattle.task_events.specs.ShardOutcomes.{ask_for, answered_shards, failed_shards, failure_told, why_failed, is_query_of, is_fetch_of}
+use Rattle.task_events.specs.ShardOutcomes.{ask_for, answered_shards, failure_told, why_failed, is_query_of, is_fetch_of}
 use Rattle.task_top.specs.Unharmed.{IsUnharmed, IsWholeAnswer}
 
 -- ---- what is unharmed was so before
@@ -100,6 +99,7 @@ module _ (cluster : Cluster) (t : TaskId) (h : List Event) (lawful : Lawful clus
   by_reply k u child (Some (AllFailed failed)) e = refl
   by_reply k u child (Some (Top top)) e = refl
   by_reply k u child (Some (Hits hits)) e = refl
+  by_reply k u child (Some (Wrote counts)) e = refl
   by_reply k u child (Some (Cancelled v c counts)) e = absurd (not_cancelled k u child v c (Cancelled v c counts) e refl)
   by_reply k u child (Some (Rejected n)) e = absurd (let none = causes.no_rejection u (Rejected n) e in cc)
 
@@ -160,6 +160,10 @@ module _ (cluster : Cluster) (corpus : Corpus) (script : Script) (causes : (h : 
   at_its_end h l unharmed None e (Some (asks.Search other)) ask asked page counts reply plain = whole_answer cluster t h l (causes h l) unharmed (so_far corpus script) other reply plain
   at_its_end h l unharmed None e (Some (asks.Query other)) ask asked page counts reply plain = absurd (cc)
   at_its_end h l unharmed None e (Some (asks.Fetch other)) ask asked page counts reply plain = absurd (cc)
+  at_its_end h l unharmed None e (Some (asks.Reindex other)) ask asked page counts reply plain = absurd (cc)
+  at_its_end h l unharmed None e (Some (asks.Slice other)) ask asked page counts reply plain = absurd (cc)
+  at_its_end h l unharmed None e (Some (asks.Bulk other)) ask asked page counts reply plain = absurd (cc)
+  at_its_end h l unharmed None e (Some (asks.BulkShard other)) ask asked page counts reply plain = absurd (cc)
   at_its_end h l unharmed None e (Some (asks.Scroll other)) ask asked page counts reply plain = absurd (cc)
 
   -- one event more

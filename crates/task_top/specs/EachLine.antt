@@ -1,8 +1,10 @@
 -- Each command of a whole run has its line: what there is to tell of it stands in what happened.
-use Rattle.std.specs.Prelude.{◌≡◌, ◌≢◌, ◌≤◌, ◌⊎◌, ℕ, Bool, true, false, ◌==◌, List, [], ◌∷◌, ◌++◌, count_by, filter_map, length, is_some, Option, Some, None, Err, ⊤}
+use Rattle.std.specs.Prelude.{◌≡◌, ◌≢◌, ◌≤◌, ◌⊎◌, ℕ, Bool, true, false, ◌==◌, List, [], ◌∷◌, ◌++◌, count_by, filter_map, length, is_ok, is_some, Option, Some, None, Ok, Err, ⊤}
 use Rattle.std.specs.List.{list_any}
 use Rattle.serde_json.specs.Data.{Data}
+use Rattle.query_parse.specs.declared.reindex_body.ReindexBody.{ReindexBody}
 use Rattle.query_parse.specs.Bodies.{body_at}
+use Rattle.query_parse.specs.Reindexes.{reindex_at}
 use Rattle.query_parse.specs.declared.fault.BodyError.{BodyError}
 use Rattle.query_parse.specs.declared.fault.BodyError.TheVariants.{Memory}
 use Rattle.task_ids.specs.declared.cluster.Cluster.{Cluster}
@@ -13,7 +15,7 @@ use Rattle.script_lang.specs.declared.command.CancelTarget.{CancelTarget}
 use Rattle.script_lang.specs.declared.command.CancelTarget.TheVariants.{Matching}
 use Rattle.script_lang.specs.declared.command.ContextTarget.{ContextTarget}
 use Rattle.script_lang.specs.declared.command.Command.{Command}
-use Rattle.script_lang.specs.declared.command.Command.TheVariants.{Search, Scroll, ClearScroll, Tick, Cancel, ListTasks, Deliver, Step, ListStep, Settle, History}
+use Rattle.script_lang.specs.declared.command.Command.TheVariants.{Search, Scroll, ClearScroll, Reindex, Tick, Cancel, ListTasks, Deliver, Step, ListStep, Settle, History}
 use Rattle.script_lang.specs.declared.command.Script.{Script}
 use Rattle.task_events.specs.declared.event.Event.{Event}
 use Rattle.task_events.specs.declared.event.Event.TheVariants as events
@@ -25,10 +27,11 @@ use Rattle.task_events.specs.Tasks.{is_live, refusal_of, reply_of}
 use Rattle.task_events.specs.Turns.{events_of, history_before}
 use Rattle.world_moves.specs.Cancels.{is_answered, target_of, targets}
 use Rattle.world_moves.specs.Listings.{is_open}
+use Rattle.command_roots.specs.Known.{is_known}
 use Rattle.command_roots.specs.Roots.{command_at, least_size}
 use Rattle.world_steps.specs.Runs.{next_of}
 use Rattle.world_steps.specs.Scripts.{can_page, page_node}
-use Rattle.line_print.specs.Lines.{is_known, named_in, finds_none, note_of, line_of, printed}
+use Rattle.line_print.specs.Lines.{named_in, finds_none, note_of, line_of, printed}
 
 -- ---- a search
 
@@ -43,21 +46,21 @@ IsSearchReply t _ = ⊥
 abbrev pub HasFault : Option ℕ → Data → Type 0
 HasFault scroll body = (fault : BodyError) × (body_at (is_some scroll) (least_size scroll) body ≡ Err fault) × (fault ≢ Memory)
 
--- the task of a command started and ended with a reply of a search or of a page of one
-pub record HasEnded (k : ℕ) (h : List Event) : Type 0 where
+-- the task of a command started and ended with such a reply
+pub record HasEnded (IsReply : TaskId → Reply → Type 0) (k : ℕ) (h : List Event) : Type 0 where
   pub task : TaskId
   pub reply : Reply
   pub started : events_of k h ≡ events.Root k task ∷ []
   pub replied : reply_of task h ≡ Some reply
-  pub told : IsSearchReply task reply
+  pub told : IsReply task reply
 
--- Its body has a fault, or no document is of its index, or its node had no slot, or its task ended.
-abbrev pub TellsSearch : Corpus → List ℕ → ℕ → Option ℕ → Data → ℕ → List Event → Type 0
-TellsSearch corpus index node scroll body k h =
+-- Its body has a fault, or its index is not known, or its node had no slot, or its task ended.
+abbrev pub TellsSearch : Corpus → List Command → List ℕ → ℕ → Option ℕ → Data → ℕ → List Event → Type 0
+TellsSearch corpus commands index node scroll body k h =
     HasFault scroll body
-    ⊎ (is_known corpus index ≡ false)
+    ⊎ (is_known corpus commands index ≡ false)
     ⊎ (events_of k h ≡ events.RootRejected k node ∷ [])
-    ⊎ HasEnded k h
+    ⊎ HasEnded IsSearchReply k h
 
 -- ---- a scroll
 
@@ -66,7 +69,27 @@ abbrev pub TellsPage : Script → ContextTarget → ℕ → List Event → Type 
 TellsPage script target k h =
     (can_page script target (history_before k h) ≡ false)
     ⊎ (events_of k h ≡ events.RootRejected k (page_node target (history_before k h)) ∷ [])
-    ⊎ HasEnded k h
+    ⊎ HasEnded IsSearchReply k h
+
+-- ---- a reindex
+
+-- The reply of a reindex: what it has done, or that it was cancelled itself.
+abbrev pub IsReindexReply : TaskId → Reply → Type 0
+IsReindexReply t (replies.Wrote counts) = ⊤
+IsReindexReply t (replies.Cancelled u c counts) = u ≡ t
+IsReindexReply t _ = ⊥
+
+-- it reads an index that is not known
+abbrev pub ReadsUnknown : Corpus → List Command → Data → Type 0
+ReadsUnknown corpus commands body = (read : ReindexBody) × (reindex_at body ≡ Ok read) × (is_known corpus commands read.source ≡ false)
+
+-- Its body has a fault, or the index that it reads is not known, or its node had no slot, or its task ended.
+abbrev pub TellsReindex : Corpus → List Command → ℕ → Data → ℕ → List Event → Type 0
+TellsReindex corpus commands node body k h =
+    (is_ok (reindex_at body) ≡ false)
+    ⊎ ReadsUnknown corpus commands body
+    ⊎ (events_of k h ≡ events.RootRejected k node ∷ [])
+    ⊎ HasEnded IsReindexReply k h
 
 -- ---- a cancel
 
@@ -104,9 +127,10 @@ module _ (cluster : Cluster) (corpus : Corpus) (script : Script) where
 
   -- What the line of a command tells: a `deliver`, a `step` or a `list_step` of its events, or else of why nothing happened. A list and a clear tell what was noted of them; a `settle` and a `history` tell of any number of events.
   abbrev pub HasItsLine : List Event → ℕ → Command → Type 0
-  HasItsLine h k (Search index node scroll body opaque_id) = TellsSearch corpus index node scroll body k h
+  HasItsLine h k (Search index node scroll body opaque_id) = TellsSearch corpus script.commands index node scroll body k h
   HasItsLine h k (Scroll target keep opaque_id) = TellsPage script target k h
   HasItsLine h k (ClearScroll target) = ⊤
+  HasItsLine h k (Reindex node body slices rate opaque_id) = TellsReindex corpus script.commands node body k h
   HasItsLine h k (Tick ms) = events_of k h ≡ events.Tick ms ∷ []
   HasItsLine h k (Cancel target reason wait) = TellsCancel cluster script target k h
   HasItsLine h k (ListTasks wanted group detailed) = ⊤

@@ -1,7 +1,6 @@
 pub mod EachLine
+pub mod Generated
 pub mod Kept
-pub mod Options
-pub mod Plan
 pub mod Progress
 pub mod Promises
 pub mod Reading

@@ -14,7 +14,7 @@ ghost use Rattle.script_lang.specs.declared.command.Script.{Script};
 ghost use Rattle.world_moves.specs.Cancels.{AllAnswered};
 ghost use Rattle.world_moves.specs.Moves.{greatest_number};
 ghost use Rattle.world_moves.specs.Plain.{AnswersPlainly};
-ghost use Rattle.world_steps.specs.Scripts.{IsRun};
+ghost use Rattle.world_steps.specs.Scripts.{CanRun, IsRun};
 ghost use Rattle.task_top.specs.EachLine.{HasLines};
 ghost use Rattle.task_top.specs.Promises.{CancelsExactly, KeepsAllLaws};
 ghost use Rattle.task_top.specs.Reading.{max_input, Reads, Refuses, IsRead, IsRefused};
@@ -73,7 +73,7 @@ pub(crate) fn all_laws()
 /// It computes nothing: its contract is the law.
 pub(crate) fn answer_laws()
     ensures lines { (cluster : Cluster) (corpus : Corpus) (script : Script) (h : List Event)
-        → Lawful cluster h → AnswersPlainly cluster corpus script h → IsDrained h → AllAnswered h → IsRun cluster corpus script h → HasLines cluster corpus script h }
+        → Lawful cluster h → AnswersPlainly cluster corpus script h → IsDrained h → AllAnswered h → IsRun cluster corpus script h → CanRun cluster.nodes script.commands → HasLines cluster corpus script h }
     ensures unharmed { (cluster : Cluster) (corpus : Corpus) (script : Script) (h : List Event)
         → Lawful cluster h → AnswersPlainly cluster corpus script h → AnswersWholly script h }
 {

@@ -1,22 +1,20 @@
 //! The calls that the program makes: what it reads, what it runs, and what it prints.
 #![tactic(auto)]
 
+mod generated;
 mod kept;
 mod laws;
-mod options;
-mod plans;
 mod reading;
 mod run;
 mod status;
 mod top;
-mod words;
 
+pub use command_line::{Plan, PlanError, plan};
+pub use generated::gen_top;
 pub use kept::Kept;
 pub use laws::{limits, one_reading};
 pub use line_print::{Note, print_lines};
-pub use plans::{Plan, PlanError};
 pub use script_lang::{Command, Script};
 pub use status::Status;
 pub use task_ids::{Cause, Cluster};
 pub use top::sim_top;
-pub use words::plan;

@@ -3,6 +3,8 @@
 ghost use Rattle.std.specs.Prelude.{◌≡◌, ◌+◌, ◌≤◌, [], None, Some, length, slice_get, OnOk, IfOk, IfErr};
 ghost use Rattle.task_events.specs.Cancels.{last_command};
 ghost use Rattle.task_events.specs.Lawful.{Lawful};
+ghost use Rattle.command_roots.specs.Roots.{scripted};
+ghost use Rattle.world_moves.specs.Owning.{OneAtATime};
 ghost use Rattle.world_moves.specs.Plain.{AnswersPlainly};
 ghost use Rattle.world_steps.specs.Scripts.{CanDo, CanRun};
 ghost use Rattle.line_print.specs.Lines.{note_of};
@@ -125,6 +127,7 @@ pub(crate) fn run_script(
     ensures early { IfErr result.1 (λ stop. EndsEarly cluster corpus.now script.now result.0 stop) }
     ensures lawful { Lawful cluster result.0 }
     ensures plain { AnswersPlainly cluster corpus.now script.now result.0 }
+    ensures alone { OneAtATime (scripted script.now) result.0 }
 {
     let Ok(mut world) = World::new(alloc, cluster, corpus, script) else {
         return (History::new(alloc), Err(Stop::Memory));

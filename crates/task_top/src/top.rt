@@ -2,6 +2,8 @@ ghost use Rattle.std.specs.Prelude.{◌<◌, ◌≡◌, ◌≤◌, ◌++◌, Lis
 ghost use Rattle.es_io.specs.Count.{Rose};
 ghost use Rattle.task_events.specs.declared.event.Event.{Event};
 ghost use Rattle.task_events.specs.Lawful.{Lawful};
+ghost use Rattle.command_roots.specs.Roots.{scripted};
+ghost use Rattle.world_moves.specs.Owning.{OneAtATime};
 ghost use Rattle.world_moves.specs.Plain.{AnswersPlainly};
 ghost use Rattle.world_steps.specs.Scripts.{CanRun};
 ghost use Rattle.task_top.specs.Kept.{AnswersInput, IsReadWhole, RanAsRead, Rests, TellsEach, WritesLines, HasCause, IsAfterReading, early_status};
@@ -57,11 +59,13 @@ pub fn sim_top<S: Source, K: Sink>(
     // Each search that ended in it without being cancelled replied with the plain answer, and each page of one with that over its context:
     // of the shards that this keeps, each as it was read, the rows after its cursor.
     ensures plain { AnswersPlainly cluster.now result.1.corpus result.1.script result.1.history }
+    // A page starts only where its context is free.
+    ensures alone { OneAtATime (scripted result.1.script) result.1.history }
     // No shard of it failed where nothing happened to it: neither it nor a child of it was marked or refused, and none of its requests was rejected.
     ensures unharmed { AnswersWholly result.1.script result.1.history }
     // After a whole run nothing is live, in flight or listed, no ban stands, and every cancel that named a task is answered.
     ensures rests { Rests result.0 result.1 }
-    // So each command has its line: a search or a scroll the end of its task or what refused it, a tick its event, a cancel its answer or that it
+    // So each command has its line: a search, a scroll or a reindex the end of its task or what refused it, a tick its event, a cancel its answer or that it
     // found no task, a list what it lists, a line of a schedule its events or why nothing happened; and what is printed for it is one line.
     ensures each_has_its_line { TellsEach cluster.now result.0 result.1 }
     // Where the sink tells its bytes: they grew by the printed lines of the run.
@@ -108,6 +112,7 @@ fn run_and_print<K: Sink>(
     ensures run { RanAsRead cluster.now result.0 result.1 }
     ensures lawful { Lawful cluster.now result.1.history }
     ensures plain { AnswersPlainly cluster.now result.1.corpus result.1.script result.1.history }
+    ensures alone { OneAtATime (scripted result.1.script) result.1.history }
     ensures rests { Rests result.0 result.1 }
     ensures each_has_its_line { TellsEach cluster.now result.0 result.1 }
     ensures output { WritesLines cluster.now (K.written out.old) (K.written out.new) result.0 result.1 }
@@ -148,9 +153,11 @@ fn write_lines<K: Sink>(
     found: &[Option<Note>],
     out: &mut K,
 ) -> Status
+    requires can_run { CanRun cluster.now.nodes kept.now.script.commands }
     requires few { length kept.now.script.commands ≤ 65535 }
     requires lawful { Lawful cluster.now kept.now.history }
     requires plain { AnswersPlainly cluster.now kept.now.corpus kept.now.script kept.now.history }
+    requires alone { OneAtATime (scripted kept.now.script) kept.now.history }
     requires ran { EndsWhole cluster.now kept.now.corpus kept.now.script kept.now.history found.now }
     ensures status { IsAfterReading result }
     ensures run { RanAsRead cluster.now result kept.now }

@@ -1,4 +1,4 @@
-//! The program `tasktree`: it replays a script of task trees and prints one line of JSON for each command.
+//! The program `tasktree`: it replays a script of task trees and prints one line of JSON for each command, or writes an input for that.
 //!
 //! It reads standard input and writes to standard output. What went wrong stands on standard error, and the exit
 //! status says which kind it was.
@@ -11,7 +11,7 @@ use std::env;
 use std::io::ErrorKind;
 use std::process::ExitCode;
 use std::rt::Env;
-use task_top::{Plan, PlanError, Status, plan, sim_top};
+use task_top::{Plan, PlanError, Status, gen_top, plan, sim_top};
 
 #[cfg(test)]
 mod tests;
@@ -37,7 +37,7 @@ fn planned<R: Env + AllocGlobal>(rt: &R) -> Result<Plan, Status>
     ensures { IfErr result (λ status. (status ≡ Status.Usage) ⊎ (status ≡ Status.Memory)) }
 {
     let words = words(rt)?;
-    match plan(words.as_slice()) {
+    match plan(rt.alloc(), words.as_slice()) {
         Ok(plan) => Ok(plan),
         Err(PlanError::Usage) => Err(Status::Usage),
         Err(PlanError::Memory) => Err(Status::Memory),
@@ -51,6 +51,10 @@ fn main(rt: HostRuntime) -> ExitCode {
             let mut out = StdSink::new(rt.stdout());
             let (status, _) = sim_top(rt.alloc(), &cluster, &mut input, &mut out);
             status
+        }
+        Ok(Plan::Gen(number)) => {
+            let mut out = StdSink::new(rt.stdout());
+            gen_top(rt.alloc(), number, &mut out)
         }
         Err(status) => status,
     };

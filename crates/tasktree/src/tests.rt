@@ -6,7 +6,7 @@ ghost use Rattle.std.specs.Prelude.{◌<◌};
 use es_io::{MemSink, MemSource};
 use std::alloc::Global;
 use task_ids::{Cause, Cluster};
-use task_top::{Status, sim_top};
+use task_top::{Status, gen_top, sim_top};
 
 /// Two documents and a search for both.
 const FIRST_SEARCH: &str = r#"{"index":{"_index":"a","_id":"1"}}
@@ -66,6 +66,46 @@ fn a_failing_write_leaves_the_pieces_before_it(rt: HostRuntime) {
         let sent = 5 * usize::from(before);
         assert!(rt; run(rt.alloc(), 4096, 0, call) == Some((Status::WriteFault, sent)));
     }
+}
+
+/// The first lines of the input that 1 makes.
+const FIRST_LINES: &str = r#"{"index":{"_index":"g","_id":"0"}}
+{"g":0,"r":443766}
+{"index":{"_index":"g","_id":"1"}}
+{"g":1,"r":534152}
+{"index":{"_index":"g","_id":"2"}}
+{"g":2,"r":679854}
+"#;
+
+/// The last lines of each input that a number makes.
+const LAST_LINES: &str = r#"{"settle":true}
+{"reindex":{"body":{"source":{"index":"g","query":{"term":{"g":3}}},"dest":{"index":"z"}}}}
+{"settle":true}
+{"list":{}}
+{"summary":true}
+"#;
+
+/// How the input that 1 makes is written in pieces of 65,536 bytes, with a write that fails at this call (0 is none): the status,
+/// and how many bytes were written. There is none where they do not begin as they should.
+fn made(alloc: Global, failing: u64) -> Option<(Status, usize)> {
+    let failing = Vec::from_slice(alloc, &[failing]).ok()?;
+    let mut out = MemSink::new(alloc, 65_536, failing);
+    let status = gen_top(alloc, 1, &mut out);
+    let bytes = out.bytes();
+    let begins = bytes.is_empty() || bytes.starts_with(FIRST_LINES.as_bytes());
+    let ends = status != Status::Done || bytes.ends_with(LAST_LINES.as_bytes());
+    if begins && ends {
+        Some((status, bytes.len()))
+    } else {
+        None
+    }
+}
+
+#[test]
+fn an_input_is_made_by_its_number(rt: HostRuntime) {
+    assert!(rt; made(rt.alloc(), 0) == Some((Status::Done, 1_161_315)));
+    assert!(rt; made(rt.alloc(), 1) == Some((Status::WriteFault, 0)));
+    assert!(rt; made(rt.alloc(), 3) == Some((Status::WriteFault, 131_072)));
 }
 
 /// Whether a status has this number and tells this text.
