@@ -1,0 +1,4 @@
+mod Halves
+mod Joined
+mod Keys
+mod Searched

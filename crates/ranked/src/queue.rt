@@ -1,0 +1,134 @@
+//! A sequence of which any item is found by its rank.
+
+ghost use Rattle.std.specs.Prelude.{◌≡◌, ◌<◌, ◌≤◌, ◌∷◌, [], ◌++◌, ◌==◌, length, insert, remove, slice_get, IfErr, IfOk, IfNone, IsSome, OnOk, OnErr, OnSome, ◌↔◌};
+ghost use Rattle.std.specs.List.Sorted.{IsStrictlySortedBy};
+ghost use Rattle.std.specs.Option.{option_copied};
+ghost use Rattle.ranked.specs.Ranks.{IsFoundAt, IsGapFor};
+
+use crate::piece::Piece;
+use crate::pieces::{insert_at, push_last, search, spot_of, take_at};
+use std::alloc::{AllocFailed, Global};
+use std::collections::VecDeque;
+use std::marker::Model;
+
+/// A sequence of items, which are put in and taken out by rank. Contracts see their list.
+///
+/// The items lie in pieces of at most 512. An item is found by a walk over the lengths of the pieces before its own,
+/// so the first one at once; a change then moves the items of one piece at most. A piece whose last item is taken is
+/// gone, but pieces are not joined: where much was taken from all over, they hold fewer items each, and there are more of
+/// them than the items need.
+#[derive(Drop)]
+pub struct Queue<T> {
+    alloc: Global,
+    len: usize,
+    pieces: VecDeque<Piece<T>>,
+}
+
+impl<T> Model for Queue<T> {
+    ghost use Rattle.std.specs.Prelude.{◌≡◌, List, length};
+    ghost use Rattle.ranked.specs.Pieces.{ArePieces, joined};
+
+    ghost Value = { List T };
+
+    ghost view = { λ a. joined a.pieces.items };
+
+    ghost invariant = { λ a. (a.len ≡ length (joined a.pieces.items)) × ArePieces a.pieces.items };
+}
+
+impl<T> Queue<T> {
+    /// No items, which takes no memory.
+    pub fn new(alloc: Global) -> Queue<T>
+        ensures { result ≡ [] }
+    {
+        Queue {
+            alloc,
+            len: 0,
+            pieces: VecDeque::new(alloc),
+        }
+    }
+
+    /// How many items there are. It costs no walk.
+    pub fn len(&self) -> usize
+        ensures { result ≡ length self.now }
+    {
+        self.len
+    }
+
+    /// Whether there is no item. It costs no walk.
+    pub fn is_empty(&self) -> bool
+        ensures { result ≡ (length self.now == 0) }
+    {
+        self.len == 0
+    }
+
+    /// The item of this rank, counted from 0. It costs the walk.
+    pub fn get(&self, nth: usize) -> Option<&T>
+        ensures found { option_copied result ≡ slice_get self.now nth }
+        ensures variant { IsSome result ↔ (nth < length self.now) }
+    {
+        let spot = spot_of(&self.pieces, nth)?;
+        self.pieces[spot.piece].get(spot.place)
+    }
+}
+
+impl<K: Ord> Queue<K> {
+    /// The rank of the key among ascending ones, or the rank that it would have. It costs a binary search over the pieces
+    /// and one within a piece, and the lengths of the pieces before that.
+    pub(crate) fn search(&self, key: &K) -> Result<usize, usize>
+        requires { IsStrictlySortedBy K.cmp self.now }
+        ensures found { IfOk result (IsFoundAt K.cmp self.now key.now) }
+        ensures absent { IfErr result (IsGapFor K.cmp self.now key.now) }
+    {
+        // The proof reads the length, which bounds every rank.
+        let _len = self.len;
+        search(&self.pieces, key)
+    }
+}
+
+impl<T: Drop> Queue<T> {
+    /// Puts an item after all others, without a walk. Where memory runs out it comes back, and nothing has changed.
+    pub fn push_back(&mut self, item: T) -> Result<(), AllocFailed<T>>
+        ensures ok { OnOk result (self.new ≡ self.old ++ item ∷ []) }
+        ensures err { OnErr result (self.new ≡ self.old) }
+        ensures given_back { IfErr result (λ failed. failed.value ≡ item) }
+    {
+        let Some(len) = self.len.checked_add(1) else {
+            return Err(AllocFailed { value: item });
+        };
+        push_last(&mut self.pieces, self.alloc, item)?;
+        self.len = len;
+        Ok(())
+    }
+
+    /// Puts an item before the one of this rank, counted from 0, or after all others. It costs the walk, a move within a
+    /// piece, and where the piece is full a cut of it in two. Where memory runs out the item comes back, and no other has moved.
+    pub fn insert(&mut self, nth: usize, item: T) -> Result<(), AllocFailed<T>>
+        requires { nth ≤ length self.old }
+        ensures ok { OnOk result (self.new ≡ insert self.old nth item) }
+        ensures err { OnErr result (self.new ≡ self.old) }
+        ensures given_back { IfErr result (λ failed. failed.value ≡ item) }
+    {
+        let Some(len) = self.len.checked_add(1) else {
+            return Err(AllocFailed { value: item });
+        };
+        match spot_of(&self.pieces, nth) {
+            Some(spot) => insert_at(&mut self.pieces, spot, item)?,
+            None => push_last(&mut self.pieces, self.alloc, item)?,
+        }
+        self.len = len;
+        Ok(())
+    }
+
+    /// Takes the item of this rank out, counted from 0. There is none exactly past the end. It costs the walk and a move
+    /// within a piece.
+    pub fn take(&mut self, nth: usize) -> Option<T>
+        ensures taken { result ≡ slice_get self.old nth }
+        ensures rest { OnSome result (self.new ≡ remove self.old nth) }
+        ensures none { IfNone result (self.new ≡ self.old) }
+    {
+        let spot = spot_of(&self.pieces, nth)?;
+        let item = take_at(&mut self.pieces, spot)?;
+        self.len -= 1;
+        Some(item)
+    }
+}
