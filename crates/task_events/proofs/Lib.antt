@@ -1,2 +1,3 @@
 mod Ascending
+mod Counted
 mod Pieces

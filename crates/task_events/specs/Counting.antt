@@ -1,5 +1,5 @@
 -- What tasks that write count, of themselves and by the answers of those that they ask for.
-use Rattle.std.specs.Prelude.{ℕ, ◌+◌, List, length, Bool, true, false, not, ◌&&◌, ◌==◌, nat_lt, Option, filter_map, count_by}
+use Rattle.std.specs.Prelude.{ℕ, ◌+◌, List, length, Bool, false, not, ◌&&◌, ◌==◌, nat_lt, filter_map}
 use Rattle.std.specs.List.{sum_by}
 use Rattle.task_events.specs.declared.reply.Counts.{Counts}
 use Rattle.task_events.specs.declared.reply.Reply.{Reply}

@@ -1,6 +1,6 @@
 -- A slice of a reindex: it reads a page, has its documents written by a bulk, and goes on with the next page once its rate lets it.
 -- Its asks are by turns for a page and for a bulk.
-use Rattle.std.specs.Prelude.{ℕ, ◌+◌, ◌-◌, ◌%◌, ◌^◌, List, [], ◌++◌, length, codes, decimal, get_or, slice_get, map, Bool, true, false, ◌&&◌, ◌==◌, nat_lt, nat_le, Option, Some, None, option_and_then, count_by, if◌then◌else◌}
+use Rattle.std.specs.Prelude.{ℕ, ◌+◌, ◌-◌, ◌%◌, ◌^◌, List, [], ◌++◌, length, codes, decimal, get_or, slice_get, map, Bool, false, ◌==◌, nat_lt, nat_le, Option, Some, None, option_and_then, count_by, if◌then◌else◌}
 use Rattle.std.specs.Option.{option_map_or}
 use Rattle.throttle.specs.Waits.{wait_at}
 use Rattle.task_ids.specs.declared.action.Action.TheVariants as actions
@@ -16,7 +16,7 @@ use Rattle.task_events.specs.declared.reply.Reply.TheVariants.{Search, Wrote}
 use Rattle.task_events.specs.declared.step.Asked.{Asked}
 use Rattle.task_events.specs.declared.step.Do.{Do}
 use Rattle.task_events.specs.declared.step.Do.TheVariants.{AskNext, Wait, Finish}
-use Rattle.task_events.specs.Counting.{answers_in, is_batch, failures_of, written_in, wrote_can_have}
+use Rattle.task_events.specs.Counting.{answers_in, is_batch, written_in, wrote_can_have}
 use Rattle.task_events.specs.Kind.{Kind}
 use Rattle.task_events.specs.Slicing.{pick_of}
 

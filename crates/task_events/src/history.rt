@@ -2,6 +2,7 @@ ghost use Rattle.std.specs.Prelude.{◌≡◌, ◌∷◌, [], ◌++◌, ◌<◌,
 
 use crate::event::Event;
 use crate::events::Events;
+use crate::summary::Summary;
 use std::alloc::{AllocError, Global};
 use std::marker::Model;
 use std::mem;
@@ -20,6 +21,7 @@ const PIECE: usize = 4096;
 pub struct History {
     full: Vec<Vec<Event>>,
     last: Vec<Event>,
+    counts: Summary,
 }
 
 impl Model for History {
@@ -28,6 +30,7 @@ impl Model for History {
     ghost use Rattle.task_events.specs.declared.event.Event.{Event};
     ghost use Rattle.task_events.specs.declared.history.TheConstants.{MAX_EVENTS, PIECE};
     ghost use Rattle.task_events.specs.contracts.event.Event as events_row;
+    ghost use Rattle.task_events.specs.Summaries.{summary_of};
     ghost use Rattle.std.specs.Coded.{coded_list};
 
     ghost Value = { List Event };
@@ -37,7 +40,8 @@ impl Model for History {
     ghost view = { λ h. reverse (flat_map (λ piece. piece.items) h.full.items ++ h.last.items) };
 
     ghost invariant = { λ h. All (λ piece. length piece.items ≡ PIECE) h.full.items × (length h.last.items ≤ PIECE)
-        × (length (flat_map (λ piece. piece.items) h.full.items ++ h.last.items) ≤ MAX_EVENTS) };
+        × (length (flat_map (λ piece. piece.items) h.full.items ++ h.last.items) ≤ MAX_EVENTS)
+        × (h.counts ≡ summary_of (reverse (flat_map (λ piece. piece.items) h.full.items ++ h.last.items))) };
 }
 
 /// Why an event was not added. The event comes back.
@@ -67,6 +71,7 @@ fn begin_piece(full: &mut Vec<Vec<Event>>, last: &mut Vec<Event>) -> Result<(), 
 
 impl History {
     ghost use Rattle.task_events.specs.History.{returned};
+    ghost use Rattle.task_events.specs.Summaries.{summary_of};
 
     /// Nothing has happened yet.
     pub fn new(alloc: Global) -> History
@@ -75,6 +80,7 @@ impl History {
         History {
             full: Vec::new(alloc),
             last: Vec::new(alloc),
+            counts: Summary::new(),
         }
     }
 
@@ -89,11 +95,16 @@ impl History {
         if self.len() == MAX_EVENTS {
             return Err(PushError::Full(event));
         }
+        let mut counts = self.counts;
+        counts.count(&event);
         if self.last.len() == PIECE && begin_piece(&mut self.full, &mut self.last).is_err() {
             return Err(PushError::Memory(event));
         }
         match self.last.push(event) {
-            Ok(()) => Ok(()),
+            Ok(()) => {
+                self.counts = counts;
+                Ok(())
+            }
             Err(failed) => Err(PushError::Memory(failed.value)),
         }
     }
@@ -120,6 +131,13 @@ impl History {
         ensures { option_copied result ≡ slice_get self.now 0 }
     {
         self.get(self.len().checked_sub(1)?)
+    }
+
+    /// How many tasks, bans and writes came and went so far. It is kept, and counts nothing anew.
+    pub fn summary(&self) -> Summary
+        ensures { result ≡ summary_of self.now }
+    {
+        self.counts
     }
 
     /// The number of events.

@@ -12,6 +12,7 @@ mod reply;
 mod request;
 mod step;
 mod stop;
+mod summary;
 
 pub use context::Context;
 pub use copying::{copy_docs, copy_hits};
@@ -27,3 +28,4 @@ pub use request::{
 };
 pub use step::{Asked, Do};
 pub use stop::Stop;
+pub use summary::Summary;

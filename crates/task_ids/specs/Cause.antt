@@ -1,7 +1,7 @@
 -- What is shown to the user for each cause of a refusal.
 use Rattle.std.specs.Prelude.{ℕ, List, codes}
 use Rattle.task_ids.specs.declared.cause.Cause.{Cause}
-use Rattle.task_ids.specs.declared.cause.Cause.TheVariants.{TooLong, TooManyLines, LineTooLong, NoSource, BadUtf8, BadJson, NotWhole, NotObject, UnknownAction, BadAction, Conflict, UnknownCommand, ScheduleLineInRun, UnknownField, BadField, BadTaskId, UnknownNode, BadReference, NotWaitable, NotBuilt}
+use Rattle.task_ids.specs.declared.cause.Cause.TheVariants.{TooLong, TooManyLines, LineTooLong, NoSource, BadUtf8, BadJson, NotWhole, NotObject, UnknownAction, BadAction, Conflict, UnknownCommand, ScheduleLineInRun, UnknownField, BadField, BadTaskId, UnknownNode, BadReference, NotWaitable}
 
 abbrev pub cause_text : Cause → List ℕ
 cause_text TooLong = codes "input is too long"
@@ -23,4 +23,3 @@ cause_text BadTaskId = codes "bad task id"
 cause_text UnknownNode = codes "unknown node"
 cause_text BadReference = codes "bad reference"
 cause_text NotWaitable = codes "can not be waited for"
-cause_text NotBuilt = codes "not built yet"

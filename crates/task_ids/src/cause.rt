@@ -4,7 +4,7 @@ ghost use Rattle.task_ids.specs.Cause.{cause_text};
 use std::fmt;
 
 /// Why an input is refused. Within a line the first cause in this order counts, but for `NoSource`, which is looked for
-/// after the other causes of its action line, and for `NotBuilt`, which stands for forms that are still to come.
+/// after the other causes of its action line.
 #[derive(Clone, Copy, Debug, PartialEq, Eq)]
 pub enum Cause {
     /// The input has more than 67,108,864 bytes. It comes before all lines, at line 0.
@@ -45,8 +45,6 @@ pub enum Cause {
     BadReference,
     /// The command that is named can not be waited for.
     NotWaitable,
-    /// The input has a form that this version does not read yet.
-    NotBuilt,
 }
 
 impl Cause {
@@ -74,7 +72,6 @@ impl Cause {
             Cause::UnknownNode => "unknown node",
             Cause::BadReference => "bad reference",
             Cause::NotWaitable => "can not be waited for",
-            Cause::NotBuilt => "not built yet",
         }
     }
 }

@@ -1,4 +1,4 @@
-use Rattle.std.proofs.Common.{◌≡◌, ◌≤◌, ◌++◌, length, flat_map, ap, arith}
+use Rattle.std.proofs.Common.{◌++◌, length, flat_map, ap, arith}
 use Rattle.std.proofs.lemmas.List.{length-reverse}
 use Rattle.task_events.proofs.Pieces.{length_joined}
 use Rattle.task_events.proofs.history.History.left.Goals as goal
