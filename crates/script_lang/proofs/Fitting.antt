@@ -11,25 +11,26 @@ use Rattle.shard_docs.specs.Fault.{and_then, on_line}
 use Rattle.shard_docs.specs.Json.{whole_json_of}
 use Rattle.shard_docs.proofs.ActionLemmas.{found_on_line}
 use Rattle.task_ids.specs.declared.cause.Cause.{Cause}
-use Rattle.task_ids.specs.declared.cause.Cause.TheVariants.{TooManyLines, UnknownNode, BadField, BadReference, NotObject, ScheduleLineInRun}
+use Rattle.task_ids.specs.declared.cause.Cause.TheVariants.{TooManyLines, UnknownNode, BadField, BadReference, NotWaitable, NotObject, ScheduleLineInRun}
 use Rattle.script_lang.specs.declared.command.CancelTarget.{CancelTarget}
 use Rattle.script_lang.specs.declared.command.CancelTarget.TheVariants as targets
 use Rattle.script_lang.specs.declared.command.Command.{Command}
-use Rattle.script_lang.specs.declared.command.Command.TheVariants.{Search, Scroll, ClearScroll, Reindex, Cancel, ListTasks, Tick, Deliver, Step, ListStep, Settle, History}
+use Rattle.script_lang.specs.declared.command.Command.TheVariants.{Search, Scroll, ClearScroll, Reindex, Cancel, ListTasks, Tick, Deliver, Step, ListStep, Settle, Shuffle, WaitFor, History, Summary}
 use Rattle.script_lang.specs.declared.command.ContextTarget.{ContextTarget}
 use Rattle.script_lang.specs.declared.command.ContextTarget.TheVariants as contexts
 use Rattle.script_lang.specs.declared.command.Mode.{Mode}
 use Rattle.script_lang.specs.declared.kind.Kind.{Kind}
 use Rattle.script_lang.specs.declared.kind.Kind.TheVariants as kinds
-use Rattle.script_lang.specs.Commands.{search_fields, search_in, scroll_fields, scroll_in, clear_fields, clear_in, reindex_fields, reindex_in, cancel_fields, cancel_in, list_fields, list_in, list_step_fields, list_step_in, command_of_kind, only_member, is_run, command_in}
-use Rattle.script_lang.specs.Fields.{both, fields_of, text_of, text_or, optional_text, node_in, node_or_first, task_in, group_or_nodes, flag_or_false, body_in, object_in, number_in, from_1_to, max_slices, slices_or_one, max_rate, rate_of, rate_or_none, optional_keep_alive, time_in, truth_in}
+use Rattle.script_lang.specs.declared.targets.NamedFor.TheVariants as uses
+use Rattle.script_lang.specs.Commands.{search_fields, search_in, scroll_fields, scroll_in, clear_fields, clear_in, reindex_fields, reindex_in, cancel_fields, cancel_in, list_fields, list_in, list_step_fields, list_step_in, shuffle_fields, shuffle_in, wait_fields, wait_in, command_of_kind, only_member, is_run, command_in}
+use Rattle.script_lang.specs.Fields.{both, fields_of, text_of, text_or, optional_text, node_in, node_or_first, task_in, group_or_nodes, flag_or_false, body_in, object_in, number_in, from_1_to, max_slices, slices_or_one, max_rate, rate_of, rate_or_none, max_moves, needed_number, moves_in, optional_keep_alive, time_in, truth_in}
 use Rattle.script_lang.specs.Filters.{has_filter, filter_in}
 use Rattle.script_lang.specs.Fits.{IsNodeOf, IsSliceCount, IsRate, NamesStart, NamesContext, Fits, AllFit}
 use Rattle.script_lang.specs.KeepAlives.{day_ms}
 use Rattle.script_lang.specs.Kinds.{kind_named, is_schedule}
 use Rattle.script_lang.specs.Names.{node_names, node_of}
 use Rattle.script_lang.specs.Script.{max_commands, command_of, commands_of}
-use Rattle.script_lang.specs.Targets.{starts_task, opens_context, is_at, number_at, reference_in, target_of, target_in, context_of, context_in}
+use Rattle.script_lang.specs.Targets.{starts_task, opens_context, can_be_awaited, allows, is_at, number_at, reference_in, target_of, target_in, context_of, context_in, awaited_in}
 use Rattle.script_lang.proofs.FieldLemmas.{both_first, both_second, first_ok}
 use Rattle.script_lang.proofs.Ranges.{in_range}
 
@@ -128,6 +129,17 @@ context_fits : (before : List Command) (fields : Members) (context : ContextTarg
 unfolding context_in
 context_fits before fields context e = context_of_fits before _ _ context e
 
+awaited_fits : (before : List Command) (field : Option Data) (number : ℕ) → awaited_in before field ≡ Ok number → is_at can_be_awaited before number ≡ true
+unfolding awaited_in
+awaited_fits before None number e = cc
+awaited_fits before (Some value) number e =
+    let named = first_ok (reference_in (allows uses.Anything) before value) _ number e in
+    kept named.0 (is_at can_be_awaited before named.0) refl named.2
+  where
+    kept : (n : ℕ) (b : Bool) → is_at can_be_awaited before n ≡ b → cond b (Ok n) (Err NotWaitable) ≡ Ok number → is_at can_be_awaited before number ≡ true
+    kept n true is e' = let same : n ≡ number = cc in subst (λ k. is_at can_be_awaited before k ≡ true) same is
+    kept n false is e' = cc
+
 -- ---- times
 
 time_fits : (value : Data) (ms : ℕ) → time_in value ≡ Ok ms → ms ≤ day_ms
@@ -137,6 +149,17 @@ time_fits value ms e =
   where
     within : (n : ℕ) (b : Bool) → nat_le n day_ms ≡ b → cond b (Ok n) (Err BadField) ≡ Ok ms → ms ≤ day_ms
     within n true is e' = let same : n ≡ ms = cc in grind (arith, is)
+    within n false is e' = cc
+
+-- ---- moves
+
+moves_fit : (field : Option Data) (moves : ℕ) → moves_in field ≡ Ok moves → moves ≤ max_moves
+moves_fit field moves e =
+    let read = first_ok (needed_number field) _ moves e in
+    within read.0 (nat_le read.0 max_moves) refl read.2
+  where
+    within : (n : ℕ) (b : Bool) → nat_le n max_moves ≡ b → cond b (Ok n) (Err BadField) ≡ Ok moves → moves ≤ max_moves
+    within n true is e' = let same : n ≡ moves = cc in grind (arith, is)
     within n false is e' = cc
 
 -- ---- slices and rates
@@ -243,6 +266,23 @@ module _ (nodes : ℕ) (some : 1 ≤ nodes) (before : List Command) where
       let node = both_first _ _ found.0 found.1 in
       subst (Fits nodes before) same (node_in_fits nodes (get_member (codes "node") parts.0) found.0.0 node)
 
+  shuffle_fits : (value : Data) (command : Command) → shuffle_in value ≡ Ok command → Fits nodes before command
+  unfolding shuffle_in
+  shuffle_fits value command e =
+      let parts = first_ok (fields_of shuffle_fields value) _ command e in
+      let found = first_ok (both (needed_number (get_member (codes "seed") parts.0)) (moves_in (get_member (codes "moves") parts.0))) _ command parts.2 in
+      let same : Shuffle found.0.0 found.0.1 ≡ command = cc (found.2) in
+      let moves = both_second _ _ found.0 found.1 in
+      subst (Fits nodes before) same (moves_fit (get_member (codes "moves") parts.0) found.0.1 moves)
+
+  wait_fits : (value : Data) (command : Command) → wait_in before value ≡ Ok command → Fits nodes before command
+  unfolding wait_in
+  wait_fits value command e =
+      let parts = first_ok (fields_of wait_fields value) _ command e in
+      let found = first_ok (awaited_in before (get_member (codes "command") parts.0)) _ command parts.2 in
+      let same : WaitFor found.0 ≡ command = cc (found.2) in
+      subst (Fits nodes before) same (awaited_fits before (get_member (codes "command") parts.0) found.0 found.1)
+
   of_kind_fits : (kind : Kind) (value : Data) (command : Command) → command_of_kind nodes before kind value ≡ Ok command → Fits nodes before command
   of_kind_fits kinds.Search value command e = search_fits value command e
   of_kind_fits kinds.Scroll value command e = scroll_fits value command e
@@ -263,9 +303,14 @@ module _ (nodes : ℕ) (some : 1 ≤ nodes) (before : List Command) where
   of_kind_fits kinds.Settle value command e =
       let found = first_ok (truth_in value) _ command e in
       let same : Settle ≡ command = cc (found.2) in subst (Fits nodes before) same tt
+  of_kind_fits kinds.Shuffle value command e = shuffle_fits value command e
+  of_kind_fits kinds.WaitFor value command e = wait_fits value command e
   of_kind_fits kinds.History value command e =
       let found = first_ok (truth_in value) _ command e in
       let same : History ≡ command = cc (found.2) in subst (Fits nodes before) same tt
+  of_kind_fits kinds.Summary value command e =
+      let found = first_ok (truth_in value) _ command e in
+      let same : Summary ≡ command = cc (found.2) in subst (Fits nodes before) same tt
 
   command_fits : (mode : Mode) (value : Data) (command : Command) → command_in mode nodes before value ≡ Ok command → Fits nodes before command
   unfolding command_in

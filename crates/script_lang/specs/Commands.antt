@@ -7,15 +7,15 @@ use Rattle.task_ids.specs.declared.cause.Cause.{Cause}
 use Rattle.task_ids.specs.declared.cause.Cause.TheVariants.{NotObject, ScheduleLineInRun}
 use Rattle.shard_docs.specs.Fault.{◌>>=◌}
 use Rattle.script_lang.specs.declared.command.Command.{Command}
-use Rattle.script_lang.specs.declared.command.Command.TheVariants.{Search, Scroll, ClearScroll, Reindex, Cancel, ListTasks, Tick, Deliver, Step, ListStep, Settle, History}
+use Rattle.script_lang.specs.declared.command.Command.TheVariants.{Search, Scroll, ClearScroll, Reindex, Cancel, ListTasks, Tick, Deliver, Step, ListStep, Settle, Shuffle, WaitFor, History, Summary}
 use Rattle.script_lang.specs.declared.command.Mode.{Mode}
 use Rattle.script_lang.specs.declared.command.Mode.TheVariants.{Sim, Run}
 use Rattle.script_lang.specs.declared.kind.Kind.{Kind}
 use Rattle.script_lang.specs.declared.kind.Kind.TheVariants as kinds
-use Rattle.script_lang.specs.Fields.{both, fields_of, text_of, text_or, optional_text, node_in, node_or_first, task_in, group_or_nodes, flag_or_false, body_in, object_in, number_in, slices_or_one, rate_or_none, optional_keep_alive, time_in, truth_in}
+use Rattle.script_lang.specs.Fields.{both, fields_of, text_of, text_or, optional_text, node_in, node_or_first, task_in, group_or_nodes, flag_or_false, body_in, object_in, number_in, slices_or_one, rate_or_none, optional_keep_alive, time_in, truth_in, needed_number, moves_in}
 use Rattle.script_lang.specs.Filters.{filter_in}
 use Rattle.script_lang.specs.Kinds.{kind_named, is_schedule}
-use Rattle.script_lang.specs.Targets.{target_in, context_in}
+use Rattle.script_lang.specs.Targets.{target_in, context_in, awaited_in}
 
 -- ---- the fields of the commands
 
@@ -39,6 +39,12 @@ list_fields = codes "group_by" ∷ codes "actions" ∷ codes "nodes" ∷ codes "
 
 abbrev pub list_step_fields : List (List ℕ)
 list_step_fields = codes "node" ∷ codes "parent" ∷ []
+
+abbrev pub shuffle_fields : List (List ℕ)
+shuffle_fields = codes "seed" ∷ codes "moves" ∷ []
+
+abbrev pub wait_fields : List (List ℕ)
+wait_fields = codes "command" ∷ []
 
 -- ---- the commands
 
@@ -91,6 +97,20 @@ list_step_in nodes value = do
   found ← both (node_in nodes (get_member (codes "node") fields)) (task_in (get_member (codes "parent") fields))
   Ok (ListStep found.0 found.1)
 
+-- moves that look like chance
+unfoldable pub shuffle_in : Data → Result Command Cause
+shuffle_in value = do
+  fields ← fields_of shuffle_fields value
+  found ← both (needed_number (get_member (codes "seed") fields)) (moves_in (get_member (codes "moves") fields))
+  Ok (Shuffle found.0 found.1)
+
+-- a command that waits for one of some commands
+unfoldable pub wait_in : List Command → Data → Result Command Cause
+wait_in before value = do
+  fields ← fields_of wait_fields value
+  command ← awaited_in before (get_member (codes "command") fields)
+  Ok (WaitFor command)
+
 -- the command of a kind, from what stands at its key, after other commands
 abbrev pub command_of_kind : ℕ → List Command → Kind → Data → Result Command Cause
 command_of_kind nodes before kinds.Search value = search_in nodes value
@@ -104,7 +124,10 @@ command_of_kind nodes before kinds.Deliver value = number_in value >>= λ nth. O
 command_of_kind nodes before kinds.Step value = task_in (Some value) >>= λ task. Ok (Step task)
 command_of_kind nodes before kinds.ListStep value = list_step_in nodes value
 command_of_kind nodes before kinds.Settle value = truth_in value >>= λ _. Ok Settle
+command_of_kind nodes before kinds.Shuffle value = shuffle_in value
+command_of_kind nodes before kinds.WaitFor value = wait_in before value
 command_of_kind nodes before kinds.History value = truth_in value >>= λ _. Ok History
+command_of_kind nodes before kinds.Summary value = truth_in value >>= λ _. Ok Summary
 
 -- ---- the line of a command
 

@@ -4,7 +4,7 @@ use Rattle.std.specs.Option.{ok_or}
 use Rattle.serde_json.specs.Data.{Data, object, Members, no_members, member}
 use Rattle.serde_json.specs.Find.{as_object, as_str, as_bool, as_number, as_u64, as_i64}
 use Rattle.task_ids.specs.declared.cause.Cause.{Cause}
-use Rattle.task_ids.specs.declared.cause.Cause.TheVariants.{TooLong, TooManyLines, LineTooLong, NoSource, BadUtf8, BadJson, NotWhole, NotObject, UnknownAction, BadAction, Conflict, UnknownCommand, ScheduleLineInRun, UnknownField, NotBuilt, BadField, BadTaskId, UnknownNode, BadReference, NotWaitable}
+use Rattle.task_ids.specs.declared.cause.Cause.TheVariants.{TooLong, TooManyLines, LineTooLong, NoSource, BadUtf8, BadJson, NotWhole, NotObject, UnknownAction, BadAction, Conflict, UnknownCommand, ScheduleLineInRun, UnknownField, BadField, BadTaskId, UnknownNode, BadReference, NotWaitable}
 use Rattle.task_ids.specs.declared.task_id.TaskId.{TaskId}
 use Rattle.shard_docs.specs.Fault.{◌>>=◌}
 use Rattle.tasks_api.specs.declared.list.GroupBy.{GroupBy}
@@ -30,12 +30,11 @@ place_of Conflict = 10
 place_of UnknownCommand = 11
 place_of ScheduleLineInRun = 12
 place_of UnknownField = 13
-place_of NotBuilt = 14
-place_of BadField = 15
-place_of BadTaskId = 16
-place_of UnknownNode = 17
-place_of BadReference = 18
-place_of NotWaitable = 19
+place_of BadField = 14
+place_of BadTaskId = 15
+place_of UnknownNode = 16
+place_of BadReference = 17
+place_of NotWaitable = 18
 
 abbrev pub earlier : Cause → Cause → Cause
 earlier a b = if nat_lt (place_of b) (place_of a) then b else a
@@ -157,6 +156,19 @@ rate_of (negsuc (suc n)) = Err BadField
 abbrev pub rate_or_none : Option Data → Result (Option ℕ) Cause
 rate_or_none None = Ok None
 rate_or_none (Some value) = ok_or (option_and_then as_i64 (as_number value)) BadField >>= rate_of
+
+-- how many moves a shuffle makes at most
+abbrev pub max_moves : ℕ
+max_moves = 1000000
+
+-- a number that must be there
+abbrev pub needed_number : Option Data → Result ℕ Cause
+needed_number None = Err BadField
+needed_number (Some value) = number_in value
+
+-- how many moves a shuffle makes
+abbrev pub moves_in : Option Data → Result ℕ Cause
+moves_in field = needed_number field >>= λ n. if nat_le n max_moves then Ok n else Err BadField
 
 -- a keep-alive
 abbrev pub optional_keep_alive : Option Data → Result (Option ℕ) Cause

@@ -4,12 +4,12 @@ use Rattle.std.specs.Option.{ForSome}
 use Rattle.script_lang.specs.declared.command.CancelTarget.{CancelTarget}
 use Rattle.script_lang.specs.declared.command.CancelTarget.TheVariants as targets
 use Rattle.script_lang.specs.declared.command.Command.{Command}
-use Rattle.script_lang.specs.declared.command.Command.TheVariants.{Search, Scroll, ClearScroll, Reindex, Cancel, ListTasks, Tick, Deliver, Step, ListStep, Settle, History}
+use Rattle.script_lang.specs.declared.command.Command.TheVariants.{Search, Scroll, ClearScroll, Reindex, Cancel, ListTasks, Tick, Deliver, Step, ListStep, Settle, Shuffle, WaitFor, History, Summary}
 use Rattle.script_lang.specs.declared.command.ContextTarget.{ContextTarget}
 use Rattle.script_lang.specs.declared.command.ContextTarget.TheVariants as contexts
-use Rattle.script_lang.specs.Fields.{max_slices, max_rate}
+use Rattle.script_lang.specs.Fields.{max_slices, max_rate, max_moves}
 use Rattle.script_lang.specs.KeepAlives.{day_ms}
-use Rattle.script_lang.specs.Targets.{starts_task, opens_context, is_at}
+use Rattle.script_lang.specs.Targets.{starts_task, opens_context, can_be_awaited, is_at}
 
 -- a node of a cluster of so many
 abbrev pub IsNodeOf : ℕ → ℕ → Type 0
@@ -47,7 +47,10 @@ Fits nodes before (Deliver nth) = Unit {0}
 Fits nodes before (Step task) = Unit {0}
 Fits nodes before (ListStep node parent) = IsNodeOf nodes node
 Fits nodes before Settle = Unit {0}
+Fits nodes before (Shuffle seed moves) = moves ≤ max_moves
+Fits nodes before (WaitFor command) = is_at can_be_awaited before command ≡ true
 Fits nodes before History = Unit {0}
+Fits nodes before Summary = Unit {0}
 
 -- each of some commands fits, after others and those before it
 abbrev pub AllFit : ℕ → List Command → List Command → Type 0

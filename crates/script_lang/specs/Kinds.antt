@@ -1,15 +1,10 @@
 -- The kinds of commands, and their names.
-use Rattle.std.specs.Prelude.{ℕ, List, [], ◌∷◌, codes, Bool, true, false, if◌then◌else◌, Result, Ok, Err}
+use Rattle.std.specs.Prelude.{ℕ, List, codes, Bool, true, false, if◌then◌else◌, Result, Ok, Err}
 use Rattle.std.specs.Str.{bytes_eq}
 use Rattle.task_ids.specs.declared.cause.Cause.{Cause}
-use Rattle.task_ids.specs.declared.cause.Cause.TheVariants.{UnknownCommand, NotBuilt}
+use Rattle.task_ids.specs.declared.cause.Cause.TheVariants.{UnknownCommand}
 use Rattle.script_lang.specs.declared.kind.Kind.{Kind}
-use Rattle.script_lang.specs.declared.kind.Kind.TheVariants.{Search, Scroll, ClearScroll, Reindex, Cancel, ListTasks, Tick, Deliver, Step, ListStep, Settle, History}
-use Rattle.script_lang.specs.Names.{is_one_of}
-
--- the commands that are still to come
-abbrev pub later_commands : List (List ℕ)
-later_commands = codes "wait_for" ∷ codes "summary" ∷ codes "shuffle" ∷ []
+use Rattle.script_lang.specs.declared.kind.Kind.TheVariants.{Search, Scroll, ClearScroll, Reindex, Cancel, ListTasks, Tick, Deliver, Step, ListStep, Settle, Shuffle, WaitFor, History, Summary}
 
 abbrev pub kind_named : List ℕ → Result Kind Cause
 kind_named name =
@@ -24,8 +19,10 @@ kind_named name =
     (if bytes_eq name (codes "step") then Ok Step else
     (if bytes_eq name (codes "list_step") then Ok ListStep else
     (if bytes_eq name (codes "settle") then Ok Settle else
+    (if bytes_eq name (codes "shuffle") then Ok Shuffle else
+    (if bytes_eq name (codes "wait_for") then Ok WaitFor else
     (if bytes_eq name (codes "history") then Ok History else
-    (if is_one_of name later_commands then Err NotBuilt else Err UnknownCommand))))))))))))
+    (if bytes_eq name (codes "summary") then Ok Summary else Err UnknownCommand))))))))))))))
 
 -- it writes a schedule, which threads do not take
 abbrev pub is_schedule : Kind → Bool
@@ -40,4 +37,7 @@ is_schedule Deliver = true
 is_schedule Step = true
 is_schedule ListStep = true
 is_schedule Settle = true
+is_schedule Shuffle = true
+is_schedule WaitFor = false
 is_schedule History = true
+is_schedule Summary = true

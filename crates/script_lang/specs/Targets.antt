@@ -1,15 +1,15 @@
 -- What commands name: a cancel a task or tasks, a scroll and a clear a context.
-use Rattle.std.specs.Prelude.{ℕ, zero, suc, List, Bool, true, false, codes, Option, Some, None, is_some, option_and_then, Result, Ok, Err, if◌then◌else◌, slice_get}
+use Rattle.std.specs.Prelude.{ℕ, zero, suc, List, Bool, true, false, codes, Option, Some, None, is_some, is_none, option_and_then, Result, Ok, Err, if◌then◌else◌, slice_get}
 use Rattle.std.specs.Option.{ok_or, option_map_or}
 use Rattle.serde_json.specs.Data.{Data, Members}
 use Rattle.serde_json.specs.Find.{get_member, as_number, as_u64}
 use Rattle.task_ids.specs.declared.cause.Cause.{Cause}
-use Rattle.task_ids.specs.declared.cause.Cause.TheVariants.{BadField, BadReference}
+use Rattle.task_ids.specs.declared.cause.Cause.TheVariants.{BadField, BadReference, NotWaitable}
 use Rattle.shard_docs.specs.Fault.{◌>>=◌}
 use Rattle.script_lang.specs.declared.command.CancelTarget.{CancelTarget}
 use Rattle.script_lang.specs.declared.command.CancelTarget.TheVariants as targets
 use Rattle.script_lang.specs.declared.command.Command.{Command}
-use Rattle.script_lang.specs.declared.command.Command.TheVariants.{Search, Scroll, ClearScroll, Reindex, Cancel, ListTasks, Tick, Deliver, Step, ListStep, Settle, History}
+use Rattle.script_lang.specs.declared.command.Command.TheVariants.{Search, Scroll, ClearScroll, Reindex, Cancel, ListTasks, Tick, Deliver, Step, ListStep, Settle, Shuffle, WaitFor, History, Summary}
 use Rattle.script_lang.specs.declared.command.ContextTarget.{ContextTarget}
 use Rattle.script_lang.specs.declared.command.ContextTarget.TheVariants as contexts
 use Rattle.script_lang.specs.declared.targets.NamedFor.{NamedFor}
@@ -29,7 +29,10 @@ starts_task (Deliver nth) = false
 starts_task (Step task) = false
 starts_task (ListStep node parent) = false
 starts_task Settle = false
+starts_task (Shuffle seed moves) = false
+starts_task (WaitFor command) = false
 starts_task History = false
+starts_task Summary = false
 
 -- it is a search with a keep-alive
 abbrev pub opens_context : Command → Bool
@@ -44,12 +47,35 @@ opens_context (Deliver nth) = false
 opens_context (Step task) = false
 opens_context (ListStep node parent) = false
 opens_context Settle = false
+opens_context (Shuffle seed moves) = false
+opens_context (WaitFor command) = false
 opens_context History = false
+opens_context Summary = false
+
+-- Another command can wait for its answer: it is a search, a scroll, a cancel, or a reindex that writes as fast as it can.
+abbrev pub can_be_awaited : Command → Bool
+can_be_awaited (Search index node scroll body opaque_id) = true
+can_be_awaited (Scroll context keep opaque_id) = true
+can_be_awaited (ClearScroll context) = false
+can_be_awaited (Reindex node body slices rate opaque_id) = is_none rate
+can_be_awaited (Cancel target reason wait) = true
+can_be_awaited (ListTasks filter group detailed) = false
+can_be_awaited (Tick ms) = false
+can_be_awaited (Deliver nth) = false
+can_be_awaited (Step task) = false
+can_be_awaited (ListStep node parent) = false
+can_be_awaited Settle = false
+can_be_awaited (Shuffle seed moves) = false
+can_be_awaited (WaitFor command) = false
+can_be_awaited History = false
+can_be_awaited Summary = false
 
 -- a command has what it is named for
 abbrev pub allows : NamedFor → Command → Bool
 allows uses.Task command = starts_task command
 allows uses.Context command = opens_context command
+allows uses.Anything command = true
+allows uses.Answer command = can_be_awaited command
 
 -- one of the commands has this number, from 1, and passes a test
 abbrev pub is_at : (Command → Bool) → List Command → ℕ → Bool
@@ -94,3 +120,12 @@ context_of before (Some id) (Some command) = Err BadField
 -- the id of a search, or an earlier search with a keep-alive
 unfoldable pub context_in : List Command → Members → Result ContextTarget Cause
 context_in before fields = context_of before (get_member (codes "scroll_id") fields) (get_member (codes "command") fields)
+
+-- ---- the command that is waited for
+
+-- the number of an earlier command that can be awaited
+unfoldable pub awaited_in : List Command → Option Data → Result ℕ Cause
+awaited_in before None = Err BadField
+awaited_in before (Some value) = do
+  number ← reference_in (allows uses.Anything) before value
+  if is_at can_be_awaited before number then Ok number else Err NotWaitable

@@ -5,7 +5,7 @@ use tasks_api::{Filter, GroupBy};
 /// How a script runs: step by step in one order that it may choose, or on threads.
 #[derive(Clone, Copy, PartialEq, Eq)]
 pub enum Mode {
-    /// The script may write a schedule, by `deliver`, `step`, `list_step`, `settle` and `history`.
+    /// The script may write a schedule, by `deliver`, `step`, `list_step`, `settle`, `shuffle`, `history` and `summary`.
     Sim,
     /// The threads make the schedule.
     Run,
@@ -116,8 +116,22 @@ pub enum Command {
     },
     /// Makes moves until there is none.
     Settle,
+    /// Makes moves that look like chance.
+    Shuffle {
+        /// The number from which chance starts.
+        seed: u64,
+        /// How many moves it makes at most, up to 1,000,000.
+        moves: u32,
+    },
+    /// Waits until an earlier command has its answer.
+    WaitFor {
+        /// Its number, from 1: that of a search, a scroll, a cancel or a reindex without a rate.
+        command: u32,
+    },
     /// Tells the events so far.
     History,
+    /// Tells how many tasks and bans came and went so far.
+    Summary,
 }
 
 /// What was read of a script.

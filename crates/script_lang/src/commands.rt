@@ -11,18 +11,27 @@ ghost use Rattle.script_lang.specs.Commands as spec;
 use crate::cancels::cancel_in;
 use crate::command::{Command, Mode};
 use crate::error::CommandError;
-use crate::fields::{both, field, fields_of, node_in, number_in, task_in, time_in, truth_in};
+use crate::fields::{
+    both, field, fields_of, moves_in, needed_number, node_in, number_in, task_in, time_in, truth_in,
+};
 use crate::kind::Kind;
 use crate::lists::list_in;
 use crate::reindexes::reindex_in;
 use crate::scrolls::{clear_in, scroll_in};
 use crate::searches::search_in;
+use crate::targets::awaited_in;
 use serde_json::{Map, Value};
 use std::alloc::Global;
 use task_ids::Cause;
 
 /// The fields of a step of a listing.
 const LIST_STEP_FIELDS: [&str; 2] = ["node", "parent"];
+
+/// The fields of a shuffle.
+const SHUFFLE_FIELDS: [&str; 2] = ["seed", "moves"];
+
+/// The fields of a command that waits.
+const WAIT_FIELDS: [&str; 1] = ["command"];
 
 /// The key and the value, where there is one key.
 fn only_entry(members: &Map<String, Value>) -> Option<(&str, &Value)>
@@ -60,6 +69,29 @@ fn list_step_in(nodes: u32, value: &Value) -> Result<Command, Cause>
     Ok(Command::ListStep { node, parent })
 }
 
+/// Moves that look like chance.
+#[tactic(auto, unfolding(crate::specs::Commands::shuffle_in))]
+fn shuffle_in(value: &Value) -> Result<Command, Cause>
+    ensures { result ≡ spec.shuffle_in (view value.now) }
+{
+    let fields = fields_of(value, &SHUFFLE_FIELDS)?;
+    let seed = needed_number(field(fields, "seed"));
+    let moves = moves_in(field(fields, "moves"));
+    let (seed, moves) = both(seed, moves)?;
+    Ok(Command::Shuffle { seed, moves })
+}
+
+/// A command that waits for one of some commands.
+#[tactic(auto, unfolding(crate::specs::Commands::wait_in))]
+fn wait_in(before: &[Command], value: &Value) -> Result<Command, Cause>
+    requires { length before.now < 2 ^ 32 }
+    ensures { result ≡ spec.wait_in before.now (view value.now) }
+{
+    let fields = fields_of(value, &WAIT_FIELDS)?;
+    let command = awaited_in(before, field(fields, "command"))?;
+    Ok(Command::WaitFor { command })
+}
+
 /// A command of this kind, from what stands at its key, after other commands.
 fn command_of_kind(
     alloc: Global,
@@ -95,9 +127,15 @@ fn command_of_kind(
             truth_in(value)?;
             Ok(Command::Settle)
         }
+        Kind::Shuffle => Ok(shuffle_in(value)?),
+        Kind::WaitFor => Ok(wait_in(before, value)?),
         Kind::History => {
             truth_in(value)?;
             Ok(Command::History)
+        }
+        Kind::Summary => {
+            truth_in(value)?;
+            Ok(Command::Summary)
         }
     }
 }

@@ -18,6 +18,9 @@ const MAX_SLICES: u64 = 32;
 /// How many documents a reindex writes in a second at most, where it is bounded.
 const MAX_RATE: i64 = 1_000_000;
 
+/// How many moves a shuffle makes at most.
+const MAX_MOVES: u64 = 1_000_000;
+
 /// Where a cause stands in the order in which the causes of one line count.
 fn place_of(cause: Cause) -> u32
     ensures { result ≡ spec.place_of cause }
@@ -37,12 +40,11 @@ fn place_of(cause: Cause) -> u32
         Cause::UnknownCommand => 11,
         Cause::ScheduleLineInRun => 12,
         Cause::UnknownField => 13,
-        Cause::NotBuilt => 14,
-        Cause::BadField => 15,
-        Cause::BadTaskId => 16,
-        Cause::UnknownNode => 17,
-        Cause::BadReference => 18,
-        Cause::NotWaitable => 19,
+        Cause::BadField => 14,
+        Cause::BadTaskId => 15,
+        Cause::UnknownNode => 16,
+        Cause::BadReference => 17,
+        Cause::NotWaitable => 18,
     }
 }
 
@@ -273,6 +275,26 @@ pub(crate) fn rate_or_none(value: Option<&Value>) -> Result<Option<u32>, Cause>
             Some(rate) => rate_of(rate),
             None => Err(Cause::BadField),
         },
+    }
+}
+
+/// A number, which must be there.
+pub(crate) fn needed_number(value: Option<&Value>) -> Result<u64, Cause>
+    ensures { result ≡ spec.needed_number (option_map (λ v. view v.now) value.entry) }
+{
+    match value {
+        Some(value) => number_in(value),
+        None => Err(Cause::BadField),
+    }
+}
+
+/// How many moves a shuffle makes.
+pub(crate) fn moves_in(value: Option<&Value>) -> Result<u32, Cause>
+    ensures { result ≡ spec.moves_in (option_map (λ v. view v.now) value.entry) }
+{
+    match needed_number(value)? {
+        moves if moves <= MAX_MOVES => Ok(moves as u32),
+        _ => Err(Cause::BadField),
     }
 }
 

@@ -1,11 +1,7 @@
 ghost use Rattle.std.specs.Prelude.{◌≡◌};
 ghost use Rattle.script_lang.specs.Kinds.{kind_named, is_schedule};
 
-use crate::names::is_one_of;
 use task_ids::Cause;
-
-/// The commands that are still to come.
-const LATER_COMMANDS: [&str; 3] = ["wait_for", "summary", "shuffle"];
 
 /// The kind of a command, which the key of its line names.
 #[derive(Clone, Copy, PartialEq, Eq)]
@@ -21,11 +17,14 @@ pub(crate) enum Kind {
     Step,
     ListStep,
     Settle,
+    Shuffle,
+    WaitFor,
     History,
+    Summary,
 }
 
 impl Kind {
-    /// The kind of a name. It is refused where it is still to come, and where there is no such command.
+    /// The kind of a name. It is refused where there is no such command.
     pub(crate) fn named(name: &str) -> Result<Kind, Cause>
         ensures { result ≡ kind_named name.now }
     {
@@ -41,8 +40,10 @@ impl Kind {
             "step" => Ok(Kind::Step),
             "list_step" => Ok(Kind::ListStep),
             "settle" => Ok(Kind::Settle),
+            "shuffle" => Ok(Kind::Shuffle),
+            "wait_for" => Ok(Kind::WaitFor),
             "history" => Ok(Kind::History),
-            _ if is_one_of(name, &LATER_COMMANDS) => Err(Cause::NotBuilt),
+            "summary" => Ok(Kind::Summary),
             _ => Err(Cause::UnknownCommand),
         }
     }
@@ -58,8 +59,15 @@ impl Kind {
             | Kind::Reindex
             | Kind::Cancel
             | Kind::ListTasks
-            | Kind::Tick => false,
-            Kind::Deliver | Kind::Step | Kind::ListStep | Kind::Settle | Kind::History => true,
+            | Kind::Tick
+            | Kind::WaitFor => false,
+            Kind::Deliver
+            | Kind::Step
+            | Kind::ListStep
+            | Kind::Settle
+            | Kind::Shuffle
+            | Kind::History
+            | Kind::Summary => true,
         }
     }
 }

@@ -47,8 +47,7 @@ fn command_of_line(
 /// Elasticsearch's search, task management and cancellation APIs.
 ///
 /// The error is the first bad line and the first of its causes in the order of `Cause`, over all fields of the line, or
-/// want of memory. `NotBuilt` stands in the place of `UnknownCommand` for a command that is still to come. A body may be
-/// any object.
+/// want of memory. A body may be any object.
 pub fn read_script(
     alloc: Global,
     bytes: &[u8],

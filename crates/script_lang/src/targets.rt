@@ -1,6 +1,6 @@
 //! What a cancel names, and how a command names an earlier one.
 
-ghost use Rattle.std.specs.Prelude.{◌≡◌, ◌<◌, ◌^◌, length, Ok};
+ghost use Rattle.std.specs.Prelude.{◌≡◌, ◌<◌, ◌^◌, length, option_map, Ok};
 ghost use Rattle.serde_json.specs.View.{view, members_view};
 ghost use Rattle.script_lang.specs.Answers.{Reads};
 ghost use Rattle.script_lang.specs.Fields.{seen};
@@ -30,6 +30,10 @@ pub(crate) enum NamedFor {
     Task,
     /// The context that its search opened.
     Context,
+    /// Whatever it is.
+    Anything,
+    /// Its answer, which comes without the clock being moved.
+    Answer,
 }
 
 impl NamedFor {
@@ -43,6 +47,12 @@ impl NamedFor {
                 Command::Search { .. } | Command::Scroll { .. } | Command::Reindex { .. },
             ) => true,
             (NamedFor::Context, Command::Search { scroll, .. }) => scroll.is_some(),
+            (NamedFor::Anything, _) => true,
+            (
+                NamedFor::Answer,
+                Command::Search { .. } | Command::Scroll { .. } | Command::Cancel { .. },
+            ) => true,
+            (NamedFor::Answer, Command::Reindex { rate, .. }) => rate.is_none(),
             _ => false,
         }
     }
@@ -112,5 +122,22 @@ pub(crate) fn target_from(
         NamedTarget::Task(task) => Ok(CancelTarget::Task(task)),
         NamedTarget::Command(number) => Ok(CancelTarget::Command(number)),
         NamedTarget::Matching(filter) => Ok(CancelTarget::Matching(filter_from(alloc, filter)?)),
+    }
+}
+
+/// The number of an earlier command that can be waited for, which must be there.
+#[tactic(auto, unfolding(crate::specs::Targets::awaited_in))]
+pub(crate) fn awaited_in(before: &[Command], value: Option<&Value>) -> Result<u32, Cause>
+    requires { length before.now < 2 ^ 32 }
+    ensures { result ≡ spec.awaited_in before.now (option_map (λ v. view v.now) value.entry) }
+{
+    let Some(value) = value else {
+        return Err(Cause::BadField);
+    };
+    let number = reference_in(NamedFor::Anything, before, value)?;
+    if is_at(NamedFor::Answer, before, number as u64) {
+        Ok(number)
+    } else {
+        Err(Cause::NotWaitable)
     }
 }
