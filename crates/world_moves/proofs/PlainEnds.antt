@@ -1,4 +1,4 @@
--- A search that ends replies with the plain answer, and so does a page; a query that ends read its shard in time; and a reindex that ends replies with what it has counted.
+-- A search that ends replies with the plain answer, and so does a page; a query that ends read its shard in time; and a task that writes replies with what it has counted.
 use Rattle.std.proofs.Common.{◌≡◌, ◌+◌, ℕ, zero, suc, true, Bool, false, cond, List, [], ◌∷◌, map, length, Option, Some, None, refl, sym, ap, subst, ◌∙◌, arith}
 use Rattle.std.specs.Prelude.{slice_get, is_some}
 use Rattle.std.specs.List.{AllByRecursion, range_with_len}
@@ -14,6 +14,9 @@ use Rattle.task_events.specs.declared.context.Context.{Context}
 use Rattle.task_events.specs.declared.reading.ShardRead.{ShardRead}
 use Rattle.task_events.specs.declared.request.Request.{Request}
 use Rattle.task_events.specs.declared.request.ReindexAsk.{ReindexAsk}
+use Rattle.task_events.specs.declared.request.SliceAsk.{SliceAsk}
+use Rattle.task_events.specs.declared.request.BulkAsk.{BulkAsk}
+use Rattle.task_events.specs.declared.request.BulkShardAsk.{BulkShardAsk}
 use Rattle.task_events.specs.declared.request.Request.TheVariants as asks
 use Rattle.task_events.specs.declared.request.ShardAsk.{ShardAsk}
 use Rattle.task_events.specs.declared.reply.Counts.{Counts}
@@ -39,6 +42,7 @@ use Rattle.search_phase.specs.Searching.{Searching, IsHonest, AllHonest, reply_o
 use Rattle.search_phase.proofs.Plain.{answer_of_top, honest_search_is_plain}
 use Rattle.search_phase.proofs.Requests.{HasEnded, ended, list_all-slice_get, request_of_query}
 use Rattle.reindex.specs.declared.root.ReindexRoot.TheVariants.{Alone, Cut}
+use Rattle.reindex.specs.Writing.{writing_counts}
 use Rattle.task_work.specs.declared.work.Work.{Work}
 use Rattle.task_work.specs.declared.work.Work.TheVariants as works
 use Rattle.task_work.specs.Works.{counts_of, next_of}
@@ -49,7 +53,8 @@ use Rattle.world_moves.specs.declared.flight.Sent.{Sent}
 use Rattle.world_moves.specs.Facts.{facts_of, awaited_by, requested_by}
 use Rattle.world_moves.specs.Plain.{EndsPlainly, IsPlainReply, IsPlainPage, ReadsInTime, AnswersPlainly, read_by}
 use Rattle.world_moves.specs.QueryRuns.{RunsQuery}
-use Rattle.world_moves.specs.ReindexRuns.{RunsReindex}
+use Rattle.world_moves.specs.BulkRuns.{RunsBulk, RunsPart}
+use Rattle.world_moves.specs.ReindexRuns.{RunsReindex, RunsSlice}
 use Rattle.world_moves.specs.SearchRuns.{SearchesFor, RunsPage}
 use Rattle.world_moves.specs.Ties.{Ties, WorksFor, version_from, progress_from}
 use Rattle.world_moves.specs.Good.{so_far, own_writes, writes_for}
@@ -57,6 +62,7 @@ use Rattle.world_moves.proofs.AsksCounted.{requested_at}
 use Rattle.world_moves.proofs.AsksFor.{asks_first, answer_told, first_at}
 use Rattle.world_moves.proofs.ByPlace.{all_here, all_joined}
 use Rattle.world_moves.proofs.CountsKept.{counted_so}
+use Rattle.world_moves.proofs.LookingLaws.{work_ends}
 use Rattle.world_moves.proofs.SearchLaws.{search_ends}
 use Rattle.world_moves.proofs.Numbered.{is_searching}
 use Rattle.world_moves.proofs.ReadInTime.{version_told, found_in_time}
@@ -194,6 +200,19 @@ module _ (cluster : Cluster) (corpus : Corpus) (script : Script) (h : List Event
   reindex_end ask asked came (works.Reindex (Cut c)) looked now end x e = (search_ends _ _ (Wrote c.counts) end e).1
   reindex_end ask asked came _ looked now end x e = absurd x
 
+  slice_end : (ask : SliceAsk) (asked : List Asked) (came : List ℕ) (w : Work) (looked : List Doc) (now : ℕ) (end : Reply) → RunsSlice cluster.shards t asked came (requested_by t h) (awaited_by t h) ask w
+      → next_of w looked now ≡ Finish end → end ≡ Wrote (counts_of w)
+  slice_end ask asked came (works.Slice s) looked now end x e = slices.ends_so cluster (look h) t ask.reindex ask.slice asked came (requested_by t h) (awaited_by t h) s x now end e
+  slice_end ask asked came _ looked now end x e = absurd x
+
+  bulk_end : (ask : BulkAsk) (asked : List Asked) (w : Work) (looked : List Doc) (now : ℕ) (end : Reply) → RunsBulk cluster.shards asked (requested_by t h) (awaited_by t h) ask w → next_of w looked now ≡ Finish end → end ≡ Wrote (counts_of w)
+  bulk_end ask asked (works.Bulk b) looked now end x e = (search_ends _ _ (Wrote b.counts) end e).1
+  bulk_end ask asked _ looked now end x e = absurd x
+
+  part_end : (ask : BulkShardAsk) (p : Progress) (w : Work) (looked : List Doc) (now : ℕ) (end : Reply) → RunsPart cluster p (awaited_by t h) ask w → next_of w looked now ≡ Finish end → end ≡ Wrote (counts_of w)
+  part_end ask p (works.BulkShard w) looked now end x e = work_ends _ (Wrote (writing_counts w)) end e
+  part_end ask p _ looked now end x e = absurd x
+
   kind_end : (p : Progress) (counts : Counts) (o : Option Request) (w : Work) (looked : List Doc) (now : ℕ) (end : Reply) → p.asked ≡ asked_by t h → p.version ≡ version_from cluster look o (before_first_turn t h)
       → counts ≡ counts_of w → WorksFor cluster (look h) t false p (requested_by t h) (awaited_by t h) o w → next_of w looked now ≡ Finish end → EndsPlainly cluster look t p.page None counts o h end
   kind_end p counts None w looked now end asked began has x e = absurd x
@@ -204,9 +223,9 @@ module _ (cluster : Cluster) (corpus : Corpus) (script : Script) (h : List Event
   kind_end p counts (Some (asks.Query ask)) w looked now end asked began has x e = query_end ask p.version p.turns (awaited_by t h) w looked now end began x e
   kind_end p counts (Some (asks.Fetch ask)) w looked now end asked began has x e = tt
   kind_end p counts (Some (asks.Reindex ask)) w looked now end asked began has x e = reindex_end ask p.asked p.came w looked now end x e ∙ ap Wrote (sym has)
-  kind_end p counts (Some (asks.Slice ask)) w looked now end asked began has x e = tt
-  kind_end p counts (Some (asks.Bulk ask)) w looked now end asked began has x e = tt
-  kind_end p counts (Some (asks.BulkShard ask)) w looked now end asked began has x e = tt
+  kind_end p counts (Some (asks.Slice ask)) w looked now end asked began has x e = slice_end ask p.asked p.came w looked now end x e ∙ ap Wrote (sym has)
+  kind_end p counts (Some (asks.Bulk ask)) w looked now end asked began has x e = bulk_end ask p.asked w looked now end x e ∙ ap Wrote (sym has)
+  kind_end p counts (Some (asks.BulkShard ask)) w looked now end asked began has x e = part_end ask p w looked now end x e ∙ ap Wrote (sym has)
   kind_end p counts (Some (asks.Search ask)) _ looked now end asked began has x e = absurd x
 
 module _ (cluster : Cluster) (corpus : Corpus) (script : Script) (h : List Event) (tasks : TaskId → Option Running) (tables : List Table) (flight : List Sent) (ties : Ties cluster corpus script h tasks tables flight) where

@@ -1,4 +1,4 @@
--- What each search and each page that has ended replied: the plain answer; and what each reindex did: what it has counted.
+-- What each search and each page that has ended replied: the plain answer; and what each reindex did, and each task that it asked to write: what it has counted.
 use Rattle.std.specs.Prelude.{◌≡◌, ℕ, Bool, List, [], ◌∷◌, length, map, filter, slice_get, Option, Some, None, option_map, option_and_then, ⊤}
 use Rattle.std.specs.Option.{option_or}
 use Rattle.task_ids.specs.declared.task_id.TaskId.{TaskId}
@@ -7,7 +7,7 @@ use Rattle.task_ids.specs.declared.corpus.Corpus.{Corpus}
 use Rattle.task_events.specs.declared.context.Context.{Context}
 use Rattle.task_events.specs.declared.reading.ShardRead.{ShardRead}
 use Rattle.task_events.specs.declared.request.Request.{Request}
-use Rattle.task_events.specs.declared.request.Request.TheVariants.{Search, Scroll, Query, Reindex}
+use Rattle.task_events.specs.declared.request.Request.TheVariants.{Search, Scroll, Query, Reindex, Slice, Bulk, BulkShard}
 use Rattle.task_events.specs.declared.request.ShardAsk.{ShardAsk}
 use Rattle.task_events.specs.declared.reply.Counts.{Counts}
 use Rattle.task_events.specs.declared.reply.FailedShard.{FailedShard}
@@ -64,9 +64,12 @@ EndsPlainly cluster look t page None counts (Some (Search ask)) h reply = IsPlai
 EndsPlainly cluster look t page None counts (Some (Scroll ask)) h reply = IsPlainPage cluster look t page h reply
 EndsPlainly cluster look t page None counts (Some (Query ask)) h reply = ReadsInTime cluster look t ask h reply
 EndsPlainly cluster look t page None counts (Some (Reindex ask)) h reply = reply ≡ Wrote counts
+EndsPlainly cluster look t page None counts (Some (Slice ask)) h reply = reply ≡ Wrote counts
+EndsPlainly cluster look t page None counts (Some (Bulk ask)) h reply = reply ≡ Wrote counts
+EndsPlainly cluster look t page None counts (Some (BulkShard ask)) h reply = reply ≡ Wrote counts
 EndsPlainly cluster look t page None counts _ h reply = ⊤
 
--- Each search that has ended replied with the plain answer, and each page of one too, and each reindex with what it has counted, unless it was cancelled.
+-- Each search that has ended replied with the plain answer, and each page of one too, and each task that writes with what it has counted, unless it was cancelled.
 abbrev pub AnswersPlainly : Cluster → Corpus → Script → List Event → Type 0
 AnswersPlainly cluster corpus script [] = ⊤
 AnswersPlainly cluster corpus script (End t reply ∷ h) =

@@ -5,8 +5,8 @@ ghost use Rattle.world_moves.specs.Flights.{is_request_entry, is_answer_entry, n
 
 use child_track::{AskToken, Receipt};
 use node_parts::notice::Notice;
+use ranked::Queue;
 use std::alloc::{AllocFailed, Global};
-use std::collections::VecDeque;
 use std::marker::Model;
 use task_ids::Headers;
 
@@ -79,11 +79,10 @@ impl Drop for Sent {
     }
 }
 
-/// The messages in flight, in the order of their sending. Any of them can be taken out; near either end that costs
-/// no more than its distance from there.
+/// The messages in flight, in the order of their sending. Any of them can be taken out without a walk over the others.
 #[derive(Drop)]
 pub struct Flight {
-    queue: VecDeque<Sent>,
+    queue: Queue<Sent>,
 }
 
 impl Model for Flight {
@@ -92,7 +91,7 @@ impl Model for Flight {
 
     ghost Value = { List Sent };
 
-    ghost view = { λ a. a.queue.items };
+    ghost view = { λ a. a.queue };
 }
 
 impl Flight {
@@ -101,7 +100,7 @@ impl Flight {
         ensures { result ≡ [] }
     {
         Flight {
-            queue: VecDeque::new(alloc),
+            queue: Queue::new(alloc),
         }
     }
 
@@ -144,6 +143,6 @@ impl Flight {
         ensures rest { OnSome result (self.new ≡ remove self.old nth) }
         ensures none { IfNone result (self.new ≡ self.old) }
     {
-        self.queue.remove(nth)
+        self.queue.take(nth)
     }
 }

@@ -4,10 +4,11 @@ use cancel_core::CancelCore;
 use corpus_shards::Shards;
 use node_parts::listing::Listing;
 use node_parts::running::Running;
+use ranked::RankedSet;
 use script_lang::Script;
 use scroll_table::ScrollTable;
 use std::alloc::Global;
-use std::collections::{BTreeMap, BTreeSet};
+use std::collections::BTreeMap;
 use task_events::History;
 use task_ids::{Cluster, Corpus, TaskId};
 use task_table::TaskTable;
@@ -44,6 +45,6 @@ pub struct State<'a> {
     pub cores: Vec<CancelCore>,
     /// At how many of the tasks that it named each cancel waits.
     pub left: BTreeMap<u32, usize>,
-    /// The open listings.
-    pub listings: BTreeSet<Listing>,
+    /// The open listings, in order.
+    pub listings: RankedSet<Listing>,
 }
