@@ -20,7 +20,7 @@ use Rattle.task_events.specs.declared.event.Event.TheVariants.{Begin}
 use Rattle.task_events.specs.declared.request.Request.TheVariants as asks
 use Rattle.script_lang.specs.declared.command.ContextTarget.{ContextTarget}
 use Rattle.script_lang.specs.declared.command.Command.{Command}
-use Rattle.script_lang.specs.declared.command.Command.TheVariants.{Search, Scroll, ClearScroll, Reindex, Cancel, ListTasks, Tick, Deliver, Step, ListStep, Settle, History}
+use Rattle.script_lang.specs.declared.command.Command.TheVariants.{Search, Scroll, ClearScroll, Reindex, Cancel, ListTasks, Tick, Deliver, Step, ListStep, Settle, Shuffle, WaitFor, History, Summary}
 use Rattle.script_lang.specs.declared.command.Script.{Script}
 use Rattle.script_lang.specs.KeepAlives.{day_ms}
 use Rattle.world_moves.specs.Moves.{Delivers, IsPartly, Starts}
@@ -35,6 +35,7 @@ use Rattle.world_steps.specs.declared.acting.Stepped.{Stepped}
 use Rattle.world_steps.specs.declared.acting.Stepped.TheVariants.{Done}
 use Rattle.node_parts.specs.declared.listing.Listing.{Listing}
 use Rattle.world_moves.specs.Listings.{ListSteps}
+use Rattle.world_steps.specs.Shuffling.{PartlyShuffles}
 use Rattle.world_steps.specs.Scripts.{CanDo, CanRun, can_copy, can_start, closing, error_in, DeliversWhere, ListsWhere, StartsWhere, PartlyDoes, PartlyCommands, PartlyDrains}
 
 -- a part of a delivery is one of a delivery where there is a message
@@ -63,6 +64,11 @@ can_do nodes [] all place command at = absurd (cc)
 can_do nodes (first ∷ more) all zero command at = let same : first ≡ command = cc in subst (CanDo nodes) same all.0
 can_do nodes (first ∷ more) all (suc place) command at = can_do nodes more all.1 place command at
 
+-- a shuffle that has made no move yet has made a part
+none_shuffled : (cluster : Cluster) (corpus : Corpus) (script : Script) (seed moves : ℕ) (h new : List Event) → new ≡ h → PartlyShuffles cluster corpus script seed moves h new
+none_shuffled cluster corpus script seed zero h new same = same
+none_shuffled cluster corpus script seed (suc more) h new same = inl (inl same)
+
 -- a command that has done nothing yet has done a part
 pub nothing_done : (cluster : Cluster) (corpus : Corpus) (script : Script) (k : ℕ) (command : Command) (h new : List Event) → new ≡ h → PartlyDoes cluster corpus script k command h new
 nothing_done cluster corpus script k (Search index node scroll body opaque_id) h new same = inl same
@@ -76,7 +82,10 @@ nothing_done cluster corpus script k (Deliver nth) h new same = inl same
 nothing_done cluster corpus script k (Step task) h new same = inl same
 nothing_done cluster corpus script k (ListStep node parent) h new same = inl same
 nothing_done cluster corpus script k Settle h new same = ([], h, refl, inl same)
+nothing_done cluster corpus script k (Shuffle seed moves) h new same = none_shuffled cluster corpus script seed moves h new same
+nothing_done cluster corpus script k (WaitFor command) h new same = ([], h, refl, inl same)
 nothing_done cluster corpus script k History h new same = inl same
+nothing_done cluster corpus script k Summary h new same = inl same
 
 -- the command of a number
 pub at_number : (script : Script) (k : ℕ) (command : Command) → 1 ≤ k → slice_get script.commands (k - 1) ≡ Some command → command_at script k ≡ Some command

@@ -19,7 +19,7 @@ use Rattle.task_events.specs.Messages.Message.{Request, Answer, Ban, Ack, Unban}
 use Rattle.task_events.specs.Tasks.{live_on, last_number, parent_of}
 use Rattle.task_laws.proofs.Same.{same_fields}
 use Rattle.script_lang.specs.declared.command.Command.{Command}
-use Rattle.script_lang.specs.declared.command.Command.TheVariants.{Search, Scroll, ClearScroll, Reindex, Cancel, ListTasks, Tick, Deliver, Step, ListStep, Settle, History}
+use Rattle.script_lang.specs.declared.command.Command.TheVariants.{Search, Scroll, ClearScroll, Reindex, Cancel, ListTasks, Tick, Deliver, Step, ListStep, Settle, Shuffle, WaitFor, History, Summary}
 use Rattle.script_lang.specs.declared.command.Script.{Script}
 use Rattle.world_steps.specs.declared.acting.Stepped.{Stepped}
 use Rattle.world_steps.specs.declared.acting.Stepped.TheVariants.{Done, Waiting, NotRunning}
@@ -27,7 +27,12 @@ use Rattle.node_parts.specs.declared.listing.Listing.{Listing}
 use Rattle.world_moves.specs.Cancels.{with_due}
 use Rattle.world_moves.specs.Listings.{IsNextChild, IsListStep, ListSteps}
 use Rattle.world_moves.specs.Moves.{IsDelivery, Delivers, IsStart, Starts}
-use Rattle.world_steps.proofs.ListingKeys.{one_listing}
+use Rattle.std.proofs.lemmas.Map.Lookups.{btree_set_from_contains}
+use Rattle.script_lang.specs.Generator.{next_number}
+use Rattle.world_steps.specs.declared.shuffling.Move.{Move}
+use Rattle.world_steps.specs.declared.shuffling.Move.TheVariants as moves
+use Rattle.world_steps.specs.Shuffling.{CanMove, Chooses, Makes, Shuffles, chosen_of, moves_of}
+use Rattle.world_steps.proofs.ListingKeys.{exact_listings, listings_total, one_listing}
 use Rattle.command_roots.specs.Roots.{command_at}
 use Rattle.world_steps.specs.Draining.{IsNextDue, NoneLive, StartsAgain, Empties, ticked_to}
 use Rattle.world_steps.specs.Runs.{after_step, Steps, AnswersStep, FirstMoves, IsSettled, Passes, Settles}
@@ -223,6 +228,45 @@ module _ (cluster : Cluster) (corpus : Corpus) (script : Script) where
   settles_one : (h new other : List Event) → Settles cluster corpus script h new → Settles cluster corpus script h other → new ≡ other
   settles_one h new other (s, (between, p)) (t, (others, q)) = passes_one h between new others other p s q t
 
+  -- ---- shuffles
+
+  -- the open listings in order are one list, and so are the tasks that do not wait
+  one_listings : (ls ms : List Listing) (ts us : List TaskId) (h : List Event) → CanMove cluster corpus script ls ts h → CanMove cluster corpus script ms us h → ls ≡ ms
+  one_listings ls ms ts us h a b =
+      btree_set_from_contains listings_total (record { keys = ls }) (record { keys = ms }) a.listings_ascend b.listings_ascend (λ l. a.listings_open l ∙ sym (b.listings_open l)) exact_listings
+
+  one_tasks : (ls ms : List Listing) (ts us : List TaskId) (h : List Event) → CanMove cluster corpus script ls ts h → CanMove cluster corpus script ms us h → ts ≡ us
+  one_tasks ls ms ts us h a b =
+      btree_set_from_contains ids_total (record { keys = ts }) (record { keys = us }) a.tasks_ascend b.tasks_ascend (λ t. a.tasks_ready t ∙ sym (b.tasks_ready t)) exact_ids
+
+  chooses_one : (chance : ℕ) (m n : Move) (h : List Event) → Chooses cluster corpus script chance m h → Chooses cluster corpus script chance n h → m ≡ n
+  chooses_one chance m n h (ls, ts, can, at) (ms, us, can_too, at_too) =
+      let listings = one_listings ls ms ts us h can can_too in
+      let tasks = one_tasks ls ms ts us h can can_too in
+      let same : moves_of h ls ts ≡ moves_of h ms us = λ i. moves_of h (listings i) (tasks i) in
+      some_one (slice_get (moves_of h ls ts) (chosen_of chance (length (moves_of h ls ts)))) m n at (ap (λ all. slice_get all (chosen_of chance (length all))) same ∙ at_too)
+
+  makes_one : (move : Move) (h new other : List Event) → Makes cluster corpus script move h new → Makes cluster corpus script move h other → new ≡ other
+  makes_one (moves.Deliver nth) h new other a b = delivers_one cluster h nth new other a b
+  makes_one (moves.List l) h new other a b = lists_one cluster h l new other a b
+  makes_one (moves.Step t) h new other a b = steps_one t h new other a b
+
+  -- where all has settled no move can be made
+  settled_makes_none : (move : Move) (h new : List Event) → IsSettled cluster corpus script h → Makes cluster corpus script move h new → ⊥
+  settled_makes_none (moves.Deliver nth) h new s d = none_delivered cluster h nth new (rw s.nothing_in_flight (omega arith)) d
+  settled_makes_none (moves.List l) h new s (e, opened, is, same) = let closed = s.no_listing l in cc (opened, closed)
+  settled_makes_none (moves.Step t) h new s (e, live, next, same) = none_some _ e (s.all_wait t live) next
+
+  shuffles_one : (chance count : ℕ) (h new other : List Event) → Shuffles cluster corpus script chance count h new → Shuffles cluster corpus script chance count h other → new ≡ other
+  shuffles_one chance zero h new other same same_too = same ∙ sym same_too
+  shuffles_one chance (suc more) h new other (inl (s, same)) (inl (t, same_too)) = same ∙ sym same_too
+  shuffles_one chance (suc more) h new other (inl (s, same)) (inr (next, (move, chosen, made), later)) = absurd (settled_makes_none move h next s made)
+  shuffles_one chance (suc more) h new other (inr (next, (move, chosen, made), later)) (inl (s, same)) = absurd (settled_makes_none move h next s made)
+  shuffles_one chance (suc more) h new other (inr (next, (move, chosen, made), later)) (inr (step, (n, chosen_too, made_too), later_too)) =
+      let one : n ≡ move = chooses_one (next_number chance) n move h chosen_too chosen in
+      let same : step ≡ next = makes_one move h step next (subst (λ m. Makes cluster corpus script m h step) one made_too) made in
+      shuffles_one (next_number chance) more next new other later (subst (λ x. Shuffles cluster corpus script (next_number chance) more x other) same later_too)
+
   -- ---- draining
 
   -- the soonest moment is one
@@ -280,7 +324,10 @@ module _ (cluster : Cluster) (corpus : Corpus) (script : Script) where
   does_one k (Step task) h new other (a, s) (b, t) = answers_one task h new other a b s t
   does_one k (ListStep node parent) h new other a b = lists_where_one cluster h (record { node = node; parent = parent }) new other a b
   does_one k Settle h new other a b = settles_one h new other a b
+  does_one k (Shuffle seed moves) h new other a b = shuffles_one seed moves h new other a b
+  does_one k (WaitFor command) h new other a b = settles_one h new other a b
   does_one k History h new other a b = a ∙ sym b
+  does_one k Summary h new other a b = a ∙ sym b
 
   commands_one : (k : ℕ) (h new other : List Event) → Commands cluster corpus script k h new → Commands cluster corpus script k h other → new ≡ other
   commands_one k h new other (c, at, a) (d, at_too, b) =

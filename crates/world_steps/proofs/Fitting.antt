@@ -1,7 +1,7 @@
 -- The commands that are read of a script are those that the world can do.
 use Rattle.std.proofs.Common.{ℕ, List, [], ◌∷◌, ◌++◌}
 use Rattle.script_lang.specs.declared.command.Command.{Command}
-use Rattle.script_lang.specs.declared.command.Command.TheVariants.{Search, Scroll, ClearScroll, Reindex, Cancel, ListTasks, Tick, Deliver, Step, ListStep, Settle, History}
+use Rattle.script_lang.specs.declared.command.Command.TheVariants.{Search, Scroll, ClearScroll, Reindex, Cancel, ListTasks, Tick, Deliver, Step, ListStep, Settle, Shuffle, WaitFor, History, Summary}
 use Rattle.script_lang.specs.Fits.{Fits, AllFit}
 use Rattle.world_steps.specs.Scripts.{CanDo, CanRun}
 
@@ -17,7 +17,10 @@ one_can nodes before (Deliver nth) fits = tt
 one_can nodes before (Step task) fits = tt
 one_can nodes before (ListStep node parent) fits = tt
 one_can nodes before Settle fits = tt
+one_can nodes before (Shuffle seed moves) fits = tt
+one_can nodes before (WaitFor waited) fits = tt
 one_can nodes before History fits = tt
+one_can nodes before Summary fits = tt
 
 pub all_can : (nodes : ℕ) (before commands : List Command) → AllFit nodes before commands → CanRun nodes commands
 all_can nodes before [] fits = tt

@@ -27,7 +27,7 @@ use Rattle.task_events.specs.Requests.{Scripted, request_of}
 use Rattle.task_events.specs.Asks.{request_of_ask}
 use Rattle.task_events.specs.Same.{same_task, same_pair}
 use Rattle.script_lang.specs.declared.command.Command.{Command}
-use Rattle.script_lang.specs.declared.command.Command.TheVariants.{Search, Scroll, ClearScroll, Reindex, Cancel, ListTasks, Tick, Deliver, Step, ListStep, Settle, History}
+use Rattle.script_lang.specs.declared.command.Command.TheVariants.{Search, Scroll, ClearScroll, Reindex, Cancel, ListTasks, Tick, Deliver, Step, ListStep, Settle, Shuffle, WaitFor, History, Summary}
 use Rattle.script_lang.specs.declared.command.Script.{Script}
 use Rattle.command_roots.specs.Roots.{scripted, command_at, root_request, request_in, context_named, reindex_of, search_ask, body_or_none, least_size}
 use Rattle.search_phase.proofs.Sorting.{by_test}
@@ -150,7 +150,10 @@ command_shown (Deliver nth) h ask e opens = absurd (cc)
 command_shown (Step task) h ask e opens = absurd (cc)
 command_shown (ListStep node parent) h ask e opens = absurd (cc)
 command_shown Settle h ask e opens = absurd (cc)
+command_shown (Shuffle seed moves) h ask e opens = absurd (cc)
+command_shown (WaitFor waited) h ask e opens = absurd (cc)
 command_shown History h ask e opens = absurd (cc)
+command_shown Summary h ask e opens = absurd (cc)
 
 root_shown : (script : Script) (k : ℕ) (h : List Event) (ask : SearchAsk) → root_request script k h ≡ Some (asks.Search ask) → opens_context ask ≡ true → ShowsFromFirst ask
 root_shown script k h ask e opens = of_command (command_at script k) e

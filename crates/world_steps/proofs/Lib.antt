@@ -2,6 +2,7 @@ pub mod AlarmKeys
 pub mod AllAnswered
 pub mod AllShown
 pub mod BansOver
+pub mod Chosen
 pub mod Commanded
 pub mod CursorCuts
 pub mod Cutting
@@ -35,6 +36,7 @@ pub mod Readiness
 pub mod Resting
 pub mod RootsAfter
 pub mod ShardsAnswered
+pub mod Shuffled
 pub mod Soon
 pub mod Stances
 pub mod TargetsLive

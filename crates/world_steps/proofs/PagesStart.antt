@@ -8,7 +8,7 @@ use Rattle.task_ids.specs.declared.cluster.Cluster.{Cluster}
 use Rattle.task_ids.specs.declared.corpus.Corpus.{Corpus}
 use Rattle.task_ids.specs.declared.task_id.TaskId.{TaskId}
 use Rattle.script_lang.specs.declared.command.Command.{Command}
-use Rattle.script_lang.specs.declared.command.Command.TheVariants.{Search, Scroll, ClearScroll, Reindex, Cancel, ListTasks, Tick, Deliver, Step, ListStep, Settle, History}
+use Rattle.script_lang.specs.declared.command.Command.TheVariants.{Search, Scroll, ClearScroll, Reindex, Cancel, ListTasks, Tick, Deliver, Step, ListStep, Settle, Shuffle, WaitFor, History, Summary}
 use Rattle.script_lang.specs.declared.command.Script.{Script}
 use Rattle.task_events.specs.declared.context.Context.{Context}
 use Rattle.task_events.specs.declared.event.Event.{Event}
@@ -82,7 +82,10 @@ of_command (Deliver nth) h r e = absurd (cc)
 of_command (Step task) h r e = absurd (cc)
 of_command (ListStep node parent) h r e = absurd (cc)
 of_command Settle h r e = absurd (cc)
+of_command (Shuffle seed moves) h r e = absurd (cc)
+of_command (WaitFor waited) h r e = absurd (cc)
 of_command History h r e = absurd (cc)
+of_command Summary h r e = absurd (cc)
 
 pub root_of_nobody : (script : Script) (k : ℕ) (h : List Event) (r : Request) → root_request script k h ≡ Some r → IsOfNobody r
 root_of_nobody script k h r asked = at_command (command_at script k) asked

@@ -1,5 +1,5 @@
 -- No move begins a command, so what a command does is its turn.
-use Rattle.std.proofs.Common.{cond, ◌≡◌, ℕ, Bool, reverse, map, true, false, ◌||◌, List, [], ◌∷◌, ◌++◌, Option, Some, None, refl, sym, ap, subst, ◌∙◌, inl, inr, ◌-◌}
+use Rattle.std.proofs.Common.{cond, ◌≡◌, ℕ, zero, suc, Bool, reverse, map, true, false, ◌||◌, List, [], ◌∷◌, ◌++◌, Option, Some, None, refl, sym, ap, subst, ◌∙◌, inl, inr, ◌-◌}
 use Rattle.std.specs.Prelude.{option_map, is_some, if◌then◌else◌}
 use Rattle.std.specs.List.{list_any}
 use Rattle.std.specs.Option.{option_map_or}
@@ -27,7 +27,7 @@ use Rattle.task_events.specs.Tasks.{is_live, is_new}
 use Rattle.task_events.specs.Turns.{is_begin}
 use Rattle.script_lang.specs.declared.command.Script.{Script}
 use Rattle.script_lang.specs.declared.command.Command.{Command}
-use Rattle.script_lang.specs.declared.command.Command.TheVariants.{Search, Scroll, ClearScroll, Reindex, Cancel, ListTasks, Tick, Deliver, Step, ListStep, Settle, History}
+use Rattle.script_lang.specs.declared.command.Command.TheVariants.{Search, Scroll, ClearScroll, Reindex, Cancel, ListTasks, Tick, Deliver, Step, ListStep, Settle, Shuffle, WaitFor, History, Summary}
 use Rattle.world_steps.specs.declared.acting.Stepped.{Stepped}
 use Rattle.world_steps.specs.declared.acting.Stepped.TheVariants.{Done, Waiting, NotRunning}
 use Rattle.script_lang.specs.declared.command.CancelTarget.{CancelTarget}
@@ -40,7 +40,11 @@ use Rattle.world_moves.specs.Listings.{AnswersListing, IsListStep, ListSteps}
 use Rattle.world_moves.specs.Moves.{IsDelivery, Delivers, IsStart, Starts}
 use Rattle.command_roots.specs.Roots.{root_of, scripted}
 use Rattle.world_steps.specs.Draining.{Empties, StartsAgain, ticked_to}
+use Rattle.script_lang.specs.Generator.{next_number}
+use Rattle.world_steps.specs.declared.shuffling.Move.{Move}
+use Rattle.world_steps.specs.declared.shuffling.Move.TheVariants as moves
 use Rattle.world_steps.specs.Runs.{after_step, AnswersStep, FirstMoves, Passes, Settles}
+use Rattle.world_steps.specs.Shuffling.{Makes, Shuffles}
 use Rattle.world_steps.specs.Scripts.{can_copy, can_start, can_page, page_node, StartsWhere, DeliversWhere, ListsWhere, Does, Commands, Drains, IsTurn, closing}
 
 -- some events came after, with none of which a command began
@@ -207,6 +211,16 @@ module _ (cluster : Cluster) (corpus : Corpus) (script : Script) where
   pub settled : (h new : List Event) → Settles cluster corpus script h new → Follows h new
   settled h new (rests, (between, p)) = passed h between new p
 
+  made : (move : Move) (h new : List Event) → Makes cluster corpus script move h new → Follows h new
+  made (moves.Deliver nth) h new d = delivered cluster h nth new d
+  made (moves.List l) h new lists = listed_after l h new lists
+  made (moves.Step t) h new steps = stepped_there t h new Done steps
+
+  pub shuffled : (chance moves : ℕ) (h new : List Event) → Shuffles cluster corpus script chance moves h new → Follows h new
+  shuffled chance zero h new same = stays h new same
+  shuffled chance (suc more) h new (inl (rests, same)) = stays h new same
+  shuffled chance (suc more) h new (inr (next, (move, chosen, m), later)) = after_both h next new (made move h next m) (shuffled (next_number chance) more next new later)
+
   pub started_where : (b : Bool) (k node : ℕ) (h new : List Event) → StartsWhere cluster b k node h new → Follows h new
   started_where true k node h new (started, s) = started_there cluster h k node started new s
   started_where false k node h new same = stays h new same
@@ -227,7 +241,10 @@ module _ (cluster : Cluster) (corpus : Corpus) (script : Script) where
   done k (Step task) h new (stepped, a) = stepped_there task h new stepped a
   done k (ListStep node parent) h new d = listed_where (record { node = node; parent = parent }) h new d
   done k Settle h new d = settled h new d
+  done k (Shuffle seed moves) h new d = shuffled seed moves h new d
+  done k (WaitFor command) h new d = settled h new d
   done k History h new same = stays h new same
+  done k Summary h new same = stays h new same
 
   pub turn_of_command : (k : ℕ) (h new : List Event) → Commands cluster corpus script k h new → IsTurn k h new
   turn_of_command k h new (command, at, d) = done k command (Begin k ∷ h) new d

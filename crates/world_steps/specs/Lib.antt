@@ -4,4 +4,5 @@ pub mod Naming
 pub mod PagesFollow
 pub mod Runs
 pub mod Scripts
+pub mod Shuffling
 pub mod World

@@ -1,5 +1,5 @@
 -- Steps, first moves, and settling: what they append to the past.
-use Rattle.std.specs.Prelude.{◌≡◌, ◌≢◌, true, List, [], ◌∷◌, ◌⊎◌, Option, Some, None, false, length, ◌≤◌, ⊤}
+use Rattle.std.specs.Prelude.{◌≡◌, ◌≢◌, Bool, true, ◌&&◌, List, [], ◌∷◌, ◌⊎◌, Option, Some, None, is_some, false, length, ◌≤◌, ⊤}
 use Rattle.task_ids.specs.declared.task_id.TaskId.{TaskId}
 use Rattle.task_ids.specs.declared.cluster.Cluster.{Cluster}
 use Rattle.task_ids.specs.declared.corpus.Corpus.{Corpus}
@@ -40,6 +40,10 @@ module _ (cluster : Cluster) (corpus : Corpus) (script : Script) where
   AnswersStep t h Done new = Steps t h new
   AnswersStep t h Waiting new = (is_live t h ≡ true) × (next_of t h ≡ None) × (new ≡ h)
   AnswersStep t h NotRunning new = (is_live t h ≡ false) × (new ≡ h)
+
+  -- whether a task is live and does not wait
+  abbrev pub is_ready : List Event → TaskId → Bool
+  is_ready h t = is_live t h && is_some (next_of t h)
 
   -- a live task that does not wait
   abbrev pub IsReady : TaskId → List Event → Type 0

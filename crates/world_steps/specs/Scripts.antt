@@ -17,7 +17,7 @@ use Rattle.task_events.specs.Turns.{is_begin}
 use Rattle.scroll_table.specs.declared.context.PageError.{PageError}
 use Rattle.script_lang.specs.declared.command.Command.{Command}
 use Rattle.script_lang.specs.declared.command.ContextTarget.{ContextTarget}
-use Rattle.script_lang.specs.declared.command.Command.TheVariants.{Search, Scroll, ClearScroll, Reindex, Cancel, ListTasks, Tick, Deliver, Step, ListStep, Settle, History}
+use Rattle.script_lang.specs.declared.command.Command.TheVariants.{Search, Scroll, ClearScroll, Reindex, Cancel, ListTasks, Tick, Deliver, Step, ListStep, Settle, Shuffle, WaitFor, History, Summary}
 use Rattle.script_lang.specs.declared.command.Script.{Script}
 use Rattle.world_steps.specs.declared.acting.Stepped.{Stepped}
 use Rattle.node_parts.specs.declared.listing.Listing.{Listing}
@@ -30,6 +30,7 @@ use Rattle.command_roots.specs.Known.{is_known}
 use Rattle.command_roots.specs.Roots.{body_or_none, command_at, context_named, least_size, page_answer}
 use Rattle.world_steps.specs.Draining.{Empties, PartlyEmpties, EmptyingLacksNumber}
 use Rattle.world_steps.specs.Runs.{AnswersStep, Settles, PartlySettles, SettlingLacksNumber}
+use Rattle.world_steps.specs.Shuffling.{Shuffles, PartlyShuffles, ShufflingLacksNumber}
 
 -- A command has begun, and some events came since, with none of which another began.
 abbrev pub IsTurn : ℕ → List Event → List Event → Type 0
@@ -51,7 +52,10 @@ CanDo nodes (Deliver nth) = ⊤
 CanDo nodes (Step task) = ⊤
 CanDo nodes (ListStep node parent) = ⊤
 CanDo nodes Settle = ⊤
+CanDo nodes (Shuffle seed moves) = ⊤
+CanDo nodes (WaitFor command) = ⊤
 CanDo nodes History = ⊤
+CanDo nodes Summary = ⊤
 
 -- the world can do each command
 abbrev pub CanRun : ℕ → List Command → Type 0
@@ -112,11 +116,16 @@ module _ (cluster : Cluster) (corpus : Corpus) (script : Script) where
   Does k (Step task) h new = (stepped : Stepped) × AnswersStep cluster corpus script task h stepped new
   Does k (ListStep node parent) h new = ListsWhere (record { node = node; parent = parent }) h new
   Does k Settle h new = Settles cluster corpus script h new
+  Does k (Shuffle seed moves) h new = Shuffles cluster corpus script seed moves h new
+  Does k (WaitFor command) h new = Settles cluster corpus script h new
   Does k History h new = new ≡ h
+  Does k Summary h new = new ≡ h
 
   -- a first part of that
   abbrev pub PartlyDoes : ℕ → Command → List Event → List Event → Type 0
   PartlyDoes k Settle h new = PartlySettles cluster corpus script h new
+  PartlyDoes k (Shuffle seed moves) h new = PartlyShuffles cluster corpus script seed moves h new
+  PartlyDoes k (WaitFor command) h new = PartlySettles cluster corpus script h new
   PartlyDoes k command h new = IsPartly (Does k command) h new
 
   -- the past after the command of this number, and after a first part of it
@@ -159,6 +168,8 @@ module _ (cluster : Cluster) (corpus : Corpus) (script : Script) where
   CommandLacksNumber (Reindex node body slices rate opaque_id) h new = (can_copy corpus script.commands body ≡ true) × NodeLacksNumber cluster h node × (new ≡ h)
   CommandLacksNumber (Deliver nth) h new = DeliveryLacksNumber cluster h nth × (new ≡ h)
   CommandLacksNumber Settle h new = SettlingLacksNumber cluster corpus script h new
+  CommandLacksNumber (Shuffle seed moves) h new = ShufflingLacksNumber cluster corpus script seed moves h new
+  CommandLacksNumber (WaitFor command) h new = SettlingLacksNumber cluster corpus script h new
   CommandLacksNumber _ h new = ⊥
 
   -- Why a command that has begun comes to an early end: where the history is full, an event of it was still to come.

@@ -24,7 +24,8 @@ use Rattle.world_moves.specs.Facts.{is_about}
 use Rattle.world_steps.specs.declared.ready.Ready.{Ready}
 use Rattle.world_steps.specs.Alarms.{AreAlarms, alarm_at}
 use Rattle.world_steps.specs.Draining.{due_of, StartsAgain}
-use Rattle.world_steps.specs.Runs.{next_of, Passes}
+pub use Rattle.world_steps.specs.Runs.{is_ready}
+use Rattle.world_steps.specs.Runs.{Passes}
 use Rattle.world_steps.specs.Scripts.{CanRun}
 use Rattle.world_moves.specs.Ties.{IsTied, Keeps, KeepsLaws}
 
@@ -38,10 +39,6 @@ pub record WorldView : Type 0 where
 
 abbrev pub view_of : State → Option Stop → WorldView
 view_of s stopped = record { cluster = s.cluster; corpus = s.corpus.now; script = s.script.now; past = s.history; stopped = stopped }
-
--- the task is live and does not wait
-abbrev pub is_ready : Cluster → Corpus → Script → List Event → TaskId → Bool
-is_ready cluster corpus script h t = is_live t h && is_some (next_of cluster corpus script t h)
 
 abbrev pub ready_in : State → TaskId → Bool
 ready_in s t = is_ready s.cluster s.corpus.now s.script.now s.history t

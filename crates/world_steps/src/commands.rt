@@ -26,6 +26,7 @@ use crate::moving::{deliver_and_refresh, list_and_refresh, settle, step_and_refr
 use crate::ready::{Ready, refresh};
 use crate::roots::{begin, start, start_reindex};
 use crate::scrolls::scroll;
+use crate::shuffling::shuffle;
 use command_roots::{body_of, reindex_ask, reindex_body, search_ask};
 use node_parts::listing::Listing;
 use script_lang::{CancelTarget, Command};
@@ -286,9 +287,14 @@ fn act_on(
             let (node, parent) = (*node, *parent);
             list(state, ready, Listing { node, parent })
         }
-        Command::Settle => settle(state, ready),
+        // One order of events is all that there is, so an answer is waited for by doing all that comes without the clock.
+        Command::Settle | Command::WaitFor { .. } => settle(state, ready),
+        Command::Shuffle { seed, moves } => shuffle(state, ready, *seed, *moves),
         // What a clear makes of the context stands with its beginning.
-        Command::ClearScroll { .. } | Command::ListTasks { .. } | Command::History => Ok(()),
+        Command::ClearScroll { .. }
+        | Command::ListTasks { .. }
+        | Command::History
+        | Command::Summary => Ok(()),
     }
 }
 

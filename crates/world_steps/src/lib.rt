@@ -12,10 +12,12 @@ mod naming;
 mod ready;
 mod roots;
 mod scrolls;
+mod shuffling;
 mod world;
 
 pub use acting::Stepped;
 pub use laws::{empty_page_ends, one_run, pages_follow, whole_is_so_far};
 pub use node_parts::listing::Listing;
+pub use shuffling::Move;
 pub use world::{Delivered, World};
 pub use world_moves::listings::ListStep;

@@ -13,8 +13,8 @@ ghost use Rattle.world_steps.specs.World.{HasReady, HadReady, alarm_in, due_by, 
 
 use crate::alarms::Alarms;
 use node_parts::running::Running;
+use ranked::RankedSet;
 use std::alloc::Global;
-use std::collections::BTreeSet;
 use task_events::{Event, Stop};
 use task_ids::TaskId;
 use world_moves::state::State;
@@ -23,7 +23,7 @@ use world_moves::state::State;
 #[derive(Drop)]
 pub(crate) struct Ready {
     /// The live tasks that do not wait.
-    pub(crate) tasks: BTreeSet<TaskId>,
+    pub(crate) tasks: RankedSet<TaskId>,
     /// The moments for which tasks wait.
     pub(crate) alarms: Alarms,
 }
@@ -36,7 +36,7 @@ impl Ready {
         ensures alarms { (q : TaskId) → alarm_at result.alarms q ≡ None }
     {
         Ready {
-            tasks: BTreeSet::new(alloc),
+            tasks: RankedSet::new(alloc),
             alarms: Alarms::new(alloc),
         }
     }
@@ -106,7 +106,7 @@ fn alarm_of(state: &State<'_>, task: TaskId) -> Option<u64>
 }
 
 /// Notes whether a task does not wait now.
-fn note_ready(state: &State<'_>, tasks: &mut BTreeSet<TaskId>, task: TaskId) -> Result<(), Stop>
+fn note_ready(state: &State<'_>, tasks: &mut RankedSet<TaskId>, task: TaskId) -> Result<(), Stop>
     requires tied { IsTied state.now }
     ensures known { OnOk result ((q : TaskId) → contains task_id_cmp tasks.new q
         ≡ (if same_task task q then ready_in state.now q else contains task_id_cmp tasks.old q)) }

@@ -7,6 +7,7 @@ ghost use Rattle.task_events.specs.Cancels.{last_command};
 ghost use Rattle.task_events.specs.Laws.{IsDrained};
 ghost use Rattle.task_events.specs.Messages.{in_flight};
 ghost use Rattle.task_events.specs.Clock.{clock};
+ghost use Rattle.task_events.specs.Summaries.{summary_of};
 ghost use Rattle.task_events.specs.Tasks.{is_live};
 ghost use Rattle.tasks_api.specs.Lists.{list_text};
 ghost use Rattle.task_events.specs.Contexts.{can_clear, context_at};
@@ -19,6 +20,7 @@ ghost use Rattle.world_moves.specs.Moves.{Delivers, IsPartly, StopsDelivery, Sto
 ghost use Rattle.world_moves.specs.Owning.{OneAtATime};
 ghost use Rattle.world_moves.specs.Plain.{AnswersPlainly};
 ghost use Rattle.world_steps.specs.Runs.{Steps, AnswersStep, Settles, PartlySettles, StopsSettling};
+ghost use Rattle.world_steps.specs.Shuffling.{Shuffles, PartlyShuffles, StopsShuffling};
 ghost use Rattle.world_steps.specs.Scripts.{CanRun, error_in, Commands, PartlyCommands, Drains, PartlyDrains, IsTurn, closing, StopsCommand, StopsDrain};
 ghost use Rattle.task_ids.specs.Limits.{IsNode, IsSlotCount};
 ghost use Rattle.task_table.specs.Table.{new_table};
@@ -26,18 +28,19 @@ ghost use Rattle.world_steps.specs.World.{tables_from, cores_from, no_bans, no_c
 
 use crate::acting::Stepped;
 use crate::ready::Ready;
-use crate::{commands, moving, scrolls};
+use crate::{commands, moving, scrolls, shuffling};
 use ban_table::BanTable;
 use cancel_core::CancelCore;
 use command_roots::dests_of;
 use corpus_shards::Shards;
 use node_parts::listing::Listing;
+use ranked::RankedSet;
 use script_lang::{ContextTarget, Script};
 use scroll_table::{PageError, ScrollTable};
 use std::alloc::{AllocError, Global};
-use std::collections::{BTreeMap, BTreeSet};
+use std::collections::BTreeMap;
 use std::marker::Model;
-use task_events::{History, Stop};
+use task_events::{History, Stop, Summary};
 use task_ids::{Cluster, Corpus, TaskId};
 use task_table::TaskTable;
 use tasks_api::{Filter, GroupBy, list_line};
@@ -242,7 +245,7 @@ impl<'a> World<'a> {
             bans,
             cores,
             left: BTreeMap::new(alloc),
-            listings: BTreeSet::new(alloc),
+            listings: RankedSet::new(alloc),
         };
         Ok(World {
             state,
@@ -259,6 +262,13 @@ impl<'a> World<'a> {
         ensures alone { OneAtATime (scripted self.now.script) self.now.past }
     {
         &self.state.history
+    }
+
+    /// How many tasks, bans and writes came and went so far. It is kept, and counts nothing anew.
+    pub fn summary(&self) -> Summary
+        ensures { result ≡ summary_of self.now.past }
+    {
+        self.state.history.summary()
     }
 
     /// How many messages are in flight. The world has not come to an early end.
@@ -483,6 +493,31 @@ impl<'a> World<'a> {
         let listing = Listing { node, parent };
         match moving::list_and_refresh(&mut self.state, &mut self.ready, listing) {
             Ok(stepped) => Ok(stepped),
+            Err(stop) => {
+                self.stopped = Some(stop);
+                Err(stop)
+            }
+        }
+    }
+
+    /// Makes so many moves that look like chance, or as many as there are: each message in flight, each open listing and each live task
+    /// that does not wait is as likely as another. The same seed makes the same moves.
+    ///
+    /// Once it has come to an early end, the world answers that for ever and keeps its past.
+    pub fn shuffle(&mut self, seed: u64, moves: u32) -> Result<(), Stop>
+        ensures goes_on { OnOk result (self.new.stopped ≡ None) }
+        ensures shuffled { OnOk result (Shuffles self.old.cluster self.old.corpus self.old.script seed moves self.old.past self.new.past) }
+        ensures part { OnErr result (PartlyShuffles self.old.cluster self.old.corpus self.old.script seed moves self.old.past self.new.past) }
+        ensures stop { IfErr result (λ stop. self.new.stopped ≡ Some stop) }
+        ensures stopped { IfSome self.old.stopped (λ stop. (result ≡ Err stop) × (self.new.past ≡ self.old.past)) }
+        ensures cause { IfErr result (λ stop. self.old.stopped ≡ None → StopsShuffling self.old.cluster self.old.corpus self.old.script seed moves self.old.past self.new.past stop) }
+        ensures keeps { self.new ≡ record self.old { past = self.new.past; stopped = self.new.stopped } }
+    {
+        if let Some(stop) = self.stopped {
+            return Err(stop);
+        }
+        match shuffling::shuffle(&mut self.state, &mut self.ready, seed, moves) {
+            Ok(()) => Ok(()),
             Err(stop) => {
                 self.stopped = Some(stop);
                 Err(stop)
