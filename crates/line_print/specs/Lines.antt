@@ -30,6 +30,8 @@ use Rattle.task_events.specs.declared.reply.Reply.{Reply}
 use Rattle.task_events.specs.declared.reply.SearchReply.{SearchReply}
 use Rattle.task_events.specs.declared.reply.Reply.TheVariants.{Search, AllFailed, Wrote, Cancelled}
 use Rattle.task_events.specs.Printed.{object_of, count, search_json, shards_read, reply_line}
+use Rattle.task_events.specs.declared.summary.Summary.{Summary}
+use Rattle.task_events.specs.Summaries.{summary_of}
 use Rattle.task_events.specs.Tasks.{no_counts, is_live, reply_of}
 use Rattle.task_events.specs.Messages.{in_flight}
 use Rattle.task_events.specs.Texts.{event_text}
@@ -38,7 +40,7 @@ use Rattle.task_events.specs.Contexts.{can_clear, context_at}
 use Rattle.task_events.specs.Turns.{events_of, events_before, history_before}
 use Rattle.tasks_api.specs.Lists.{list_text}
 use Rattle.line_print.specs.declared.note.Note.{Note}
-use Rattle.line_print.specs.declared.note.Note.TheVariants.{NoSuchMessage, NotRunning, Waiting, NoListing, NoPage, Freed, Moment, Listed}
+use Rattle.line_print.specs.declared.note.Note.TheVariants.{NoSuchMessage, NotRunning, Waiting, NoListing, NoPage, Freed, Moment, Listed, Counted}
 use Rattle.line_print.specs.Errors.{body_error, reindex_error, index_not_found, rejected, task_cancelled, all_shards_failed, not_found, context_error, plain_error, no_such_message}
 
 -- the line of a command that has no reply
@@ -212,8 +214,8 @@ page_note id (Ok context) = None
 abbrev pub frees : Script → Option TaskId → List Event → Bool
 frees script id past = can_clear None (option_and_then (λ t. context_at (scripted script) t past) id)
 
--- why a line of a schedule makes nothing happen or a scroll has no page, whether a clear frees a context, the moment after a tick, or the
--- reply of a list
+-- why a line of a schedule makes nothing happen or a scroll has no page, whether a clear frees a context, the moment after a tick, the
+-- reply of a list, or how many tasks, bans and writes came and went
 abbrev pub note_of : Cluster → Script → Command → List Event → Option Note
 note_of cluster script (commands.Deliver nth) past = Some (NoSuchMessage (length (in_flight past)))
 note_of cluster script (commands.Step t) past = Some (if is_live t past then Waiting else NotRunning)
@@ -222,6 +224,7 @@ note_of cluster script (commands.ListTasks wanted group detailed) past = Some (L
 note_of cluster script (commands.Scroll target keep opaque_id) past = page_note (context_named target past) (page_answer script target past)
 note_of cluster script (commands.ClearScroll target) past = Some (Freed (frees script (context_named target past) past))
 note_of cluster script (commands.Tick ms) past = Some (Moment (clock past + ms))
+note_of cluster script commands.Summary past = Some (Counted (summary_of past))
 note_of cluster script _ past = None
 
 -- ---- lists
@@ -234,6 +237,17 @@ text_line k text = codes "{\"command\":" ++ (decimal k ++ (codes ",\"reply\":" +
 abbrev pub list_line : ℕ → Option Note → List ℕ
 list_line k (Some (Listed text)) = text_line k text
 list_line k _ = []
+
+-- ---- summaries
+
+-- how many tasks, bans and writes came and went
+abbrev pub summary_json : Summary → Data
+summary_json s = object_of ((codes "bans", count s.bans) ∷ (codes "cancelled", count s.cancelled) ∷ (codes "ended", count s.ended) ∷ (codes "refused", count s.refused) ∷ (codes "tasks", count s.tasks) ∷ (codes "unbans", count s.unbans) ∷ (codes "writes", count s.writes) ∷ [])
+
+-- the summary that was noted
+abbrev pub summary_line : ℕ → Option Note → List ℕ
+summary_line k (Some (Counted s)) = reply_line k (summary_json s)
+summary_line k _ = []
 
 -- ---- lines of a schedule
 
@@ -260,7 +274,7 @@ settled events = object_of ((codes "events", count events) ∷ [])
 -- ---- all lines
 
 -- The line of a command. The last is what was noted of it, which tells what a list lists, why a scroll has no page, what a clear freed, the
--- moment after a tick, and of a line of a schedule why nothing happened.
+-- moment after a tick, the numbers of a summary, and of a line of a schedule why nothing happened.
 abbrev pub line_of : Cluster → Corpus → List Command → List Event → ℕ → Command → Option Note → List ℕ
 line_of cluster corpus script history k (commands.Search index node scroll body opaque_id) noted =
     search_line (λ reply. cluster.shards) script k (refusal index (body_at (is_some scroll) (least_size scroll) body) (is_known corpus script index) (first_in full_node_in (events_of k history))) (option_and_then (λ t. reply_of t history) (started k history))
@@ -273,6 +287,9 @@ line_of cluster corpus script history k (commands.Tick ms) noted = tick_line k n
 line_of cluster corpus script history k (commands.Cancel target reason wait) noted = cancel_line k (target_in script history target) wait (events_of k history)
 line_of cluster corpus script history k (commands.ListTasks wanted group detailed) noted = list_line k noted
 line_of cluster corpus script history k commands.Settle noted = reply_line k (settled (length (events_of k history)))
+line_of cluster corpus script history k (commands.Shuffle seed moves) noted = reply_line k (settled (length (events_of k history)))
+line_of cluster corpus script history k (commands.WaitFor number) noted = reply_line k (settled (length (events_of k history)))
+line_of cluster corpus script history k commands.Summary noted = summary_line k noted
 line_of cluster corpus script history k commands.History noted = reply_line k (told_all script (events_before k history))
 line_of cluster corpus script history k (commands.Deliver nth) noted = moved_line script k (events_of k history) noted
 line_of cluster corpus script history k (commands.Step t) noted = moved_line script k (events_of k history) noted
@@ -291,12 +308,13 @@ printed cluster corpus script history = lines_from (λ k command. line_of cluste
 abbrev pub printed_by : List (Option Note) → Cluster → Corpus → List Command → List Event → List ℕ
 printed_by found cluster corpus script history = lines_from (λ k command. line_of cluster corpus script history k command (unwrap_or (slice_get found (k - 1)) None)) 1 script
 
--- the line of a command tells what was noted of it: the command is a list, a scroll, a clear or a tick, or nothing happened
+-- the line of a command tells what was noted of it: the command is a list, a scroll, a clear, a tick or a summary, or nothing happened
 abbrev pub TellsNote : ℕ → Command → List Event → Type 0
 TellsNote k (commands.ListTasks wanted group detailed) history = ⊤
 TellsNote k (commands.Scroll target keep opaque_id) history = ⊤
 TellsNote k (commands.ClearScroll target) history = ⊤
 TellsNote k (commands.Tick ms) history = ⊤
+TellsNote k commands.Summary history = ⊤
 TellsNote k _ history = events_of k history ≡ []
 
 -- what the lines tell of it was noted of each command

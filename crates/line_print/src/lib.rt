@@ -16,6 +16,7 @@ mod reindex_lines;
 mod run;
 mod scroll_lines;
 mod searches;
+mod summaries;
 mod told;
 mod turns;
 mod write;

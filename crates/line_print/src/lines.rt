@@ -15,6 +15,7 @@ use crate::reindex_lines::reindex_line;
 use crate::run::Run;
 use crate::scroll_lines::{clear_line, scroll_line, tick_line};
 use crate::searches::search_line;
+use crate::summaries::summary_line;
 use crate::told::events_line;
 use crate::turns::turns_of;
 use command_roots::dests_of;
@@ -55,7 +56,10 @@ fn command_line(
             cancel_line(alloc, out, k, run.target(target), *wait, turn)
         }
         Command::ListTasks { .. } => list_line(alloc, out, k, note),
-        Command::Settle => settled_line(alloc, out, k, turn.len()),
+        Command::Settle | Command::Shuffle { .. } | Command::WaitFor { .. } => {
+            settled_line(alloc, out, k, turn.len())
+        }
+        Command::Summary => summary_line(alloc, out, k, note),
         Command::History => events_line(alloc, out, run.script, k, run.turns_before(number)),
         Command::Deliver { .. } | Command::Step { .. } | Command::ListStep { .. } => {
             moved_line(alloc, out, run.script, k, turn, note)
@@ -119,11 +123,11 @@ fn run_lines(
 ///
 /// A search tells its hits, as Elasticsearch's search API does, and the id by which its context is scrolled, or why it has none; a
 /// scroll the next page of them, or why there is none; a reindex what it has written, or why nothing; a clear whether it freed a context; a tick the moment; a cancel the tasks that it
-/// named; a list the tasks that it shows; `deliver`, `step` and `list_step` the events that they made, or why they made none; `settle` how many it
-/// made; `history` all events before it.
+/// named; a list the tasks that it shows; `deliver`, `step` and `list_step` the events that they made, or why they made none; `settle`, `shuffle`
+/// and `wait_for` how many they made; `history` all events before it; `summary` how many tasks, bans and writes came and went.
 ///
 /// At the place of its command `found` has what was noted of it: of each list what it lists, of each scroll why it has no page, if it
-/// has none, of each clear whether it frees a context, of each tick the moment after it, and of each line of a schedule that made nothing
+/// has none, of each clear whether it frees a context, of each tick the moment after it, of each summary its numbers, and of each line of a schedule that made nothing
 /// happen why. Where memory runs out a part of the output may have been appended.
 pub fn print_lines(
     alloc: Global,

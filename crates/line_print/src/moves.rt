@@ -24,8 +24,14 @@ fn idle_error(alloc: Global, note: Option<&Note>) -> Result<Option<Value>, Alloc
         Some(Note::NotRunning) => plain_error(alloc, "not_running")?,
         Some(Note::Waiting) => plain_error(alloc, "waiting")?,
         Some(Note::NoListing) => plain_error(alloc, "no_listing")?,
-        Some(Note::NoPage { .. } | Note::Freed(_) | Note::Moment(_) | Note::Listed(_)) | None =>
-            return Ok(None),
+        Some(
+            Note::NoPage { .. }
+            | Note::Freed(_)
+            | Note::Moment(_)
+            | Note::Listed(_)
+            | Note::Counted(_),
+        )
+        | None => return Ok(None),
     };
     Ok(Some(error))
 }
@@ -58,7 +64,7 @@ fn settled(alloc: Global, events: u64) -> Result<Value, AllocError>
     Ok(Value::Object(told))
 }
 
-/// Appends the line of a `settle`, with how many events its turn has.
+/// Appends the line of a command that settles or shuffles, with how many events its turn has.
 pub(crate) fn settled_line(
     alloc: Global,
     out: &mut Vec<u8>,

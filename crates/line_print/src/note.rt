@@ -1,4 +1,5 @@
 use scroll_table::PageError;
+use task_events::Summary;
 use task_ids::{Items, TaskId};
 
 /// What was noted of a command before it ran: why it makes nothing happen, if it makes nothing happen, or what its reply tells.
@@ -27,4 +28,6 @@ pub enum Note {
     Moment(u64),
     /// A list of tasks: the text of its reply, JSON.
     Listed(Items<u8>),
+    /// How many tasks, bans and writes came and went.
+    Counted(Summary),
 }
