@@ -1,4 +1,4 @@
-//! Scripts for threads, which take no schedule, and the fields of lists, cancels, searches, scrolls and reindexes.
+//! Scripts for threads, which take no schedule, and the fields of lists, cancels, searches, scrolls, reindexes, shuffles and waits.
 
 use script_lang::{Command, Mode, ScriptError, read_script};
 use std::alloc::Global;
@@ -17,17 +17,25 @@ const SCHEDULES: &str = r#"{"settle":true}
 {"step":"n1:1"}
 {"step":5}
 {"list_step":{"node":"n1","parent":"n1:1"}}
-{"list_step":{"x":1}}"#;
+{"list_step":{"x":1}}
+{"shuffle":{"seed":1,"moves":1}}
+{"shuffle":5}
+{"summary":true}"#;
 
-/// How many commands are read of a script for threads, or why it is refused.
-fn counted(alloc: Global, script: &str) -> Result<usize, ScriptError> {
+/// How many commands are read of a script for a mode, or why it is refused.
+fn counted_in(alloc: Global, mode: Mode, script: &str) -> Result<usize, ScriptError> {
     if script.len() > 67_108_864 {
         return Err(ScriptError::Memory);
     }
-    match read_script(alloc, script.as_bytes(), 2, Mode::Run, &CLUSTER) {
+    match read_script(alloc, script.as_bytes(), 2, mode, &CLUSTER) {
         Ok(script) => Ok(script.commands.as_slice().len()),
         Err(error) => Err(error),
     }
+}
+
+/// How many commands are read of a script for threads, or why it is refused.
+fn counted(alloc: Global, script: &str) -> Result<usize, ScriptError> {
+    counted_in(alloc, Mode::Run, script)
 }
 
 fn bad(cause: Cause) -> Result<usize, ScriptError> {
@@ -48,7 +56,6 @@ fn threads_take_searches_and_cancels(rt: HostRuntime) {
     assert!(rt; counted(alloc, script) == Ok(2));
     assert!(rt; counted(alloc, r#"{"cancel":{"command":1}}"#) == bad(Cause::BadReference));
     assert!(rt; counted(alloc, r#"{"search":{"x":1}}"#) == bad(Cause::UnknownField));
-    assert!(rt; counted(alloc, r#"{"summary":true}"#) == bad(Cause::NotBuilt));
     assert!(rt; counted(alloc, r#"{"foo":1}"#) == bad(Cause::UnknownCommand));
 }
 
@@ -360,4 +367,126 @@ fn reads_ticks(rt: HostRuntime) {
     ] {
         assert_eq!(rt; counted(alloc, line), bad(Cause::BadField));
     }
+}
+
+/// The seed and the moves of a line that is a shuffle.
+fn shuffle_of(alloc: Global, line: &str) -> Option<(u64, u32)> {
+    if line.len() > 67_108_864 {
+        return None;
+    }
+    let script = read_script(alloc, line.as_bytes(), 2, Mode::Sim, &CLUSTER).ok()?;
+    match script.commands.as_slice().first() {
+        Some(Command::Shuffle { seed, moves }) => Some((*seed, *moves)),
+        _ => None,
+    }
+}
+
+#[test]
+fn reads_shuffles(rt: HostRuntime) {
+    let alloc = rt.alloc();
+    for (line, want) in [
+        (r#"{"shuffle":{"seed":0,"moves":0}}"#, (0, 0)),
+        (r#"{"shuffle":{"moves":40,"seed":7}}"#, (7, 40)),
+        (
+            r#"{"shuffle":{"seed":18446744073709551615,"moves":1000000}}"#,
+            (18_446_744_073_709_551_615, 1_000_000),
+        ),
+    ] {
+        assert_eq!(rt; shuffle_of(alloc, line), Some(want));
+    }
+    for (line, cause) in [
+        (r#"{"shuffle":true}"#, Cause::BadField),
+        (r#"{"shuffle":{"moves":1}}"#, Cause::BadField),
+        (r#"{"shuffle":{"seed":1}}"#, Cause::BadField),
+        (r#"{"shuffle":{"seed":-1,"moves":1}}"#, Cause::BadField),
+        (r#"{"shuffle":{"seed":"1","moves":1}}"#, Cause::BadField),
+        (r#"{"shuffle":{"seed":1,"moves":-1}}"#, Cause::BadField),
+        (r#"{"shuffle":{"seed":1,"moves":1000001}}"#, Cause::BadField),
+        (
+            r#"{"shuffle":{"seed":1,"moves":4294967296}}"#,
+            Cause::BadField,
+        ),
+        (
+            r#"{"shuffle":{"seed":-1,"moves":1,"x":1}}"#,
+            Cause::UnknownField,
+        ),
+    ] {
+        assert_eq!(rt; counted_in(alloc, Mode::Sim, line), bad(cause));
+    }
+}
+
+#[test]
+fn reads_summaries(rt: HostRuntime) {
+    let alloc = rt.alloc();
+    assert_eq!(rt; counted_in(alloc, Mode::Sim, r#"{"summary":true}"#), Ok(1));
+    for line in [
+        r#"{"summary":false}"#,
+        r#"{"summary":1}"#,
+        r#"{"summary":{}}"#,
+    ] {
+        assert_eq!(rt; counted_in(alloc, Mode::Sim, line), bad(Cause::BadField));
+    }
+}
+
+/// Four commands that can be waited for, and three that can not: a reindex that may wait for the clock, a tick and a list.
+const AWAITED: &str = r#"{"search":{"index":"a","scroll":"1m"}}
+{"scroll":{"command":1}}
+{"cancel":{"command":1}}
+{"reindex":{"body":{},"requests_per_second":-1}}
+{"reindex":{"body":{},"requests_per_second":5}}
+{"tick":1}
+{"list":{}}
+"#;
+
+/// How many commands are read of those and an eighth line, or why they are refused.
+fn after_awaited(alloc: Global, line: &str) -> Result<usize, ScriptError> {
+    match format!(in alloc; "{AWAITED}{line}") {
+        Ok(script) => counted(alloc, script.as_str()),
+        Err(_) => Err(ScriptError::Memory),
+    }
+}
+
+#[test]
+fn reads_waits(rt: HostRuntime) {
+    let alloc = rt.alloc();
+    for line in [
+        r#"{"wait_for":{"command":1}}"#,
+        r#"{"wait_for":{"command":2}}"#,
+        r#"{"wait_for":{"command":3}}"#,
+        r#"{"wait_for":{"command":4}}"#,
+    ] {
+        assert_eq!(rt; after_awaited(alloc, line), Ok(8));
+    }
+    for (line, cause) in [
+        (r#"{"wait_for":{"command":5}}"#, Cause::NotWaitable),
+        (r#"{"wait_for":{"command":6}}"#, Cause::NotWaitable),
+        (r#"{"wait_for":{"command":7}}"#, Cause::NotWaitable),
+        (r#"{"wait_for":{"command":0}}"#, Cause::BadReference),
+        (r#"{"wait_for":{"command":8}}"#, Cause::BadReference),
+        (r#"{"wait_for":{"command":9}}"#, Cause::BadReference),
+        (r#"{"wait_for":{"command":-1}}"#, Cause::BadReference),
+        (r#"{"wait_for":{"command":"1"}}"#, Cause::BadField),
+        (r#"{"wait_for":{}}"#, Cause::BadField),
+        (r#"{"wait_for":1}"#, Cause::BadField),
+        (
+            r#"{"wait_for":{"command":1,"node":"n1"}}"#,
+            Cause::UnknownField,
+        ),
+    ] {
+        assert_eq!(rt;
+            after_awaited(alloc, line),
+            Err(ScriptError::Bad { line: 9, cause })
+        );
+    }
+    let later = "{\"wait_for\":{\"command\":2}}\n{\"search\":{\"index\":\"a\"}}";
+    assert_eq!(rt; counted(alloc, later), bad(Cause::BadReference));
+    let waits =
+        "{\"search\":{\"index\":\"a\"}}\n{\"wait_for\":{\"command\":1}}\n{\"wait_for\":{\"command\":2}}";
+    assert_eq!(rt;
+        counted(alloc, waits),
+        Err(ScriptError::Bad {
+            line: 4,
+            cause: Cause::NotWaitable
+        })
+    );
 }

@@ -12,3 +12,4 @@ pub mod RootLaws
 pub mod TopLemmas
 pub mod TurnEvents
 pub mod UnharmedSearches
+pub mod WritesTold

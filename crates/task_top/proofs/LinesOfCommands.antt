@@ -244,7 +244,10 @@ module _ (cluster : Cluster) (corpus : Corpus) (script : Script) (h : List Event
   by_command k (commands.Step t) at done = step_told cluster corpus script h k _ done t done.does.0 done.does.1
   by_command k (commands.ListStep node parent) at done = list_told cluster corpus script h k _ done (record { node = node; parent = parent }) done.does
   by_command k commands.Settle at done = tt
+  by_command k (commands.Shuffle seed moves) at done = tt
+  by_command k (commands.WaitFor waited) at done = tt
   by_command k commands.History at done = tt
+  by_command k commands.Summary at done = tt
 
   number_there : (k : ℕ) (command : Command) → command_at script k ≡ Some command → (1 ≤ k) × (k ≤ length script.commands)
   number_there zero command at = absurd (cc)

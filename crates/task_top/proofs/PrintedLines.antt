@@ -19,10 +19,11 @@ use Rattle.task_events.specs.declared.reply.Reply.TheVariants as replies
 use Rattle.task_events.specs.Messages.{in_flight}
 use Rattle.task_events.specs.Printed.{count, object_of, reply_line, search_json, shards_read}
 use Rattle.task_events.specs.Clock.{clock}
+use Rattle.task_events.specs.Summaries.{summary_of}
 use Rattle.task_events.specs.Tasks.{is_live, reply_of}
 use Rattle.task_events.specs.Turns.{events_before, events_of, history_before}
 use Rattle.script_lang.specs.declared.command.Command.{Command}
-use Rattle.script_lang.specs.declared.command.Command.TheVariants.{Search, Scroll, ClearScroll, Reindex, Tick, Cancel, ListTasks, Deliver, Step, ListStep, Settle, History}
+use Rattle.script_lang.specs.declared.command.Command.TheVariants.{Search, Scroll, ClearScroll, Reindex, Tick, Cancel, ListTasks, Deliver, Step, ListStep, Settle, Shuffle, WaitFor, History, Summary}
 use Rattle.script_lang.specs.declared.command.Script.{Script}
 use Rattle.tasks_api.specs.declared.filter.Filter.{Filter}
 use Rattle.tasks_api.specs.declared.list.GroupBy.{GroupBy}
@@ -37,7 +38,7 @@ use Rattle.script_lang.specs.declared.command.ContextTarget.{ContextTarget}
 use Rattle.line_print.specs.declared.note.Note.{Note}
 use Rattle.line_print.specs.declared.note.Note.TheVariants.{NoSuchMessage, NotRunning, Waiting, NoListing}
 use Rattle.line_print.specs.Errors.{all_shards_failed, body_error, context_error, index_not_found, not_found, reindex_error, rejected, task_cancelled}
-use Rattle.line_print.specs.Lines.{cancel_line, cancelled, cancelled_json, cleared, done_json, frees, moment_json, page_note, page_refusal, ended_line, error_line, finds_none, first_in, full_node_in, idle_error, idle_line, line_of, lines_from, moved_line, named_in, note_of, printed, reason_of, refusal, reindex_line, reindex_refusal, search_line, start_refusal, settled, started, target_in, told_all, wrote_line}
+use Rattle.line_print.specs.Lines.{cancel_line, cancelled, cancelled_json, cleared, done_json, frees, moment_json, page_note, page_refusal, ended_line, error_line, finds_none, first_in, full_node_in, idle_error, idle_line, line_of, lines_from, moved_line, named_in, note_of, printed, reason_of, refusal, reindex_line, reindex_refusal, search_line, start_refusal, settled, started, summary_json, target_in, told_all, wrote_line}
 use Rattle.line_print.proofs.PrintLemmas.{text_is_reply}
 use Rattle.task_top.specs.EachLine.{is_newline, EachHasItsLine, EachPrintsALine, HasItsLine, IsLine, IsReindexReply, IsSearchReply, TellsPage, TellsReindex, TellsSearch}
 use Rattle.task_top.proofs.OneLine.{value_line}
@@ -192,6 +193,9 @@ module _ (cluster : Cluster) (corpus : Corpus) (script : Script) (h : List Event
   by_command k (Step t) told = step_prints cluster corpus script.commands h k (events_of k h) (is_live t (history_before k h))
   by_command k (ListStep node parent) told = move_prints cluster corpus script.commands h k (events_of k h) NoListing _ refl
   by_command k Settle told = reply_prints k (settled (length (events_of k h)))
+  by_command k (Shuffle seed moves) told = reply_prints k (settled (length (events_of k h)))
+  by_command k (WaitFor waited) told = reply_prints k (settled (length (events_of k h)))
+  by_command k Summary told = reply_prints k (summary_json (summary_of (history_before k h)))
   by_command k History told = reply_prints k (told_all script.commands (events_before k h))
 
   pub each_prints_a_line : EachHasItsLine cluster corpus script h → EachPrintsALine cluster corpus script h

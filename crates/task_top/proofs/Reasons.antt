@@ -37,6 +37,10 @@ use Rattle.command_roots.specs.Roots.{command_at, root_of, scripted}
 use Rattle.world_steps.specs.declared.acting.Stepped.{Stepped}
 use Rattle.world_steps.specs.declared.acting.Stepped.TheVariants.{Done, Waiting, NotRunning}
 use Rattle.world_steps.specs.Draining.{Empties, StartsAgain, ticked_to}
+use Rattle.script_lang.specs.Generator.{next_number}
+use Rattle.world_steps.specs.declared.shuffling.Move.{Move}
+use Rattle.world_steps.specs.declared.shuffling.Move.TheVariants as moves
+use Rattle.world_steps.specs.Shuffling.{Makes, Shuffles}
 use Rattle.world_steps.specs.Runs.{after_step, AnswersStep, FirstMoves, Passes, Settles, Steps}
 use Rattle.world_steps.specs.Scripts.{StartsWhere, DeliversWhere, ListsWhere, Does, HasRun, IsRun, can_copy, can_page, can_start, closing, page_node}
 use Rattle.task_top.specs.EachLine.{IsCancelAt, TellsReasons}
@@ -165,6 +169,16 @@ module _ (c : ℕ) (t : TaskId) where
     settles_more : (h new : List Event) → Settles cluster corpus script h new → NamesNoMore h new
     settles_more h new (rests, (between, p)) = passes_more h between new p
 
+    makes_more : (move : Move) (h new : List Event) → Makes cluster corpus script move h new → NamesNoMore h new
+    makes_more (moves.Deliver nth) h new d = delivers_more cluster h nth new d
+    makes_more (moves.List l) h new lists = lists_more l h new lists
+    makes_more (moves.Step u) h new steps = steps_more u h new steps
+
+    shuffles_more : (chance count : ℕ) (h new : List Event) → Shuffles cluster corpus script chance count h new → NamesNoMore h new
+    shuffles_more chance zero h new same = ap (is_named c t) same
+    shuffles_more chance (suc more) h new (inl (rests, same)) = ap (is_named c t) same
+    shuffles_more chance (suc more) h new (inr (next, (move, chosen, made), later)) = shuffles_more (next_number chance) more next new later ∙ makes_more move h next made
+
     again_more : (h : List Event) (between : List (List Event)) (start : List Event) → StartsAgain cluster corpus script h between start → NamesNoMore h start
     again_more h [] start same = ap (is_named c t) same
     again_more h (settled ∷ later) start (settles, (due, soonest, goes)) = again_more (ticked_to due settled) later start goes ∙ settles_more h settled settles
@@ -235,6 +249,9 @@ module _ (c : ℕ) (t : TaskId) where
     by_command k (commands.Step u) at h new does named = inl (sym (answers_step_more u h new does.0 does.1) ∙ named)
     by_command k (commands.ListStep node parent) at h new does named = inl (sym (lists_where (record { node = node; parent = parent }) h new does) ∙ named)
     by_command k commands.Settle at h new does named = inl (sym (settles_more h new does) ∙ named)
+    by_command k (commands.Shuffle seed moves) at h new does named = inl (sym (shuffles_more seed moves h new does) ∙ named)
+    by_command k (commands.WaitFor waited) at h new does named = inl (sym (settles_more h new does) ∙ named)
+    by_command k commands.Summary at h new does named = inl (sym (ap (is_named c t) does) ∙ named)
     by_command k commands.History at h new does named = inl (sym (ap (is_named c t) does) ∙ named)
 
     in_run : (n : ℕ) (h : List Event) → HasRun cluster corpus script n h → is_named c t h ≡ true → IsCancelAt script c

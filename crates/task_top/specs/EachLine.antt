@@ -15,7 +15,7 @@ use Rattle.script_lang.specs.declared.command.CancelTarget.{CancelTarget}
 use Rattle.script_lang.specs.declared.command.CancelTarget.TheVariants.{Matching}
 use Rattle.script_lang.specs.declared.command.ContextTarget.{ContextTarget}
 use Rattle.script_lang.specs.declared.command.Command.{Command}
-use Rattle.script_lang.specs.declared.command.Command.TheVariants.{Search, Scroll, ClearScroll, Reindex, Tick, Cancel, ListTasks, Deliver, Step, ListStep, Settle, History}
+use Rattle.script_lang.specs.declared.command.Command.TheVariants.{Search, Scroll, ClearScroll, Reindex, Tick, Cancel, ListTasks, Deliver, Step, ListStep, Settle, Shuffle, WaitFor, History, Summary}
 use Rattle.script_lang.specs.declared.command.Script.{Script}
 use Rattle.task_events.specs.declared.event.Event.{Event}
 use Rattle.task_events.specs.declared.event.Event.TheVariants as events
@@ -125,7 +125,7 @@ module _ (cluster : Cluster) (corpus : Corpus) (script : Script) where
   abbrev pub Waits : TaskId → List Event → Type 0
   Waits t past = (is_live t past ≡ true) × (next_of cluster corpus script t past ≡ None)
 
-  -- What the line of a command tells: a `deliver`, a `step` or a `list_step` of its events, or else of why nothing happened. A list and a clear tell what was noted of them; a `settle` and a `history` tell of any number of events.
+  -- What the line of a command tells: a `deliver`, a `step` or a `list_step` of its events, or else of why nothing happened. A list, a clear and a summary tell what was noted of them; a `settle`, a `shuffle`, a `wait_for` and a `history` tell of any number of events.
   abbrev pub HasItsLine : List Event → ℕ → Command → Type 0
   HasItsLine h k (Search index node scroll body opaque_id) = TellsSearch corpus script.commands index node scroll body k h
   HasItsLine h k (Scroll target keep opaque_id) = TellsPage script target k h
@@ -138,7 +138,10 @@ module _ (cluster : Cluster) (corpus : Corpus) (script : Script) where
   HasItsLine h k (Step t) = Moved k h ⊎ (is_live t (as_began k h) ≡ false) ⊎ Waits t (as_began k h)
   HasItsLine h k (ListStep node parent) = Moved k h ⊎ (is_open (record { node = node; parent = parent }) (as_began k h) ≡ false)
   HasItsLine h k Settle = ⊤
+  HasItsLine h k (Shuffle seed moves) = ⊤
+  HasItsLine h k (WaitFor waited) = ⊤
   HasItsLine h k History = ⊤
+  HasItsLine h k Summary = ⊤
 
   -- Each command of the script has it.
   abbrev pub EachHasItsLine : List Event → Type 0

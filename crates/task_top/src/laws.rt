@@ -14,7 +14,8 @@ ghost use Rattle.script_lang.specs.declared.command.Script.{Script};
 ghost use Rattle.world_moves.specs.Cancels.{AllAnswered};
 ghost use Rattle.world_moves.specs.Moves.{greatest_number};
 ghost use Rattle.world_moves.specs.Plain.{AnswersPlainly};
-ghost use Rattle.world_steps.specs.Scripts.{CanRun, IsRun};
+ghost use Rattle.world_steps.specs.Scripts.{CanRun, IsRun, IsRunSoFar};
+ghost use Rattle.write_laws.specs.TreeWrites.{CountsItsWrites};
 ghost use Rattle.task_top.specs.EachLine.{HasLines};
 ghost use Rattle.task_top.specs.Promises.{CancelsExactly, KeepsAllLaws};
 ghost use Rattle.task_top.specs.Reading.{max_input, Reads, Refuses, IsRead, IsRefused};
@@ -23,6 +24,7 @@ ghost use Rattle.task_top.specs.Unharmed.{AnswersWholly};
 use task_laws::{
     causes, drained_bans, early_children, late_children, one_place, one_stage, waiting,
 };
+use write_laws::counts_its_writes;
 
 /// In a mode and for a cluster any bytes are read as one corpus and one script or refused at one line for one cause, and
 /// never both.
@@ -68,7 +70,8 @@ pub(crate) fn all_laws()
     causes();
 }
 
-/// In a whole run each command has its line. In any run a search to which nothing happened has no failed shard.
+/// In a whole run each command has its line. In any run a search to which nothing happened has no failed shard, and a task that was to
+/// write has replied with the numbers of the documents that it and its descendants have written.
 ///
 /// It computes nothing: its contract is the law.
 pub(crate) fn answer_laws()
@@ -76,6 +79,9 @@ pub(crate) fn answer_laws()
         → Lawful cluster h → AnswersPlainly cluster corpus script h → IsDrained h → AllAnswered h → IsRun cluster corpus script h → CanRun cluster.nodes script.commands → HasLines cluster corpus script h }
     ensures unharmed { (cluster : Cluster) (corpus : Corpus) (script : Script) (h : List Event)
         → Lawful cluster h → AnswersPlainly cluster corpus script h → AnswersWholly script h }
+    ensures wrote { (cluster : Cluster) (corpus : Corpus) (script : Script) (h : List Event)
+        → IsRunSoFar cluster corpus script h → Lawful cluster h → AnswersPlainly cluster corpus script h → CountsItsWrites script h }
 {
     causes();
+    counts_its_writes();
 }

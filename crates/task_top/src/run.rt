@@ -45,6 +45,7 @@ fn note_of(world: &World<'_>, command: &Command) -> Result<Option<Note>, Stop>
         }
         Command::ClearScroll { context } => Ok(Some(Note::Freed(world.can_clear(context)))),
         Command::Tick { ms } => Ok(Some(Note::Moment(world.now() + *ms))),
+        Command::Summary => Ok(Some(Note::Counted(world.summary()))),
         Command::Deliver { .. } => {
             let in_flight = world.in_flight();
             Ok(Some(Note::NoSuchMessage { in_flight }))

@@ -10,6 +10,7 @@ ghost use Rattle.task_top.specs.Kept.{AnswersInput, IsReadWhole, RanAsRead, Rest
 ghost use Rattle.task_top.specs.Progress.{EndsWhole};
 ghost use Rattle.task_top.specs.Promises.{KeepsAllLaws, CancelsExactly};
 ghost use Rattle.task_top.specs.Unharmed.{AnswersWholly};
+ghost use Rattle.write_laws.specs.TreeWrites.{CountsItsWrites};
 
 use crate::kept::Kept;
 use crate::laws::{all_laws, answer_laws};
@@ -23,6 +24,7 @@ use std::alloc::Global;
 use task_events::Stop;
 use task_ids::{Cause, Cluster, Corpus};
 use task_laws::earlier_is_lawful;
+use world_steps::whole_is_so_far;
 
 /// How many bytes an input has at most.
 const MAX_INPUT: usize = 67_108_864;
@@ -59,10 +61,13 @@ pub fn sim_top<S: Source, K: Sink>(
     // Each search that ended in it without being cancelled replied with the plain answer, and each page of one with that over its context:
     // of the shards that this keeps, each as it was read, the rows after its cursor.
     ensures plain { AnswersPlainly cluster.now result.1.corpus result.1.script result.1.history }
-    // A page starts only where its context is free.
+    // A page starts only where its context is free, and a task asks only for contexts of its own and for their pages.
     ensures alone { OneAtATime (scripted result.1.script) result.1.history }
     // No shard of it failed where nothing happened to it: neither it nor a child of it was marked or refused, and none of its requests was rejected.
     ensures unharmed { AnswersWholly result.1.script result.1.history }
+    // Each reindex that has ended in it, cancelled or not, replied with the numbers of the documents that it and its tasks have created and
+    // replaced.
+    ensures wrote { CountsItsWrites result.1.script result.1.history }
     // After a whole run nothing is live, in flight or listed, no ban stands, and every cancel that named a task is answered.
     ensures rests { Rests result.0 result.1 }
     // So each command has its line: a search, a scroll or a reindex the end of its task or what refused it, a tick its event, a cancel its answer or that it
@@ -79,6 +84,7 @@ pub fn sim_top<S: Source, K: Sink>(
     earlier_is_lawful();
     all_laws();
     answer_laws();
+    whole_is_so_far();
     let bytes = match read_all(alloc, input, MAX_INPUT) {
         Ok(bytes) => bytes,
         Err(ReadAll::ReadFault) => return (Status::ReadFault, Kept::nothing(alloc)),
@@ -157,7 +163,6 @@ fn write_lines<K: Sink>(
     requires few { length kept.now.script.commands ≤ 65535 }
     requires lawful { Lawful cluster.now kept.now.history }
     requires plain { AnswersPlainly cluster.now kept.now.corpus kept.now.script kept.now.history }
-    requires alone { OneAtATime (scripted kept.now.script) kept.now.history }
     requires ran { EndsWhole cluster.now kept.now.corpus kept.now.script kept.now.history found.now }
     ensures status { IsAfterReading result }
     ensures run { RanAsRead cluster.now result kept.now }

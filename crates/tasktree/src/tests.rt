@@ -119,12 +119,12 @@ fn tells(alloc: Global, status: Status, code: u8, text: &str) -> bool {
 #[test]
 fn each_status_has_its_number_and_text(rt: HostRuntime) {
     let alloc = rt.alloc();
-    let not_built = Status::Refused(0, Cause::NotBuilt);
+    let too_long = Status::Refused(0, Cause::TooLong);
     let not_whole = Status::Refused(12, Cause::NotWhole);
     let usage = "usage: tasktree sim|run [--nodes N] [--shards S] [--slots L] | gen N";
     assert!(rt; tells(alloc, Status::Done, 0, ""));
     assert!(rt; tells(alloc, Status::Usage, 1, usage));
-    assert!(rt; tells(alloc, not_built, 2, "tasktree: not built yet"));
+    assert!(rt; tells(alloc, too_long, 2, "tasktree: input is too long"));
     assert!(rt;
         tells(
             alloc,

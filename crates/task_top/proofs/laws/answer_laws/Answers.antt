@@ -10,5 +10,8 @@ returns-clause-lines c = λ cluster corpus script h lawful plain drained answere
     let one_line = each_prints_a_line cluster corpus script h told in
     record { told = told; one_line = one_line; as_many = as_many_lines cluster corpus script h one_line; reasons = tells_reasons cluster corpus script h run (c.causes.ensures.named cluster h lawful) }
 
+pub returns-clause-wrote : goal.returns-clause-wrote
+returns-clause-wrote c = c.counts_its_writes.ensures.runs
+
 pub returns-clause-unharmed : goal.returns-clause-unharmed
 returns-clause-unharmed c = λ cluster corpus script h lawful plain t ask reply. answers_wholly cluster corpus script (c.causes.ensures.named cluster) t h lawful plain ask reply

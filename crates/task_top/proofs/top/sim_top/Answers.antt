@@ -3,6 +3,7 @@ use Rattle.std.specs.Str.Lines.{lines}
 use Rattle.script_lang.specs.declared.command.Mode.TheVariants.{Sim}
 use Rattle.task_top.specs.Reading.{read_lines}
 use Rattle.task_top.proofs.TopLemmas.{every_moment, every_moment_of_nothing, too_long, refused, read_as}
+use Rattle.task_top.proofs.WritesTold.{none_told, writes_told}
 use Rattle.task_top.proofs.top.sim_top.Goals as goal
 
 pub returns-in-Err-TooLong-clause-input : goal.returns-in-Err-TooLong-clause-input
@@ -42,3 +43,23 @@ returns-clause-laws g c = every_moment_of_nothing c.args.cluster.now c.earlier_i
 
 pub returns-in-Ok-read_input-clause-unharmed : goal.returns-in-Ok-read_input-clause-unharmed
 returns-in-Ok-read_input-clause-unharmed g c = c.answer_laws.ensures.unharmed c.args.cluster.now _ _ _ c.run_and_print.ensures.lawful c.run_and_print.ensures.plain
+
+pub returns-in-Err-ReadFault-clause-wrote : goal.returns-in-Err-ReadFault-clause-wrote
+returns-in-Err-ReadFault-clause-wrote g c = none_told _ _ c.nothing.ensures.no_event
+
+pub returns-in-Err-TooLong-clause-wrote : goal.returns-in-Err-TooLong-clause-wrote
+returns-in-Err-TooLong-clause-wrote g c = none_told _ _ c.nothing-in-Err-TooLong.ensures.no_event
+
+pub returns-in-Err-Memory-clause-wrote : goal.returns-in-Err-Memory-clause-wrote
+returns-in-Err-Memory-clause-wrote g c = none_told _ _ c.nothing-in-Err-Memory.ensures.no_event
+
+pub returns-in-Err-Bad-clause-wrote : goal.returns-in-Err-Bad-clause-wrote
+returns-in-Err-Bad-clause-wrote g c = none_told _ _ c.nothing-in-Err-Bad.ensures.no_event
+
+pub returns-clause-wrote : goal.returns-clause-wrote
+returns-clause-wrote g c = none_told _ _ c.nothing-in-Err-Memory-read_input.ensures.no_event
+
+pub returns-in-Ok-read_input-clause-wrote : goal.returns-in-Ok-read_input-clause-wrote
+returns-in-Ok-read_input-clause-wrote g c =
+    let kept = c.run_and_print.ensures in
+    writes_told c.args.cluster.now c.whole_is_so_far.ensures c.answer_laws.ensures.wrote _ _ kept.status kept.run kept.lawful kept.plain
