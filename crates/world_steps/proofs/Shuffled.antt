@@ -82,12 +82,6 @@ module _ (start : State) (seed moves : ℕ) where
   pub of_first : (P : Cluster → Corpus → Script → List Event → Type 0) (now : State) → Keeps start now → (h : List Event) → P now.cluster now.corpus.now now.script.now h → P start.cluster start.corpus.now start.script.now h
   of_first P now k h p = carried P now.cluster start.cluster now.corpus.now start.corpus.now now.script.now start.script.now h h k.cluster k.corpus k.script refl p
 
-  -- all moves are made
-  pub over : (h : List Event) (made chance : ℕ) → made ≡ moves → Continues h made chance → Shuffles start.cluster start.corpus.now start.script.now seed moves start.history h
-  over h made chance all so_far =
-      let none : moves - made ≡ 0 = omega (arith, all) in
-      so_far.whole h (subst (λ n. Shuffles start.cluster start.corpus.now start.script.now chance n h h) (sym none) refl)
-
 -- ---- a move of a shuffle that is under way
 
 module _ (start now : State) (seed moves : ℕ) (ready : Ready) (made chance number : ℕ) (below : made < moves) (s : HasShuffled start seed moves now ready made chance) (same : number ≡ next_number chance) where

@@ -500,8 +500,8 @@ impl<'a> World<'a> {
         }
     }
 
-    /// Makes so many moves that look like chance, or as many as there are: each message in flight, each open listing and each live task
-    /// that does not wait is as likely as another. The same seed makes the same moves.
+    /// Makes so many moves that look like chance, or as many as there are: each is chosen among all messages in flight, open listings and
+    /// live tasks that do not wait, by a number that the seed determines. The same seed makes the same moves.
     ///
     /// Once it has come to an early end, the world answers that for ever and keeps its past.
     pub fn shuffle(&mut self, seed: u64, moves: u32) -> Result<(), Stop>
