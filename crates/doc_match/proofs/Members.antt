@@ -20,15 +20,14 @@ use Rattle.std.proofs.lemmas.Slice.Eq.{bytes_eq-Decides}
 use Rattle.serde_json.specs.declared.value.Value.{Value}
 use Rattle.serde_json.specs.Data.{Data}
 use Rattle.serde_json.specs.View.{view, members_view}
-use Rattle.query_match.specs.Values.{after_dot, after_key, same_bytes, held_at, held_behind}
-use Rattle.doc_match.specs.Fields.{is_key}
+use Rattle.query_match.specs.Values.{after_dot, after_key, same_bytes, held_at, held_behind, is_key}
 
 -- ---- a name without a dot has no part behind a dot
 
-abbrev HasNoDot : List ℕ → Type 0
+abbrev pub HasNoDot : List ℕ → Type 0
 HasNoDot name = list_any (λ b. b == 46) name ≡ false
 
-no_dot : (b : Bool) → not b ≡ true → b ≡ false
+pub no_dot : (b : Bool) → not b ≡ true → b ≡ false
 no_dot true h = cc
 no_dot false h = refl
 
@@ -50,7 +49,7 @@ picked_none : (b : Bool) (o : Option (List ℕ)) → o ≡ None → cond b o Non
 picked_none true o h = h
 picked_none false o h = refl
 
-no_rest : (key name : List ℕ) → HasNoDot name → after_key key name ≡ None
+pub no_rest : (key name : List ℕ) → HasNoDot name → after_key key name ≡ None
 no_rest key name h = picked_none (starts_with nat_eq name key) (after_dot (drop (length key) name)) (behind (length key) name h)
 
 -- ---- one key

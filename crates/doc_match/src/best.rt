@@ -7,8 +7,8 @@ ghost use Rattle.query_match.specs.Found.{found_view};
 ghost use Rattle.query_match.specs.Sorting.{goes_before, better};
 ghost use Rattle.query_match.specs.Values.{values_in, values_in_each, held_at, held_by_key, held_behind, held_behind_each};
 
-use crate::field::{after_key, is_key, member};
-use query_match::{Found, value_in};
+use crate::field::{after_key, member};
+use query_match::{Found, is_key, value_in};
 use serde_json::{Map, Value};
 
 fn goes_before(descending: bool, value: &Found<'_>, other: &Found<'_>) -> bool

@@ -1,20 +1,11 @@
 //! The names of fields, and the keys of objects at which they lie.
 
-ghost use Rattle.std.specs.Prelude.{◌≡◌, ◌==◌, not, true, option_map};
-ghost use Rattle.std.specs.List.{list_any};
+ghost use Rattle.std.specs.Prelude.{◌≡◌, true, option_map};
 ghost use Rattle.std.specs.Option.{option_to_list};
 ghost use Rattle.serde_json.specs.View.{view, members_view};
-ghost use Rattle.query_match.specs.Values.{after_key, held_at};
-ghost use Rattle.doc_match.specs.Fields.{is_key};
+ghost use Rattle.query_match.specs.Values.{after_key, held_at, is_key};
 
 use serde_json::{Map, Value};
-
-/// Whether a field has no dot in its name, so that nothing lies at it but what is at the key of that name.
-pub(crate) fn is_key(field: &str) -> bool
-    ensures { result ≡ is_key field.now }
-{
-    !field.as_bytes().contains(&b'.')
-}
 
 /// What lies at a field without a dot, where something does.
 pub(crate) fn member<'v>(members: &'v Map<String, Value>, field: &str) -> Option<&'v Value>

@@ -12,7 +12,7 @@ use serde_json::{Map, Value};
 use std::cmp::Ordering;
 
 /// Kind and content are equal.
-fn are_equal(value: &Found<'_>, other: &Found<'_>) -> bool
+pub(crate) fn are_equal(value: &Found<'_>, other: &Found<'_>) -> bool
     ensures { result ≡ value_eq (found_view value.now) (found_view other.now) }
 {
     match (value, other) {

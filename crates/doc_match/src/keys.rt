@@ -3,12 +3,14 @@
 ghost use Rattle.std.specs.Prelude.{◌≡◌, option_map, IfOk};
 ghost use Rattle.serde_json.specs.View.{view};
 ghost use Rattle.query_match.specs.Found.{found_view};
-ghost use Rattle.query_match.specs.Sorting.{part_of, part_at, key_of};
+ghost use Rattle.query_match.specs.Values.{field_values};
+ghost use Rattle.query_match.specs.Sorting.{best_of, part_of, part_at, part_cmp, key_of, key_cmp};
 
 use crate::best::best_behind;
 use query_match::{Found, Items, KeyPart, SortBy, SortKey};
 use serde_json::Value;
 use std::alloc::{AllocError, Global};
+use std::cmp::Ordering;
 
 fn part_of(alloc: Global, descending: bool, best: Option<Found<'_>>) -> Result<KeyPart, AllocError>
     ensures { IfOk result (λ part. part ≡ part_of descending (option_map found_view best.entry)) }
@@ -26,15 +28,18 @@ fn part_of(alloc: Global, descending: bool, best: Option<Found<'_>>) -> Result<K
     }
 }
 
+/// The value of a document that an entry of a sort goes by.
+fn best_by<'v>(by: &SortBy, source: &'v Value) -> Option<Found<'v>>
+    ensures { option_map found_view result
+        ≡ best_of by.now.descending (field_values by.now.field (view source.entry.now)) }
+{
+    best_behind(by.descending, by.field.as_str(), None, source)
+}
+
 fn key_part(alloc: Global, by: &SortBy, source: &Value) -> Result<KeyPart, AllocError>
     ensures { IfOk result (λ part. part ≡ part_at (view source.now) by.now) }
 {
-    let field = by.field.as_str();
-    part_of(
-        alloc,
-        by.descending,
-        best_behind(by.descending, field, None, source),
-    )
+    part_of(alloc, by.descending, best_by(by, source))
 }
 
 /// The key of a document for a sort.
@@ -48,4 +53,51 @@ pub fn sort_key(alloc: Global, sort: &[SortBy], source: &Value) -> Result<SortKe
         parts.push(key_part(alloc, by, source)?)?;
     }
     Ok(SortKey::from_parts(Items::from_vec(parts)))
+}
+
+/// How the part that goes by the best value of a field stands to another part.
+fn compare_best(descending: bool, best: Option<Found<'_>>, part: &KeyPart) -> Ordering
+    ensures { result ≡ part_cmp (part_of descending (option_map found_view best.entry)) part.now }
+{
+    match (best, part) {
+        (None, KeyPart::Missing) => Ordering::Equal,
+        (None, _) => Ordering::Greater,
+        (Some(_), KeyPart::Missing) => Ordering::Less,
+        (Some(_), KeyPart::Ascending(_)) if descending => Ordering::Greater,
+        (Some(found), KeyPart::Ascending(value)) => found.compare(&value.lent()),
+        (Some(found), KeyPart::Descending(value)) if descending => value.lent().compare(&found),
+        (Some(_), KeyPart::Descending(_)) => Ordering::Less,
+    }
+}
+
+/// How the part of a document for an entry of a sort stands to another part.
+fn compare_part(by: &SortBy, source: &Value, part: &KeyPart) -> Ordering
+    ensures { result ≡ part_cmp (part_at (view source.now) by.now) part.now }
+{
+    compare_best(by.descending, best_by(by, source), part)
+}
+
+/// How the key of a document for a sort stands to another key.
+///
+/// It takes no memory, and looks at no further field once a part differs. A number with a fraction or an exponent is no
+/// value. A key of fewer parts stands before those that begin with the same parts.
+pub fn compare_key(sort: &[SortBy], source: &Value, key: &SortKey) -> Ordering
+    ensures { result ≡ key_cmp (key_of sort.now (view source.now)) key.now }
+{
+    let mut rest = key.as_slice();
+    for by in sort {
+        let Some((part, later)) = rest.split_first() else {
+            return Ordering::Greater;
+        };
+        let order = compare_part(by, source, part);
+        if order.is_ne() {
+            return order;
+        }
+        rest = later;
+    }
+    if rest.is_empty() {
+        Ordering::Equal
+    } else {
+        Ordering::Less
+    }
 }

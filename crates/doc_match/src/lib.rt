@@ -1,4 +1,4 @@
-//! Whether a document matches a query, and by which key a sort orders it.
+//! Whether a document matches a query or has what it picks, and by which key a sort orders it.
 #![tactic(auto)]
 
 mod best;
@@ -6,6 +6,8 @@ mod field;
 mod field_test;
 mod keys;
 mod matching;
+mod picked;
 
-pub use keys::sort_key;
+pub use keys::{compare_key, sort_key};
 pub use matching::matches;
+pub use picked::has_picked;

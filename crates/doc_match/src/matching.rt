@@ -7,9 +7,9 @@ ghost use Rattle.query_match.specs.Matching.{holds, matches, all_match, none_mat
 ghost use Rattle.query_match.specs.Values.{same_bytes, held_at, held_by_key, held_behind, held_behind_each};
 ghost use Rattle.query_match.specs.View.{query_view, queries_view};
 
-use crate::field::{after_key, is_key, member};
+use crate::field::{after_key, member};
 use crate::field_test::holds;
-use query_match::{Node, Query, Test, Text};
+use query_match::{Node, Query, Test, Text, is_key};
 use serde_json::{Map, Value};
 
 /// Something that lies at the field of an object passes the test. A field without a dot is one look-up.

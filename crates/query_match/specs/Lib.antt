@@ -6,3 +6,4 @@ pub mod Matching
 pub mod Found
 pub mod Sorting
 pub mod Orders
+pub mod Picks

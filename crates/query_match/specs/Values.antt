@@ -1,7 +1,7 @@
 -- The values of a field in a document, and their order.
-use Rattle.std.specs.Prelude.{ℕ, List, [], ◌∷◌, ◌++◌, length, drop, Bool, true, false, ◌||◌, ◌==◌, nat_eq, Option, Some, None, option_map, is_some, if◌then◌else◌}
+use Rattle.std.specs.Prelude.{ℕ, List, [], ◌∷◌, ◌++◌, length, drop, Bool, true, false, not, ◌||◌, ◌==◌, nat_eq, Option, Some, None, option_map, is_some, if◌then◌else◌}
 use Rattle.std.specs.Option.{option_map_or, option_to_list}
-use Rattle.std.specs.List.{starts_with, flat_map}
+use Rattle.std.specs.List.{starts_with, flat_map, list_any}
 use Rattle.std.specs.declared.cmp.Ordering.{Ordering}
 use Rattle.std.specs.declared.cmp.Ordering.TheVariants.{Less, Greater}
 use Rattle.std.specs.Ordering.{nat_cmp, int_cmp, int_eq, bool_cmp, is_eq}
@@ -82,6 +82,10 @@ abbrev mutual
   some_key_has_value (member k d ms) = has_value d || some_key_has_value ms
 
 -- ---- fields
+
+-- a name without a dot
+abbrev pub is_key : List ℕ → Bool
+is_key f = not (list_any (λ b. b == 46) f)
 
 abbrev pub after_dot : List ℕ → Option (List ℕ)
 after_dot [] = None

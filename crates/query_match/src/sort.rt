@@ -139,6 +139,13 @@ impl SortKey {
         SortKey { parts }
     }
 
+    /// The parts in the order of the sort, borrowed.
+    pub fn as_slice(&self) -> &[KeyPart]
+        ensures { result.now ≡ self.now }
+    {
+        self.parts.as_slice()
+    }
+
     /// An equal key. It fails only for want of memory.
     pub fn copy(&self) -> Result<SortKey, AllocError>
         ensures { IfOk result (λ key. key ≡ self.now) }
