@@ -33,7 +33,7 @@ has_id-take id place (suc more) version (doc ∷ later) e =
     (cases_Bool (bytes_eq id doc.id))
 
 -- a place before the first has no row
-none_before : (place first : ℕ) (writes : List Doc) → place < first → lookup (λ other. eqb place other) (living_rows first writes) ≡ None
+pub none_before : (place first : ℕ) (writes : List Doc) → place < first → lookup (λ other. eqb place other) (living_rows first writes) ≡ None
 none_before place first [] h = refl
 none_before place first (doc ∷ later) h =
     let other : eqb place first ≡ false = ne_eqb place first (λ e. omega arith) in

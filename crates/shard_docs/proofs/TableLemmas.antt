@@ -6,6 +6,7 @@ use Rattle.std.proofs.Math.Seq.{map-set_same}
 use Rattle.std.proofs.lemmas.Map.Text.{hash_map_updates_text}
 use Rattle.std.specs.HashMap.{HashMap, get, get_by_text, Updates}
 use Rattle.std.specs.List.{list_any}
+use Rattle.std.specs.Map.{lookup}
 use Rattle.std.specs.Str.{bytes_eq}
 use Rattle.std.specs.String.{string_eq}
 use Rattle.std.specs.declared.alloc.Global.{Global}
@@ -35,7 +36,7 @@ some_here : (same : Bool) → is_some (here_if same) ≡ same
 some_here true = refl
 some_here false = refl
 
-some_place : (id : List ℕ) (writes : List Doc) → is_some (last_place id writes) ≡ has_id id writes
+pub some_place : (id : List ℕ) (writes : List Doc) → is_some (last_place id writes) ≡ has_id id writes
 some_place id [] = refl
 some_place id (doc ∷ later) =
     some_further (last_place id later) (here_if (bytes_eq id doc.id)) ∙ ap (λ b. is_some (here_if (bytes_eq id doc.id)) || b) (some_place id later)
@@ -158,8 +159,16 @@ deaths-more place next (first ∷ later) doc e =
         (λ other. rw (other.0, other.1) (first_dies (died_at first.id (suc place) later) (last_place doc.id later) false (suc next) (λ no. cc)))
         (same_or_other first.id doc.id)
 
-abbrev Living : Type 0
+abbrev pub Living : Type 0
 Living = HashMap (String Global) ℕ (BuildHasherDefault FoldHasher)
+
+-- a table with the same entries
+pub same_tables : (rows : List StoredRow) (living same : Living) → same.entries ≡ living.entries → IsTables rows living → IsTables rows same
+same_tables rows living same e tables = record {
+  few = tables.few;
+  died = tables.died;
+  places = λ id. ap (λ es. lookup (λ key. bytes_eq id (string_bytes key)) es) e ∙ tables.places id;
+}
 
 -- what the table had for the id
 pub found_place : (rows : List StoredRow) (living : Living) (doc : Doc) (key : String Global) (old found : Option ℕ) → IsTables rows living → string_bytes key ≡ doc.id
@@ -168,7 +177,7 @@ found_place rows living doc key old found tables named is_old is_found =
     sym (ap (λ id. last_place id (docs_of rows)) named) ∙ sym (tables.places (string_bytes key)) ∙ sym is_old ∙ is_found
 
 -- the documents of the rows after a row was added
-docs_more : (rows : List StoredRow) (doc : Doc) → docs_of (rows ++ record { doc = doc; died = None } ∷ []) ≡ docs_of rows ++ doc ∷ []
+pub docs_more : (rows : List StoredRow) (doc : Doc) → docs_of (rows ++ record { doc = doc; died = None } ∷ []) ≡ docs_of rows ++ doc ∷ []
 docs_more rows doc = map_push (λ row. row.doc) rows (record { doc = doc; died = None })
 
 -- and another died

@@ -1,10 +1,12 @@
 pub mod BulkAction
+pub mod Candidates
 pub mod Corpus
 pub mod CorpusRead
 pub mod Deaths
 pub mod Ends
 pub mod Fault
 pub mod Json
+pub mod Places
 pub mod Seen
 pub mod Tables
 pub mod Written

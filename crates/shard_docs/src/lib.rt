@@ -4,6 +4,7 @@
 mod action;
 mod corpus;
 mod fault;
+mod index;
 mod json_line;
 mod lines;
 mod placing;

@@ -1,8 +1,14 @@
-ghost use Rattle.std.specs.Prelude.{◌≡◌, ◌∷◌, [], ◌++◌, length, option_copied, IfOk, OnOk, OnErr};
+ghost use Rattle.std.specs.Prelude.{◌≡◌, ℕ, ◌<◌, ◌≤◌, ◌+◌, ◌-◌, ◌^◌, ◌∷◌, [], ◌++◌, if◌then◌else◌, length, take, filter, true, false, Some, None, option_copied, option_map, IfOk, IfSome, OnOk, OnErr};
 ghost use Rattle.task_ids.specs.Rows.{row_at};
+ghost use Rattle.query_match.specs.Picks.{picked};
+ghost use Rattle.query_match.specs.Values.{is_key};
+ghost use Rattle.shard_docs.specs.Candidates.{next_places, living_row, is_candidate, is_above};
 ghost use Rattle.shard_docs.specs.Written.{outcome_of};
 ghost use Rattle.shard_docs.specs.Deaths.{is_alive_before};
 
+use crate::index::{Index, places_above};
+use doc_match::has_picked;
+use query_match::Pick;
 use std::alloc::{AllocError, Global};
 use std::collections::HashMap;
 use std::marker::Model;
@@ -46,10 +52,14 @@ pub struct Shard {
     rows: Vec<StoredRow>,
     /// The place of the living row of each id.
     living: HashMap<String, u32>,
+    /// The places of the rows, dead ones too, by the values of their fields.
+    index: Index,
+    /// A write for which memory ran out may have left places in the index that no row has.
+    spoiled: bool,
 }
 
 impl Model for Shard {
-    ghost use Rattle.std.specs.Prelude.{List, map};
+    ghost use Rattle.std.specs.Prelude.{◌≡◌, List, map, false};
     ghost use Rattle.task_ids.specs.declared.doc.Doc.{Doc};
     ghost use Rattle.task_ids.specs.contracts.doc.Doc as doc;
     ghost use Rattle.std.specs.Coded.{coded_list};
@@ -59,10 +69,12 @@ impl Model for Shard {
     ghost coded = { coded_list doc.the_row.coded };
 
     ghost use Rattle.shard_docs.specs.Tables.{IsTables};
+    ghost use Rattle.shard_docs.specs.Places.{IsIndexOf, IsExactFor};
 
     ghost view = { λ s. map (λ row. row.doc) s.rows.items };
 
-    ghost invariant = { λ s. IsTables s.rows.items s.living };
+    ghost invariant = { λ s. IsTables s.rows.items s.living × IsIndexOf (map (λ row. row.doc) s.rows.items) s.index
+        × (s.spoiled ≡ false → IsExactFor (map (λ row. row.doc) s.rows.items) s.index) };
 }
 
 impl Shard {
@@ -73,6 +85,8 @@ impl Shard {
         Shard {
             rows: Vec::new(alloc),
             living: HashMap::new(alloc),
+            index: Index::new(alloc),
+            spoiled: false,
         }
     }
 
@@ -87,12 +101,17 @@ impl Shard {
         if place == MAX_ROWS {
             return Err(AllocError);
         }
+        // until the row of the new places stands
+        let was_spoiled = self.spoiled;
+        self.spoiled = true;
+        self.index.add(doc.source.as_value(), place as u32)?;
         let id = String::from_str(*self.rows.allocator(), doc.id.get().as_str())?;
         self.rows.push(StoredRow { doc, died: None })?;
         let Ok(replaced) = self.living.insert(id, place as u32) else {
             self.rows.truncate(place);
             return Err(AllocError);
         };
+        self.spoiled = was_spoiled;
         let Some(replaced) = replaced else {
             return Ok(Written::Created);
         };
@@ -125,4 +144,133 @@ impl Shard {
             None
         }
     }
+
+    /// The place and the document of the row of an id that is alive at the newest version. `None` where no row of it is
+    /// alive.
+    pub fn living(&self, id: &[u8]) -> Option<(u32, &Doc)>
+        ensures { option_map (λ found. (found.0, found.1.now)) result ≡ living_row id.now self.now }
+    {
+        let living = &self.living;
+        let Ok(id) = str::from_utf8(id) else {
+            return None;
+        };
+        let place = *living.get(id)?;
+        Some((place, &self.rows[place as usize].doc))
+    }
+
+    /// The next places above one, or from the first on, ascending, of rows that are alive at a version and have what is
+    /// picked, a value at a field without a dot, where something is. It fills `out` from its start and tells how many
+    /// there are: fewer than there is room for only where no more are left.
+    pub fn candidates(
+        &self,
+        version: u32,
+        pick: Option<Pick<'_>>,
+        after: Option<u32>,
+        out: &mut [u32],
+    ) -> usize
+        requires { IfSome pick (λ p. is_key p.field.now ≡ true) }
+        ensures count { result ≡ length (take (length out.old) (next_places (option_map picked pick.entry) version after self.now)) }
+        ensures places { take result out.new ≡ take (length out.old) (next_places (option_map picked pick.entry) version after self.now) }
+    {
+        match pick {
+            Some(pick) => self.picked_places(version, pick, after, out),
+            None => self.all_places(version, after, out),
+        }
+    }
+
+    /// The first places above one of rows that are alive at a version and have what is picked.
+    fn picked_places(
+        &self,
+        version: u32,
+        pick: Pick<'_>,
+        after: Option<u32>,
+        out: &mut [u32],
+    ) -> usize
+        requires { is_key pick.field.now ≡ true }
+        ensures count { result ≡ length (take (length out.old) (next_places (Some (picked pick.entry)) version after self.now)) }
+        ensures places { take result out.new ≡ take (length out.old) (next_places (Some (picked pick.entry)) version after self.now) }
+    {
+        let places = places_above(self.index.places(pick.field.as_str(), pick.value), after);
+        if self.spoiled {
+            return self.candidates_among(version, Some(pick), places, out);
+        }
+        // the rows have what is picked, so none has to be looked into
+        self.candidates_among(version, None, places, out)
+    }
+
+    /// The first of some places at which rows are candidates.
+    fn candidates_among(
+        &self,
+        version: u32,
+        pick: Option<Pick<'_>>,
+        places: &[u32],
+        out: &mut [u32],
+    ) -> usize
+        requires { IfSome pick (λ p. is_key p.field.now ≡ true) }
+        ensures count { result ≡ length (take (length out.old) (filter (is_candidate (option_map picked pick.entry) version self.now) places.now)) }
+        ensures places { take result out.new ≡ take (length out.old) (filter (is_candidate (option_map picked pick.entry) version self.now) places.now) }
+    {
+        let mut count = 0;
+        for place in places {
+            if count == out.len() {
+                return count;
+            }
+            let is_chosen = self.is_candidate(version, pick, *place);
+            count = put(out, count, *place, is_chosen);
+        }
+        count
+    }
+
+    /// The first places above one of rows that are alive at a version.
+    fn all_places(&self, version: u32, after: Option<u32>, out: &mut [u32]) -> usize
+        ensures count { result ≡ length (take (length out.old) (next_places None version after self.now)) }
+        ensures places { take result out.new ≡ take (length out.old) (next_places None version after self.now) }
+    {
+        let mut count = 0;
+        for place in first_above(after)..version.min(self.rows()) {
+            if count == out.len() {
+                return count;
+            }
+            let is_chosen = self.is_candidate(version, None, place);
+            count = put(out, count, place, is_chosen);
+        }
+        count
+    }
+
+    /// The row of a place is alive at a version and has what is picked, where something is.
+    fn is_candidate(&self, version: u32, pick: Option<Pick<'_>>, place: u32) -> bool
+        requires { IfSome pick (λ p. is_key p.field.now ≡ true) }
+        ensures { result ≡ is_candidate (option_map picked pick.entry) version self.now place }
+    {
+        match (self.row(version, place), pick) {
+            (Some(doc), Some(pick)) => has_picked(pick, doc.source.as_value()),
+            (Some(_), None) => true,
+            (None, _) => false,
+        }
+    }
+}
+
+/// The first place above one, if a row can have it.
+fn first_above(after: Option<u32>) -> u32
+    ensures below { (p : ℕ) → p < result → is_above after p ≡ false }
+    ensures from { (p : ℕ) → result ≤ p → p < 2 ^ 32 - 1 → is_above after p ≡ true }
+{
+    match after {
+        Some(after) => after.saturating_add(1),
+        None => 0,
+    }
+}
+
+/// Puts a place behind the first ones, where it is chosen, and tells how many there are now.
+fn put(places: &mut [u32], count: usize, place: u32, is_chosen: bool) -> usize
+    requires { count < length places.old }
+    ensures count { result ≡ count + (if is_chosen then 1 else 0) }
+    ensures places { take result places.new ≡ take count places.old ++ (if is_chosen then place ∷ [] else []) }
+    ensures len { length places.new ≡ length places.old }
+{
+    if !is_chosen {
+        return count;
+    }
+    places[count] = place;
+    count + 1
 }
