@@ -5,18 +5,17 @@ use Rattle.std.proofs.Common.{sym, ◌∙◌, ap, subst, arith, true≢false}
 use Rattle.std.proofs.lemmas.List.{take-append-le, take_all}
 use Rattle.query_match.specs.declared.body.SearchBody.{SearchBody}
 use Rattle.task_ids.specs.declared.doc.Doc.{Doc}
-use Rattle.task_ids.specs.Rows.{living_rows}
+use Rattle.task_ids.specs.Rows.{Row, living_rows}
 use Rattle.task_events.specs.declared.request.HitKey.{HitKey}
 use Rattle.task_events.specs.declared.request.ShardAsk.{ShardAsk}
 use Rattle.task_events.specs.declared.request.SlicePick.{SlicePick}
 use Rattle.task_events.specs.declared.request.FetchAsk.{FetchAsk}
-use Rattle.task_events.specs.declared.reply.ShardTop.{ShardTop}
-use Rattle.task_events.specs.Answers.{hit_at, window, keys_among, matching_keys, shard_top, fetched}
+use Rattle.task_events.specs.Answers.{candidates, hit_at, window, keys_among, matching_keys, shard_top, fetched}
 use Rattle.task_events.specs.HitOrder.{in_hit_order, is_after}
 use Rattle.task_events.specs.Looking.{rows_per_turn, is_done}
-use Rattle.search_phase.specs.Queries.{QueryState, IsQueried, HasTurned, new_query, version_at, has_ended, keys_below, first_keys, queried, without_keys}
+use Rattle.task_events.specs.QueryTask.{rows_for}
+use Rattle.search_phase.specs.Queries.{QueryState, IsQueried, new_query, version_at, rows_in, keys_of_rows, last_place, first_keys, queried, without_keys}
 use Rattle.search_phase.specs.Fetches.{FetchState, IsFetched, new_fetch, hits_of_first, fetched_in}
-use Rattle.search_phase.proofs.Rows.{keys_below-none, keys_below-grow}
 
 -- ---- what the shard says
 
@@ -44,12 +43,12 @@ hit_at-grow index version place writes more within =
 
 -- ---- queries
 
--- before the first turn nothing was found
-queried-none : (ask : ShardAsk) (version : ℕ) (writes : List Doc) → queried ask version 0 writes ≡ record { ask = ask; version = Some version; turns = 0; count = 0; keys = [] }
+-- before the first turn nothing was looked at
+queried-none : (ask : ShardAsk) (version : ℕ) (writes : List Doc) → queried ask version 0 writes ≡ record { ask = ask; version = Some version; turns = 0; last = None; count = 0; keys = [] }
 queried-none ask version writes =
-    let none : keys_below ask version (0 * rows_per_turn) writes ≡ [] = ap (λ n. keys_below ask version n writes) (Rattle.std.proofs.Math.Nat.zero-mul rows_per_turn) ∙ keys_below-none ask version writes in
-    ap (λ (found : List HitKey). record { ask = ask; version = Some version; turns = 0; count = length found; keys = first_keys ask found }) none
-    ∙ ap (λ (keys : List HitKey). record { ask = ask; version = Some version; turns = 0; count = 0; keys = keys }) (take_all (window ask.body) [] (omega arith))
+    let none : rows_in ask version 0 writes ≡ [] = ap (λ n. take n (rows_for ask version writes)) (Rattle.std.proofs.Math.Nat.zero-mul rows_per_turn) in
+    ap (λ (rows : List Row). record { ask = ask; version = Some version; turns = 0; last = last_place None rows; count = length (keys_of_rows ask rows); keys = first_keys ask (keys_of_rows ask rows) }) none
+    ∙ ap (λ (keys : List HitKey). record { ask = ask; version = Some version; turns = 0; last = None; count = 0; keys = keys }) (take_all (window ask.body) [] (omega arith))
 
 -- before the first turn all that is to hold holds
 pub new_query-queried : (ask : ShardAsk) (writes : List Doc) → IsQueried (new_query ask) writes
@@ -59,12 +58,17 @@ new_query-queried ask writes = record { version_asked = itself ask.version; vers
     itself None = tt
     itself (Some version) = refl
 
+-- the rows that a query looks at stay
+pub rows_for-grow : (ask : ShardAsk) (version : ℕ) (writes more : List Doc) → version ≤ length writes → rows_for ask version (writes ++ more) ≡ rows_for ask version writes
+rows_for-grow ask version writes more within = ap (λ first. candidates ask.body.query (living_rows 0 first)) (take-append-le version writes more within)
+
 queried-grow : (ask : ShardAsk) (version turns : ℕ) (writes more : List Doc) → version ≤ length writes → queried ask version turns (writes ++ more) ≡ queried ask version turns writes
 queried-grow ask version turns writes more within =
-    ap (λ (found : List HitKey).
-    let q : QueryState = record { ask = ask; version = Some version; turns = turns; count = length found; keys = first_keys ask found } in
-    cond (is_done turns version) (without_keys q) q)
-    (keys_below-grow ask version (turns * rows_per_turn) writes more within)
+    ap (λ (rows : List Row).
+    let first = take (turns * rows_per_turn) rows in
+    let q : QueryState = record { ask = ask; version = Some version; turns = turns; last = last_place None first; count = length (keys_of_rows ask first); keys = first_keys ask (keys_of_rows ask first) } in
+    cond (is_done turns (length rows)) (without_keys q) q)
+    (rows_for-grow ask version writes more within)
 
 -- and what holds before the first turn holds over any writes
 pub IsQueried-unturned : (q : QueryState) (writes other : List Doc) → q.turns ≡ 0 → IsQueried q writes → IsQueried q other
@@ -99,56 +103,6 @@ IsQueried-grow q writes more within h = go q.version refl within
           looked = subst (λ n. record q { version = Some n } ≡ queried q.ask n q.turns (writes ++ more)) (sym there) (same ∙ sym (queried-grow q.ask version q.turns writes more within));
         }
 
--- ---- the version of a query
-
--- once it is fixed it is the same over any writes
-pub version_at-fixed : (q : QueryState) (writes other : List Doc) → IsSome q.version → version_at q other ≡ version_at q writes
-version_at-fixed q writes other fixed = of_version q.version fixed
-  where
-    of_version : (o : Option ℕ) → IsSome o → unwrap_or o (length other) ≡ unwrap_or o (length writes)
-    of_version (Some version) fixed = refl
-    of_version None fixed = absurd (true≢false (sym fixed))
-
-pub version_at-within : (q : QueryState) (writes : List Doc) → IfSome q.version (λ version. version ≤ length writes) → version_at q writes ≤ length writes
-version_at-within q writes within = of_version q.version within
-  where
-    of_version : (o : Option ℕ) → IfSome o (λ version. version ≤ length writes) → unwrap_or o (length writes) ≤ length writes
-    of_version (Some version) within = within
-    of_version None within = omega arith
-
--- a turn fixes a version within the writes
-pub version_turned-within : (before after : QueryState) (writes : List Doc) → HasTurned before writes after → IfSome before.version (λ version. version ≤ length writes)
-    → IfSome after.version (λ version. version ≤ length writes)
-version_turned-within before after writes h within = subst (λ o. IfSome o (λ version. version ≤ length writes)) (sym h.version_fixed) (version_at-within before writes within)
-
--- later writes end no query
-pub has_ended-grow : (q : QueryState) (writes other : List Doc) → (0 < q.turns → IsSome q.version) → has_ended q other ≡ has_ended q writes
-has_ended-grow q writes other fixed = go q.version refl
-  where
-    go : (o : Option ℕ) → q.version ≡ o → has_ended q other ≡ has_ended q writes
-    go (Some version) e = ap (is_done q.turns) (version_at-fixed q writes other (ap is_some e))
-    go None e =
-        let none : q.turns ≡ 0 = unturned q fixed e in
-        ap (λ n. is_done n (version_at q other)) none ∙ sym (ap (λ n. is_done n (version_at q writes)) none)
-
--- nor do they change what it tells once it has ended
-pub top_told-grow : {X : Type 0} (told : ShardTop → X) (none : X) (q : QueryState) (writes more : List Doc) → (0 < q.turns → IsSome q.version) → IfSome q.version (λ version. version ≤ length writes)
-    → cond (has_ended q (writes ++ more)) (told (shard_top q.ask (version_at q (writes ++ more)) (writes ++ more))) none ≡ cond (has_ended q writes) (told (shard_top q.ask (version_at q writes) writes)) none
-top_told-grow told none q writes more fixed within = go q.version refl within
-  where
-    go : (o : Option ℕ) → q.version ≡ o → IfSome o (λ version. version ≤ length writes)
-        → cond (has_ended q (writes ++ more)) (told (shard_top q.ask (version_at q (writes ++ more)) (writes ++ more))) none ≡ cond (has_ended q writes) (told (shard_top q.ask (version_at q writes) writes)) none
-    go (Some version) e within =
-        let here : version_at q writes ≡ version = ap (λ o. unwrap_or o (length writes)) e in
-        let there : version_at q (writes ++ more) ≡ version = ap (λ o. unwrap_or o (length (writes ++ more))) e in
-        ap (λ v. cond (is_done q.turns v) (told (shard_top q.ask v (writes ++ more))) none) there
-        ∙ ap (λ top. cond (is_done q.turns version) (told top) none) (shard_top-grow q.ask version writes more within)
-        ∙ sym (ap (λ v. cond (is_done q.turns v) (told (shard_top q.ask v writes)) none) here)
-    go None e within =
-        let unturned : q.turns ≡ 0 = unturned q fixed e in
-        ap (λ n. cond (is_done n (version_at q (writes ++ more))) (told (shard_top q.ask (version_at q (writes ++ more)) (writes ++ more))) none) unturned
-        ∙ sym (ap (λ n. cond (is_done n (version_at q writes)) (told (shard_top q.ask (version_at q writes) writes)) none) unturned)
-
 -- ---- fetches
 
 pub IsFetched-grow : (f : FetchState) (writes more : List Doc) → f.ask.version ≤ length writes → IsFetched f writes → IsFetched f (writes ++ more)
@@ -158,13 +112,6 @@ IsFetched-grow f writes more within h =
 -- before the first turn there are no documents
 pub new_fetch-fetched : (ask : FetchAsk) (writes : List Doc) → IsFetched (new_fetch ask) writes
 new_fetch-fetched ask writes = ap (λ n. record { ask = ask; turns = 0; hits = hits_of_first ask n writes }) (sym (Rattle.std.proofs.Math.Nat.zero-mul rows_per_turn))
-
--- and what holds before the first turn holds over any writes
-pub IsFetched-unturned : (f : FetchState) (writes other : List Doc) → f.turns ≡ 0 → IsFetched f writes → IsFetched f other
-IsFetched-unturned f writes other none h =
-    let over : List Doc → FetchState = λ writes. fetched_in f.ask f.turns writes in
-    let empty : (writes : List Doc) → over writes ≡ new_fetch f.ask = λ writes. ap (λ n. fetched_in f.ask n writes) none ∙ sym (new_fetch-fetched f.ask writes) in
-    h ∙ empty writes ∙ sym (empty other)
 
 -- what a turn comes to is a fetch over the same writes
 pub fetched_in-fetched : (f : FetchState) (ask : FetchAsk) (turns : ℕ) (writes : List Doc) → f ≡ fetched_in ask turns writes → IsFetched f writes

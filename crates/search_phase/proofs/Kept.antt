@@ -1,18 +1,18 @@
 -- Of the keys that stand first, what one more key changes.
-use Rattle.std.specs.Prelude.{◌≡◌, ℕ, ◌<◌, ◌≤◌, Option, Some, None, IsSome, IfSome, Bool, true, false, cond, List, [], ◌∷◌, ◌++◌, length, take, filter, IsPermutation}
+use Rattle.std.specs.Prelude.{◌≡◌, ℕ, zero, suc, ◌<◌, ◌≤◌, Option, Some, None, IsSome, IfSome, Bool, true, false, cond, List, [], ◌∷◌, ◌++◌, length, take, filter, IsPermutation}
 use Rattle.std.specs.List.{AllByRecursion}
 use Rattle.std.specs.BinaryHeap.{IsHeap, IsUpperBound}
 use Rattle.std.proofs.Common.{sym, ◌∙◌, ap, subst, arith, get_or, true≢false}
 use Rattle.std.proofs.Math.Seq.{take-append_seam}
 use Rattle.std.proofs.lemmas.List.{take_all, get_or_default, append-nil}
 use Rattle.std.proofs.lemmas.List.Elements.{filter-append, recursion_from_All, All-from_recursion}
-use Rattle.std.proofs.lemmas.List.Sorted.{IsPermutation-refl, IsPermutation-sym, IsPermutation-cons, IsPermutation-trans, IsPermutation-middle, IsPermutation-to_front, IsPermutation-append_comm, length_permutation, All-permutation}
+use Rattle.std.proofs.lemmas.List.Sorted.{IsPermutation-refl, IsPermutation-sym, IsPermutation-cons, IsPermutation-trans, IsPermutation-middle, IsPermutation-to_front, IsPermutation-append, IsPermutation-append_comm, length_permutation, All-permutation}
 use Rattle.task_events.specs.declared.request.HitKey.{HitKey}
 use Rattle.task_events.specs.HitOrder.{hit_cmp, placed, in_hit_order}
 use Rattle.search_phase.proofs.Sorting.{put_all, take-put, take-put_all, put_all-append}
 use Rattle.search_phase.proofs.HitKeys.{hit_cmp_total, stands_first, hits_linear, placed-put, in_hit_order-put_all}
 use Rattle.search_phase.proofs.Cut.{length-in_hit_order}
-use Rattle.search_phase.proofs.Ordered.{IsInOrder, in_hit_order-permutation, in_hit_order-permuted, in_hit_order-unique, in_hit_order-in_order, turned}
+use Rattle.search_phase.proofs.Ordered.{IsInOrder, in_hit_order-permutation, in_hit_order-same, in_hit_order-permuted, in_hit_order-unique, in_hit_order-in_order, turned}
 
 -- ---- a key that stands last
 
@@ -96,6 +96,28 @@ first_append most kept all more before =
     turned_round : (keys : List HitKey) → in_hit_order (keys ++ more) ≡ put_all stands_first more (in_hit_order keys)
     turned_round keys =
         in_hit_order-permuted _ _ (IsPermutation-append_comm keys more) ∙ in_hit_order-put_all (more ++ keys) ∙ put_all-append hits_linear more keys [] ∙ ap (put_all stands_first more) (sym (in_hit_order-put_all keys))
+
+-- the first of some keys stay the first of those that are kept of them
+in_order-take : (n : ℕ) (keys : List HitKey) → IsInOrder keys → IsInOrder (take n keys)
+in_order-take zero keys sorted = tt
+in_order-take (suc n) [] sorted = tt
+in_order-take (suc n) (key ∷ keys) sorted = (all_first n key keys sorted.0, in_order-take n keys sorted.1)
+  where
+    all_first : (n : ℕ) (key : HitKey) (keys : List HitKey) → AllByRecursion (λ later. stands_first key later ≡ true) keys → AllByRecursion (λ later. stands_first key later ≡ true) (take n keys)
+    all_first zero key keys all = tt
+    all_first (suc n) key [] all = tt
+    all_first (suc n) key (other ∷ keys) all = (all.0, all_first n key keys all.1)
+
+pub cut_stays : (most : ℕ) (keys : List HitKey) → in_hit_order (take most (in_hit_order keys)) ≡ take most (in_hit_order keys)
+cut_stays most keys = in_hit_order-same (take most (in_hit_order keys)) (in_order-take most (in_hit_order keys) (in_hit_order-in_order keys))
+
+-- keys that are kept, and the first of others, have the same first ones as all together
+pub merged : (most : ℕ) (kept found others : List HitKey) → in_hit_order found ≡ take most (in_hit_order others)
+    → take most (in_hit_order (kept ++ found)) ≡ take most (in_hit_order (in_hit_order kept ++ others))
+merged most kept found others h =
+    ap (take most) (in_hit_order-permuted _ _ (IsPermutation-append_comm kept found)) ∙ first_append most found others kept h
+    ∙ ap (take most) (in_hit_order-permuted _ _ (IsPermutation-append_comm others kept)
+    ∙ in_hit_order-permuted _ _ (IsPermutation-append kept (in_hit_order kept) others others (in_hit_order-permutation kept) (IsPermutation-refl others)))
 
 -- ---- one more key of a filtered list
 

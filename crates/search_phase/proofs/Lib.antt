@@ -11,8 +11,10 @@ pub mod Growth
 pub mod HitKeys
 pub mod Kept
 pub mod Lookups
+pub mod NextRows
 pub mod Ordered
 pub mod Parts
+pub mod Picking
 pub mod Plain
 pub mod PlainCounts
 pub mod PlainHits

@@ -1,6 +1,7 @@
 pub mod FetchPhase
 pub mod Fetches
 pub mod Growth
+pub mod LookedAt
 pub mod Merged
 pub mod Plans
 pub mod Queries

@@ -1,12 +1,15 @@
 //! Keeping the keys that stand first.
 
-ghost use Rattle.std.specs.Prelude.{◌≡◌, ◌+◌, ◌<◌, ◌≤◌, ◌∷◌, ◌++◌, length, take, filter, OnOk, OnErr};
+ghost use Rattle.std.specs.Prelude.{◌≡◌, ◌+◌, ◌<◌, ◌≤◌, ◌∷◌, ◌++◌, length, take, OnOk, OnErr};
 ghost use Rattle.std.specs.BinaryHeap.{IsHeap, heap_items, heap_len, heap_capacity};
+ghost use Rattle.task_events.specs.Answers.{hit_key};
 ghost use Rattle.task_events.specs.HitOrder.{hit_cmp, in_hit_order, is_after};
 
-use std::alloc::AllocError;
+use crate::looking::{compare_row, key_of_row};
+use std::alloc::{AllocError, Global};
 use std::collections::BinaryHeap;
-use task_events::HitKey;
+use task_events::{HitKey, ShardAsk};
+use task_ids::Doc;
 
 /// Keeps a key in place of the last one, where it stands before that one. It takes no memory.
 fn keep_before_last(first: &mut BinaryHeap<HitKey>, key: HitKey)
@@ -60,27 +63,55 @@ pub(crate) fn is_after(after: &Option<HitKey>, key: &HitKey) -> bool
     }
 }
 
-/// Keeps those of some keys that stand after a cursor among at most so many that stand first.
-/// Where memory runs out nothing has changed.
+/// Keeps some keys among at most so many that stand first. Where memory runs out nothing has changed.
 pub(crate) fn keep_all(
     first: &mut BinaryHeap<HitKey>,
     most: usize,
-    after: &Option<HitKey>,
     found: Vec<HitKey>,
 ) -> Result<(), AllocError>
     requires ordered { IsHeap hit_cmp (heap_items first.old) }
     requires few { length (heap_items first.old) ≤ most }
     ensures still_ordered { IsHeap hit_cmp (heap_items first.new) }
     ensures ok { OnOk result (in_hit_order (heap_items first.new)
-        ≡ take most (in_hit_order (heap_items first.old ++ filter (is_after after.now) found.items))) }
+        ≡ take most (in_hit_order (heap_items first.old ++ found.items))) }
     ensures err { OnErr result (heap_items first.new ≡ heap_items first.old) }
 {
     let room = found.len().min(most - first.len());
     first.reserve(room)?;
     for key in found {
-        if is_after(after, &key) {
-            keep(first, most, key);
-        }
+        keep(first, most, key);
     }
+    Ok(())
+}
+
+/// Keeps the key of a row among at most so many that stand first. It is made only where it is kept. It fails only for want
+/// of memory, and then the keys are used no more.
+pub(crate) fn keep_row(
+    alloc: Global,
+    first: &mut BinaryHeap<HitKey>,
+    most: usize,
+    ask: &ShardAsk,
+    place: u32,
+    doc: &Doc,
+) -> Result<(), AllocError>
+    requires ordered { IsHeap hit_cmp (heap_items first.old) }
+    requires few { heap_len first.old ≤ most }
+    ensures still_ordered { OnOk result (IsHeap hit_cmp (heap_items first.new)) }
+    ensures still_few { OnOk result (heap_len first.new ≤ most) }
+    ensures keys { OnOk result (in_hit_order (heap_items first.new)
+        ≡ take most (in_hit_order (hit_key ask.now.body ask.now.shard (place, doc.now) ∷ heap_items first.old))) }
+{
+    if most <= first.len() {
+        let Some(last) = first.peek() else {
+            return Ok(());
+        };
+        if !compare_row(ask, place, doc, last).is_lt() {
+            return Ok(());
+        }
+        let key = key_of_row(alloc, ask, place, doc)?;
+        keep_before_last(first, key);
+        return Ok(());
+    }
+    first.push(key_of_row(alloc, ask, place, doc)?)?;
     Ok(())
 }

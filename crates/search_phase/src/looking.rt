@@ -1,12 +1,14 @@
 //! Looking at the rows of a shard.
 
-ghost use Rattle.std.specs.Prelude.{◌≡◌, ◌≤◌, ◌∷◌, [], ◌++◌, ◌&&◌, IfOk, OnOk, Some, None};
-ghost use Rattle.task_events.specs.Answers.{is_in_slice, is_found, keys_among};
-ghost use Rattle.search_phase.specs.Queries.{keys_below};
+ghost use Rattle.std.specs.Prelude.{◌≡◌, ◌&&◌, IfOk};
+ghost use Rattle.task_events.specs.Answers.{is_in_slice, is_found, hit_key};
+ghost use Rattle.task_events.specs.HitOrder.{hit_cmp, is_after};
+ghost use Rattle.search_phase.specs.LookedAt.{counts_all};
 
-use doc_match::{matches, sort_key};
-use shard_docs::{Shard, slice_of};
+use doc_match::{compare_key, matches, sort_key};
+use shard_docs::slice_of;
 use std::alloc::{AllocError, Global};
+use std::cmp::Ordering;
 use task_events::{HitKey, ShardAsk, SlicePick};
 use task_ids::Doc;
 
@@ -19,52 +21,53 @@ fn is_in_slice(slice: Option<SlicePick>, id: &[u8]) -> bool
     }
 }
 
-fn is_found(ask: &ShardAsk, doc: &Doc) -> bool
+pub(crate) fn is_found(ask: &ShardAsk, doc: &Doc) -> bool
     ensures { result ≡ is_found ask.now.body ask.now.slice doc.now }
 {
     let id = doc.id.get().as_str().as_bytes();
     matches(&ask.body.get().query, id, doc.source.as_value()) && is_in_slice(ask.slice, id)
 }
 
-/// Adds the key of a row, where it matches.
-fn add_key(keys: &mut Vec<HitKey>, ask: &ShardAsk, place: u32, doc: &Doc) -> Result<(), AllocError>
-    ensures { OnOk result (keys.new.items
-        ≡ keys.old.items ++ keys_among ask.now.body ask.now.slice ask.now.shard ((place, doc.now) ∷ [])) }
+/// Whether each row that a query looks at matches, so that no document tells more.
+pub(crate) fn counts_all(ask: &ShardAsk) -> bool
+    ensures { result ≡ counts_all ask.now }
 {
-    if is_found(ask, doc) {
-        let sort = sort_key(
-            *keys.allocator(),
-            ask.body.get().sort.as_slice(),
-            doc.source.as_value(),
-        )?;
-        keys.push(HitKey {
-            sort,
-            shard: ask.shard,
-            place,
-        })?;
-    }
-    Ok(())
+    ask.slice.is_none() && ask.body.get().query.is_its_pick()
 }
 
-/// The keys of the rows that match, at a version, from a place on and below another.
-pub(crate) fn keys_between(
+/// How the key of a row stands to another in hit order. It copies nothing.
+pub(crate) fn compare_row(ask: &ShardAsk, place: u32, doc: &Doc, key: &HitKey) -> Ordering
+    ensures { result ≡ hit_cmp (hit_key ask.now.body ask.now.shard (place, doc.now)) key.now }
+{
+    let sort = ask.body.get().sort.as_slice();
+    compare_key(sort, doc.source.as_value(), &key.sort)
+        .then(ask.shard.cmp(&key.shard))
+        .then(place.cmp(&key.place))
+}
+
+/// Whether the key of a row stands after the cursor, where there is one.
+pub(crate) fn is_after_cursor(ask: &ShardAsk, place: u32, doc: &Doc) -> bool
+    ensures { result ≡ is_after ask.now.after (hit_key ask.now.body ask.now.shard (place, doc.now)) }
+{
+    match &ask.after {
+        None => true,
+        Some(last) => compare_row(ask, place, doc, last).is_gt(),
+    }
+}
+
+/// The key of a row. It fails only for want of memory.
+pub(crate) fn key_of_row(
     alloc: Global,
     ask: &ShardAsk,
-    shard: &Shard,
-    version: u32,
-    start: u32,
-    end: u32,
-) -> Result<Vec<HitKey>, AllocError>
-    requires { start ≤ end }
-    ensures { IfOk result (λ keys. keys_below ask.now version end shard.now
-        ≡ keys_below ask.now version start shard.now ++ keys.items) }
+    place: u32,
+    doc: &Doc,
+) -> Result<HitKey, AllocError>
+    ensures { IfOk result (λ key. key ≡ hit_key ask.now.body ask.now.shard (place, doc.now)) }
 {
-    let mut keys = Vec::new(alloc);
-    for place in start..end {
-        let Some(doc) = shard.row(version, place) else {
-            continue;
-        };
-        add_key(&mut keys, ask, place, doc)?;
-    }
-    Ok(keys)
+    let sort = sort_key(alloc, ask.body.get().sort.as_slice(), doc.source.as_value())?;
+    Ok(HitKey {
+        sort,
+        shard: ask.shard,
+        place,
+    })
 }

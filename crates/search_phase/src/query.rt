@@ -1,40 +1,53 @@
 //! The query phase of a search in one shard.
 
-ghost use Rattle.std.specs.Prelude.{◌≡◌, ◌+◌, List, false, IfOk, OnOk, OnErr};
+ghost use Rattle.std.specs.Prelude.{◌≡◌, ◌+◌, ◌≤◌, ◌<◌, ◌*◌, ◌^◌, ◌∷◌, [], ◌++◌, List, true, false, map, filter, take, length, IfOk, OnOk, OnErr};
+ghost use Rattle.std.specs.BinaryHeap.{IsHeap, heap_items};
 ghost use Rattle.task_ids.specs.declared.doc.Doc.{Doc};
-ghost use Rattle.search_phase.specs.Queries.{IsQueried, StaysQueried, HasTurned, new_query, version_at, has_ended, looked, queried, without_keys};
+ghost use Rattle.task_events.specs.Answers.{is_found, window};
+ghost use Rattle.task_events.specs.HitOrder.{hit_cmp, in_hit_order, is_after};
+ghost use Rattle.search_phase.specs.Queries.{IsQueried, StaysQueried, HasTurned, new_query, version_at, has_ended, has_none_left, next_rows, with_rows, keys_of_rows, first_keys, queried, without_keys};
 ghost use Rattle.search_phase.specs.TurnAnswers.{query_answer, is_ready};
 
-use crate::keeping::keep_all;
-use crate::looking::keys_between;
+use crate::keeping::{keep_all, keep_row};
+use crate::looking::{counts_all, is_after_cursor, is_found};
 use shard_docs::Shard;
 use std::alloc::{AllocError, Global};
 use std::collections::BinaryHeap;
 use std::marker::Model;
 use std::mem::replace;
 use task_events::{HitKey, ShardAsk, ShardTop};
-use task_ids::Items;
+use task_ids::{Doc, Items};
 
 /// How many rows a turn looks at, at most.
-const ROWS_PER_TURN: u32 = 1024;
+const ROWS_PER_TURN: usize = 1024;
+
+/// What some rows have come to: how many of them match, and the keys of those that stand first after the cursor, the last of
+/// them on top.
+#[derive(Drop)]
+struct Matches {
+    count: u64,
+    first: BinaryHeap<HitKey>,
+}
 
 /// What a turn of a query answers.
 #[derive(Drop)]
 pub enum TurnAnswer {
     /// Rows are left to look at.
     More,
-    /// All rows of the version were looked at.
+    /// No row is left to look at.
     Ready(ShardTop),
 }
 
-/// The query phase of a search in one shard, after Elasticsearch's query phase: it looks at the rows of one version,
-/// turn by turn, counts those that match and keeps the keys of those that stand first.
+/// The query phase of a search in one shard, after Elasticsearch's query phase: it looks at the rows of one version that
+/// have what the query picks, turn by turn, counts those that match and keeps the keys of those that stand first.
 #[derive(Drop)]
 pub struct ShardQuery {
     alloc: Global,
     ask: ShardAsk,
     version: Option<u32>,
     turns: u32,
+    /// The place of the last row that it has looked at.
+    last: Option<u32>,
     count: u64,
     /// The keys that stand first so far, the last of them on top.
     first: BinaryHeap<HitKey>,
@@ -56,6 +69,7 @@ impl Model for ShardQuery {
       ask = q.ask;
       version = q.version;
       turns = q.turns;
+      last = q.last;
       count = q.count;
       keys = in_hit_order (heap_items q.first);
     } };
@@ -64,6 +78,7 @@ impl Model for ShardQuery {
       ask = q.ask;
       version = q.version;
       turns = q.turns;
+      last = q.last;
       count = q.count;
       keys = in_hit_order (heap_items q.first);
     }) };
@@ -81,6 +96,7 @@ impl ShardQuery {
             ask,
             version,
             turns: 0,
+            last: None,
             count: 0,
             first: BinaryHeap::new(alloc),
         }
@@ -93,14 +109,14 @@ impl ShardQuery {
         &self.ask
     }
 
-    /// Looks at the rows of the next 1,024 places, or of those that are left. The first turn fixes the version, where
-    /// the ask names none. It fails only for want of memory, and then nothing has changed.
+    /// Looks at the next 1,024 rows of the version that have what the query picks, or at those that are left. The first turn
+    /// fixes the version, where the ask names none. It fails only for want of memory, and then nothing has changed.
     ///
     /// What it finds is what is asked for where all turns are over one shard, which may grow between them.
     pub fn turn(&mut self, shard: &Shard) -> Result<TurnAnswer, AllocError>
         requires { has_ended self.old shard.now ≡ false }
         ensures turned { OnOk result (HasTurned self.old shard.now self.new) }
-        ensures ready { IfOk result (λ answer. is_ready answer ≡ has_ended self.new shard.now) }
+        ensures ready { IfOk result (λ answer. is_ready answer ≡ has_none_left self.new shard.now) }
         ensures ok { IsQueried self.old shard.now
             → OnOk result (self.new ≡ queried self.old.ask (version_at self.old shard.now) (self.old.turns + 1) shard.now) }
         ensures goes_on { IsQueried self.old shard.now → OnOk result (IsQueried self.new shard.now) }
@@ -110,31 +126,97 @@ impl ShardQuery {
         ensures err { OnErr result (self.new ≡ self.old) }
     {
         let version = self.version.unwrap_or(shard.version());
-        self.look(shard, version)?;
-        if u64::from(self.turns) * u64::from(ROWS_PER_TURN) < u64::from(version) {
+        let mut places = [0; ROWS_PER_TURN + 1];
+        let pick = self.ask.body.get().query.pick();
+        let left = shard.candidates(version, pick, self.last, &mut places);
+        let here = left.min(ROWS_PER_TURN);
+        self.look(shard, version, &places[..here])?;
+        if here < left {
             return Ok(TurnAnswer::More);
         }
         Ok(TurnAnswer::Ready(self.give_top(version)))
     }
 
-    fn look(&mut self, shard: &Shard, version: u32) -> Result<(), AllocError>
-        requires not_ended { has_ended self.old shard.now ≡ false }
-        requires version { version ≡ version_at self.old shard.now }
-        ensures turned { OnOk result (HasTurned self.old shard.now self.new) }
-        ensures ok { IsQueried self.old shard.now
-            → OnOk result (self.new ≡ looked self.old.ask version (self.old.turns + 1) shard.now) }
+    /// Looks at the rows of its next turn, which have these places.
+    fn look(&mut self, shard: &Shard, version: u32, places: &[u32]) -> Result<(), AllocError>
+        requires next { places.now ≡ map (λ row. row.0) (next_rows self.old version shard.now) }
+        requires reads { version ≡ version_at self.old shard.now }
+        requires few { self.old.turns * 1024 ≤ version }
+        ensures ok { OnOk result (self.new ≡ with_rows self.old version (next_rows self.old version shard.now)) }
         ensures err { OnErr result (self.new ≡ self.old) }
     {
-        let start = self.turns * ROWS_PER_TURN;
-        let end = start + (version - start).min(ROWS_PER_TURN);
-        let found = keys_between(self.alloc, &self.ask, shard, version, start, end)?;
-        let matched = found.len() as u64;
-        let body = self.ask.body.get();
-        let most = body.from as usize + body.size as usize;
-        keep_all(&mut self.first, most, &self.ask.after, found)?;
+        let found = self.find(shard, version, places)?;
+        let most = self.most();
+        keep_all(&mut self.first, most, found.first.into_vec())?;
         self.version = Some(version);
         self.turns += 1;
-        self.count += matched;
+        self.last = places.last().copied().or(self.last);
+        self.count += found.count;
+        Ok(())
+    }
+
+    /// How many keys are kept, at most.
+    fn most(&self) -> usize
+        ensures { result ≡ window self.now.ask.body }
+    {
+        let body = self.ask.body.get();
+        body.from as usize + body.size as usize
+    }
+
+    /// What the rows of its next turn come to.
+    fn find(&self, shard: &Shard, version: u32, places: &[u32]) -> Result<Matches, AllocError>
+        requires { places.now ≡ map (λ row. row.0) (next_rows self.now version shard.now) }
+        ensures ordered { IfOk result (λ found. IsHeap hit_cmp (heap_items found.first)) }
+        ensures count { IfOk result (λ found.
+            found.count ≡ length (keys_of_rows self.now.ask (next_rows self.now version shard.now))) }
+        ensures first { IfOk result (λ found. in_hit_order (heap_items found.first)
+            ≡ first_keys self.now.ask (keys_of_rows self.now.ask (next_rows self.now version shard.now))) }
+    {
+        let most = self.most();
+        let all = counts_all(&self.ask);
+        let mut found = Matches {
+            count: 0,
+            first: BinaryHeap::new(self.alloc),
+        };
+        if all && most == 0 {
+            found.count = places.len() as u64;
+            return Ok(found);
+        }
+        for place in places {
+            let Some(doc) = shard.row(version, *place) else {
+                unreachable!()
+            };
+            self.add(&mut found, all, *place, doc)?;
+        }
+        Ok(found)
+    }
+
+    /// Adds a row to what others have come to, where it matches. All rows match for certain where that is said.
+    fn add(&self, found: &mut Matches, all: bool, place: u32, doc: &Doc) -> Result<(), AllocError>
+        requires certain { all ≡ true → is_found self.now.ask.body self.now.ask.slice doc.now ≡ true }
+        requires ordered { IsHeap hit_cmp (heap_items found.old.first) }
+        requires few { length (heap_items found.old.first) ≤ window self.now.ask.body }
+        requires low { found.old.count < 2 ^ 32 }
+        ensures count { OnOk result (found.new.count ≡ found.old.count + length (keys_of_rows self.now.ask ((place, doc.now) ∷ []))) }
+        ensures still_ordered { OnOk result (IsHeap hit_cmp (heap_items found.new.first)) }
+        ensures still_few { OnOk result (length (heap_items found.new.first) ≤ window self.now.ask.body) }
+        ensures first { OnOk result (in_hit_order (heap_items found.new.first) ≡ take (window self.now.ask.body)
+            (in_hit_order (heap_items found.old.first ++ filter (is_after self.now.ask.after) (keys_of_rows self.now.ask ((place, doc.now) ∷ []))))) }
+    {
+        if !all && !is_found(&self.ask, doc) {
+            return Ok(());
+        }
+        found.count += 1;
+        if is_after_cursor(&self.ask, place, doc) {
+            keep_row(
+                self.alloc,
+                &mut found.first,
+                self.most(),
+                &self.ask,
+                place,
+                doc,
+            )?;
+        }
         Ok(())
     }
 

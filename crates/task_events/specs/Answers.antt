@@ -4,6 +4,8 @@ use Rattle.std.specs.List.{list_any, flat_map, last_or, sum_by}
 use Rattle.std.specs.Map.{lookup}
 use Rattle.query_match.specs.declared.body.SearchBody.{SearchBody}
 use Rattle.query_match.specs.Matching.{matches}
+use Rattle.query_match.specs.Picks.{pick_of, has_picked}
+use Rattle.query_match.specs.Query.{Query}
 use Rattle.query_match.specs.Sorting.{key_of}
 use Rattle.task_ids.specs.declared.doc.Doc.{Doc}
 use Rattle.task_ids.specs.Placing.{slice_of}
@@ -44,6 +46,10 @@ keys_among body slice shard rows = map (hit_key body shard) (filter (λ row. is_
 -- the keys of the rows that match in a shard at a version, by place
 abbrev pub matching_keys : SearchBody → Option SlicePick → ℕ → ℕ → List Doc → List HitKey
 matching_keys body slice shard version writes = keys_among body slice shard (rows_at version writes)
+
+-- the rows that a query looks at, of some rows of a shard: those that have the value that it picks, or all where it picks none
+abbrev pub candidates : Query → List Row → List Row
+candidates query rows = filter (λ row. has_picked (pick_of query) row.1.source) rows
 
 -- how many keys a search passes over and shows
 abbrev pub window : SearchBody → ℕ

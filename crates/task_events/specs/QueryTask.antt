@@ -1,4 +1,4 @@
--- The query of a shard: it looks at the rows of a version, and replies with the first of those that match.
+-- The query of a shard: it looks at the rows of a version that have what it picks, and replies with the first of those that match.
 use Rattle.std.specs.Prelude.{ℕ, ◌^◌, List, [], ◌∷◌, length, Bool, true, false, ◌&&◌, ◌==◌, nat_lt, nat_le, Option, Some, unwrap_or}
 use Rattle.std.specs.List.{list_all}
 use Rattle.std.specs.Option.{option_map_or}
@@ -7,22 +7,27 @@ use Rattle.task_ids.specs.declared.action.Action.TheVariants as actions
 use Rattle.task_ids.specs.declared.cluster.Cluster.{Cluster}
 use Rattle.task_ids.specs.declared.corpus.Corpus.{Corpus}
 use Rattle.task_ids.specs.declared.doc.Doc.{Doc}
+use Rattle.task_ids.specs.Rows.{Row, rows_at}
 use Rattle.task_events.specs.declared.request.HitKey.{HitKey}
 use Rattle.task_events.specs.declared.request.ShardAsk.{ShardAsk}
 use Rattle.task_events.specs.declared.reply.Reply.{Reply}
 use Rattle.task_events.specs.declared.reply.Reply.TheVariants.{Top}
 use Rattle.task_events.specs.declared.reply.ShardTop.{ShardTop}
 use Rattle.task_events.specs.declared.step.Do.{Do}
-use Rattle.task_events.specs.Answers.{window, shard_top}
+use Rattle.task_events.specs.Answers.{candidates, window, shard_top}
 use Rattle.task_events.specs.Documents.{writes_of}
 use Rattle.task_events.specs.HitOrder.{hit_cmp, is_after}
 use Rattle.task_events.specs.Kind.{Kind, Progress}
 use Rattle.task_events.specs.Looking.{is_done, shard_description, work_or_end}
 use Rattle.task_events.specs.Tasks.{no_counts}
 
--- a query looks at the rows of a version, and ends with its top
+-- the rows that a query looks at, of a version of its shard
+abbrev pub rows_for : ShardAsk → ℕ → List Doc → List Row
+rows_for ask version writes = candidates ask.body.query (rows_at version writes)
+
+-- a query looks at these rows, and ends with its top
 abbrev pub query_step : ShardAsk → ℕ → ℕ → List Doc → Do
-query_step ask version turns writes = work_or_end (is_done turns version) (Top (shard_top ask version writes))
+query_step ask version turns writes = work_or_end (is_done turns (length (rows_for ask version writes))) (Top (shard_top ask version writes))
 
 -- the version that a query reads: the one that it names, or else all that was written by its first turn
 abbrev pub version_due : ShardAsk → Option ℕ → List Doc → ℕ

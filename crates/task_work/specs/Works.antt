@@ -21,7 +21,7 @@ use Rattle.task_events.specs.Readings.{search_reading, page_reading}
 use Rattle.task_events.specs.Tasks.{no_counts}
 use Rattle.task_events.specs.Written.{notes_at}
 use Rattle.search_phase.specs.Queries as queries
-use Rattle.search_phase.specs.Queries.{QueryState, IsQueried, new_query, version_at, has_ended, queried}
+use Rattle.search_phase.specs.Queries.{QueryState, IsQueried, new_query, version_at, has_ended, has_none_left, queried}
 use Rattle.search_phase.specs.Fetches as fetches
 use Rattle.search_phase.specs.Fetches.{FetchState, IsFetched, new_fetch, has_fetched, fetched_in}
 use Rattle.search_phase.specs.Searching.{Searching, new_search, next_step, wants_to_ask, is_above, with_ask, takes, with_answer, AllHonest, plain_reply}
@@ -125,9 +125,9 @@ with_turn (BulkShard w) writes = BulkShard (after_turn w writes)
 with_turn work writes = work
 
 -- One more turn was taken, over a shard with these writes, whatever the turns before were over. What was found is there once
--- all was looked at.
+-- nothing is left to look at.
 abbrev pub HasTurned : Work → List Doc → Work → Type 0
-HasTurned (Query q top) writes (Query r found) = queries.HasTurned q writes r × (is_some found ≡ (is_some top || has_ended r writes))
+HasTurned (Query q top) writes (Query r found) = queries.HasTurned q writes r × (is_some found ≡ (is_some top || has_none_left r writes))
 HasTurned (Fetch f hits) writes (Fetch g found) = fetches.HasTurned f g × (is_some found ≡ (is_some hits || has_fetched g))
 HasTurned (BulkShard w) writes (BulkShard v) = v ≡ after_turn w writes
 HasTurned before writes after = ⊥

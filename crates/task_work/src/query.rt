@@ -2,7 +2,7 @@
 
 ghost use Rattle.std.specs.Prelude.{◌≡◌, ◌+◌, ◌||◌, None, is_some, IfOk, OnOk, OnErr, true, false};
 ghost use Rattle.search_phase.specs.Queries as queries;
-ghost use Rattle.search_phase.specs.Queries.{IsQueried, has_ended, version_at, queried};
+ghost use Rattle.search_phase.specs.Queries.{IsQueried, has_ended, has_none_left, version_at, queried};
 ghost use Rattle.task_work.specs.Works.{found_top};
 
 use search_phase::{ShardQuery, TurnAnswer};
@@ -27,7 +27,7 @@ pub(crate) fn turn_of_query(
 ) -> Result<(), AllocError>
     requires { has_ended query.old shard.now ≡ false }
     ensures turned { OnOk result (queries.HasTurned query.old shard.now query.new) }
-    ensures ready { OnOk result (is_some top.new ≡ (is_some top.old || has_ended query.new shard.now)) }
+    ensures ready { OnOk result (is_some top.new ≡ (is_some top.old || has_none_left query.new shard.now)) }
     ensures query { IsQueried query.old shard.now → let q = query.old in
         OnOk result (query.new ≡ queried q.ask (version_at q shard.now) (q.turns + 1) shard.now) }
     ensures on { IsQueried query.old shard.now → OnOk result (IsQueried query.new shard.now) }

@@ -1,31 +1,28 @@
 -- What a bulk shows of its work: it asks for its parts in order, and ends once all have answered.
-use Rattle.std.proofs.Common.{◌≡◌, ◌≤◌, ◌<◌, ℕ, ◌+◌, ◌^◌, Bool, true, false, List, [], ◌∷◌, ◌++◌, length, map, Option, Some, None, refl, sym, ap, subst, ◌∙◌, inl, arith}
-use Rattle.std.specs.Prelude.{is_some, slice_get}
-use Rattle.std.specs.List.{AllByRecursion}
+use Rattle.std.proofs.Common.{◌≡◌, ℕ, ◌+◌, ◌^◌, true, List, [], ◌∷◌, ◌++◌, length, Option, Some, None, refl, sym, ap, subst, ◌∙◌, inl, arith}
+use Rattle.std.specs.Prelude.{slice_get}
 use Rattle.task_ids.specs.declared.cluster.Cluster.{Cluster}
 use Rattle.task_ids.specs.declared.corpus.Corpus.{Corpus}
 use Rattle.task_ids.specs.declared.task_id.TaskId.{TaskId}
 use Rattle.task_events.specs.declared.context.Context.{Context}
 use Rattle.task_events.specs.declared.reply.Counts.{Counts}
-use Rattle.task_events.specs.declared.reply.Reply.{Reply}
 use Rattle.task_events.specs.declared.reply.Reply.TheVariants.{Wrote, Cancelled, Rejected}
 use Rattle.task_events.specs.declared.request.BulkAsk.{BulkAsk}
 use Rattle.task_events.specs.declared.request.BulkShardAsk.{BulkShardAsk}
 use Rattle.task_events.specs.declared.request.Request.{Request}
 use Rattle.task_events.specs.declared.request.Request.TheVariants as asks
-use Rattle.task_events.specs.declared.step.Asked.{Asked}
 use Rattle.task_events.specs.declared.step.Do.TheVariants.{AskNext}
 use Rattle.task_events.specs.BulkTask.{parts_of}
 use Rattle.task_events.specs.Counting.{are_below}
 use Rattle.task_events.specs.Kind.{Progress}
 use Rattle.reindex.specs.BulkRuns.{IsBulkAt}
-use Rattle.reindex.specs.Bulks.{Bulking, new_bulk, bulk_next, bulk_may_ask, bulk_with_ask, bulk_takes, bulk_with_answer}
+use Rattle.reindex.specs.Bulks.{Bulking, new_bulk, bulk_next, bulk_with_ask, bulk_takes, bulk_with_answer}
 use Rattle.reindex.specs.OpenAsks.{is_settled}
 use Rattle.reindex.proofs.BulkRuns.{bulk_first, bulk_follows, bulk_counted, bulk_few, bulk_low, bulk_settled, bulk_asked, bulk_may_ask_when, bulk_may_take, bulk_answered, bulk_takes_after_ask, bulk_takes_after_answer}
 use Rattle.task_work.specs.declared.work.Work.{Work}
 use Rattle.task_work.specs.declared.work.Work.TheVariants as works
 use Rattle.task_work.specs.Works.{IsNewWork}
-use Rattle.world_moves.specs.BulkRuns.{BulksFor, RunsBulk}
+use Rattle.world_moves.specs.BulkRuns.{RunsBulk}
 use Rattle.world_moves.specs.Facts.{none_awaited}
 use Rattle.world_moves.specs.Good.{IsGoodReply, IsWithin, IsPartWithin}
 use Rattle.world_moves.proofs.AsksKept.{knows_none, awaited_long, knows_more, knows_answer}

@@ -11,8 +11,9 @@ use Rattle.task_events.specs.declared.request.Request.{Request}
 use Rattle.task_events.specs.declared.request.Request.TheVariants as asks
 use Rattle.search_phase.specs.Fetches.{FetchState, has_fetched}
 use Rattle.search_phase.specs.Queries.{QueryState, IsQueried}
-use Rattle.search_phase.proofs.Growing.{IsQueried-grow, IsFetched-grow, shard_top-grow, fetched-grow}
+use Rattle.search_phase.proofs.Growing.{IsQueried-grow, IsFetched-grow, rows_for-grow, shard_top-grow, fetched-grow}
 use Rattle.task_events.specs.Looking.{is_done}
+use Rattle.task_events.specs.QueryTask.{rows_for}
 use Rattle.task_work.specs.declared.work.Work.TheVariants as works
 use Rattle.task_work.specs.Works.{IsWorkOn, found_top}
 use Rattle.world_moves.specs.Good.{IsWithin, IsContextWithin, IsShardWithin, Grows, written}
@@ -54,10 +55,13 @@ same_top : (q : QueryState) (writes more : List Doc) → ((v : ℕ) → q.versio
 same_top q writes more within queried = by_version q.version refl
   where
     by_version : (o : Option ℕ) → q.version ≡ o → found_top q (writes ++ more) ≡ found_top q writes
-    by_version (Some v) e = rw e (ap (λ top. cond (is_done q.turns v) (Some top) None) (shard_top-grow q.ask v writes more (within v e)))
+    by_version (Some v) e =
+        let rows = rows_for-grow q.ask v writes more (within v e) in
+        let top = shard_top-grow q.ask v writes more (within v e) in
+        rw e (λ i. cond (is_done q.turns (length (rows i))) (Some (top i)) None)
     by_version None e =
         let unturned : q.turns ≡ 0 = unfixed q.turns (λ some. let there = queried.version_fixed some in rw e at there) in
-        rw (e, not_done q.turns (length (writes ++ more)) unturned, not_done q.turns (length writes) unturned) refl
+        rw (e, not_done q.turns (length (rows_for q.ask (length (writes ++ more)) (writes ++ more))) unturned, not_done q.turns (length (rows_for q.ask (length writes) writes)) unturned) refl
       where
         no_version : Option ℕ
         no_version = None

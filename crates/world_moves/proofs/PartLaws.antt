@@ -1,6 +1,6 @@
 -- What the part of a bulk in a shard shows of its work: it writes its documents there by turns, in order.
-use Rattle.std.proofs.Common.{◌≡◌, ◌≤◌, ◌<◌, ℕ, zero, suc, ◌+◌, ◌*◌, ◌^◌, Bool, true, false, List, [], ◌∷◌, length, take, Option, Some, None, refl, sym, ap, subst, ◌∙◌, arith}
-use Rattle.std.specs.Prelude.{drop, is_some}
+use Rattle.std.proofs.Common.{◌≡◌, ℕ, zero, suc, ◌*◌, ◌^◌, true, List, [], ◌∷◌, take, Option, Some, refl, sym, ap, subst, ◌∙◌, arith}
+use Rattle.std.specs.Prelude.{drop}
 use Rattle.std.specs.List.{AllByRecursion}
 use Rattle.task_ids.specs.declared.cluster.Cluster.{Cluster}
 use Rattle.task_ids.specs.declared.corpus.Corpus.{Corpus}
@@ -9,7 +9,6 @@ use Rattle.task_ids.specs.declared.task_id.TaskId.{TaskId}
 use Rattle.task_ids.specs.Placing.{shard_of}
 use Rattle.task_events.specs.declared.context.Context.{Context}
 use Rattle.task_events.specs.declared.reply.Counts.{Counts}
-use Rattle.task_events.specs.declared.reply.Reply.{Reply}
 use Rattle.task_events.specs.declared.reply.Reply.TheVariants.{Wrote, Cancelled, Rejected}
 use Rattle.task_events.specs.declared.request.BulkShardAsk.{BulkShardAsk}
 use Rattle.task_events.specs.declared.request.Request.{Request}
@@ -17,15 +16,14 @@ use Rattle.task_events.specs.declared.request.Request.TheVariants as asks
 use Rattle.task_events.specs.Counting.{are_below}
 use Rattle.task_events.specs.Kind.{Progress}
 use Rattle.task_events.specs.Looking.{rows_per_turn}
-use Rattle.task_events.specs.Written.{docs_of_turn}
-use Rattle.reindex.specs.Writing.{Writing, new_writing, next_docs, writing_counts}
+use Rattle.reindex.specs.Writing.{Writing, next_docs, writing_counts}
 use Rattle.reindex.proofs.WritingRuns.{writing_first, writing_follows, writing_docs, writing_full, writing_low, writing_turned}
 use Rattle.task_work.specs.declared.work.Work.{Work}
 use Rattle.task_work.specs.declared.work.Work.TheVariants as works
 use Rattle.task_work.specs.Works.{IsNewWork}
-use Rattle.world_moves.specs.BulkRuns.{PartsFor, RunsPart}
+use Rattle.world_moves.specs.BulkRuns.{RunsPart}
 use Rattle.world_moves.specs.Facts.{none_awaited}
-use Rattle.world_moves.specs.Good.{IsGoodReply, IsWithin, IsPartWithin, written}
+use Rattle.world_moves.specs.Good.{IsGoodReply, IsWithin, written}
 use Rattle.world_moves.proofs.FirstRuns.{starting}
 use Rattle.world_moves.proofs.KindLaws.{KindLaws, IsPlain, asks_something}
 use Rattle.world_moves.proofs.LookingLaws.{asks_nothing, work_ends, looks_on}

@@ -13,7 +13,7 @@ use Rattle.task_events.specs.declared.request.ShardAsk.{ShardAsk}
 use Rattle.task_events.specs.declared.reply.Reply.TheVariants.{Top, Cancelled, Rejected}
 use Rattle.task_events.specs.Answers.{shard_top}
 use Rattle.task_events.specs.Looking.{is_done}
-use Rattle.task_events.specs.QueryTask.{query_step}
+use Rattle.task_events.specs.QueryTask.{rows_for, query_step}
 use Rattle.task_events.specs.declared.reply.Counts.{Counts}
 use Rattle.task_events.specs.Kind.{Progress}
 use Rattle.task_events.specs.Counting.{are_below}
@@ -141,7 +141,7 @@ module _ (cluster : Cluster) (corpus : Corpus) (t : TaskId) (p : Progress) (requ
       mine = written cluster corpus ask.index ask.shard
 
       done : Bool
-      done = is_done (q.turns + 1) (version_at q mine)
+      done = is_done (q.turns + 1) (length (rows_for q.ask (version_at q mine) mine))
 
       state : QueryState
       state = looked q.ask (version_at q mine) (q.turns + 1) mine

@@ -24,7 +24,7 @@ use Rattle.task_events.specs.Bans.{mark_of}
 use Rattle.task_events.specs.Contexts.{page_of}
 use Rattle.task_events.specs.Lawful.{Lawful}
 use Rattle.task_events.specs.Looking.{is_done, work_or_end}
-use Rattle.task_events.specs.QueryTask.{query_step}
+use Rattle.task_events.specs.QueryTask.{rows_for, query_step}
 use Rattle.task_events.specs.Requests.{request_of}
 use Rattle.task_events.specs.Same.{same_task}
 use Rattle.task_events.specs.ShardOutcomes.{ask_for, answer_for}
@@ -52,10 +52,13 @@ pub version_told : (q : QueryState) (writes : List Doc) (end : Reply) → (0 < q
     → (top : ShardTop) × (end ≡ Top top) × (Some top.version ≡ q.version)
 version_told q writes end fixed e = (shard_top q.ask (version_at q writes) writes, over.1, of_version q.version (fixed (turned q.turns over.0)))
   where
-    over : (is_done q.turns (version_at q writes) ≡ true) × (end ≡ Top (shard_top q.ask (version_at q writes) writes))
-    over = is_over (is_done q.turns (version_at q writes)) (Top (shard_top q.ask (version_at q writes) writes)) end e
+    much : ℕ
+    much = length (rows_for q.ask (version_at q writes) writes)
 
-    turned : (turns : ℕ) → is_done turns (version_at q writes) ≡ true → 0 < turns
+    over : (is_done q.turns much ≡ true) × (end ≡ Top (shard_top q.ask (version_at q writes) writes))
+    over = is_over (is_done q.turns much) (Top (shard_top q.ask (version_at q writes) writes)) end e
+
+    turned : (turns : ℕ) → is_done turns much ≡ true → 0 < turns
     turned turns done = by_test (nat_lt 0 turns) refl
       where
         by_test : (b : Bool) → nat_lt 0 turns ≡ b → 0 < turns

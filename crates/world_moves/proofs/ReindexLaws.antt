@@ -1,6 +1,6 @@
 -- What a slice and a reindex show of their work. A reindex does the work of its one slice, or asks for several.
-use Rattle.std.proofs.Common.{◌≡◌, ◌≢◌, ◌≤◌, ◌<◌, ℕ, ◌+◌, ◌^◌, Bool, true, false, cond, List, [], ◌∷◌, ◌++◌, length, map, get_or, Option, Some, None, refl, sym, ap, subst, ◌∙◌, inl, arith, ltb-true}
-use Rattle.std.specs.Prelude.{◌==◌, nat_lt, is_some, not, option_map, slice_get, slice_set}
+use Rattle.std.proofs.Common.{◌≡◌, ◌≢◌, ℕ, ◌+◌, ◌^◌, Bool, true, false, List, [], ◌∷◌, ◌++◌, length, Option, Some, None, refl, sym, ap, subst, ◌∙◌, inl, arith, ltb-true}
+use Rattle.std.specs.Prelude.{◌==◌, nat_lt, option_map}
 use Rattle.std.proofs.lemmas.Bool.{eqb-true}
 use Rattle.std.proofs.lemmas.Bool.Decides.{nat_tests}
 use Rattle.task_ids.specs.declared.cluster.Cluster.{Cluster}
@@ -14,20 +14,15 @@ use Rattle.task_events.specs.declared.request.ReindexAsk.{ReindexAsk}
 use Rattle.task_events.specs.declared.request.Request.{Request}
 use Rattle.task_events.specs.declared.request.Request.TheVariants as asks
 use Rattle.task_events.specs.declared.request.SliceAsk.{SliceAsk}
-use Rattle.task_events.specs.declared.step.Asked.{Asked}
-use Rattle.task_events.specs.declared.step.Do.{Do}
-use Rattle.task_events.specs.declared.step.Do.TheVariants.{AskNext, Turn, Wait, Finish}
+use Rattle.task_events.specs.declared.step.Do.TheVariants.{AskNext}
 use Rattle.task_events.specs.Counting.{are_below, answers_in, sums_of}
 use Rattle.task_events.specs.Kind.{Progress}
 use Rattle.task_events.specs.ReindexTask.{reindex_step, reindex_counts, cut_step}
-use Rattle.task_events.specs.Searches.{are_answered}
 use Rattle.task_events.specs.SearchTask.{ask_or_end}
 use Rattle.task_events.specs.Slicing.{slice_at, slice_if}
 use Rattle.task_events.specs.SliceTask.{slice_step, slice_counts}
-use Rattle.task_events.specs.Steps.{with_answer}
 use Rattle.reindex.specs.declared.root.ReindexRoot.TheVariants.{Alone, Cut}
-use Rattle.reindex.specs.Roots.{Cutting, IsCutAt, cut_next, cut_may_ask, cut_with_ask, cut_takes, cut_with_answer}
-use Rattle.reindex.specs.RootWork.{IsNewRoot}
+use Rattle.reindex.specs.Roots.{Cutting, IsCutAt, cut_next, cut_with_ask, cut_takes, cut_with_answer}
 use Rattle.reindex.specs.Slices.{Slicing, IsNewSlice, slice_takes}
 use Rattle.reindex.specs.OpenAsks.{is_settled}
 use Rattle.reindex.proofs.CutRuns.{cut_first, cut_follows, cut_asked, cut_may_ask_when, cut_may_take, cut_answered, cut_counted, cut_low, cut_settled}

@@ -1,6 +1,6 @@
 -- What a slice of a reindex shows of its work: it asks for its pages and bulks one after the other, and for contexts of its own alone.
-use Rattle.std.proofs.Common.{◌≡◌, ◌≢◌, ◌⊎◌, ◌<◌, ◌≤◌, ℕ, zero, suc, ◌+◌, ◌-◌, ◌*◌, ◌/◌, Bool, true, false, cond, List, [], ◌∷◌, ◌++◌, length, map, get_or, Option, Some, None, refl, sym, ap, subst, ◌∙◌, inl, inr, arith, length-set}
-use Rattle.std.specs.Prelude.{IsSome, ⊤, ◌&&◌, ◌==◌, is_some, nat_le, nat_lt, not, option_map, option_and_then, slice_get, slice_set}
+use Rattle.std.proofs.Common.{◌≡◌, ◌⊎◌, ◌<◌, ◌≤◌, ℕ, zero, suc, ◌+◌, ◌-◌, ◌*◌, ◌/◌, Bool, true, false, cond, List, [], ◌∷◌, ◌++◌, length, map, get_or, Option, Some, None, refl, sym, ap, subst, ◌∙◌, inl, inr, arith, length-set}
+use Rattle.std.specs.Prelude.{⊤, ◌&&◌, ◌==◌, is_some, nat_le, nat_lt, not, option_map, option_and_then, slice_get, slice_set}
 use Rattle.std.specs.List.{range_with_len}
 use Rattle.std.proofs.lemmas.Bool.Decides.{nat_tests}
 use Rattle.std.proofs.lemmas.Bool.{eqb-true}
@@ -10,7 +10,6 @@ use Rattle.task_ids.specs.declared.cluster.Cluster.{Cluster}
 use Rattle.task_ids.specs.declared.corpus.Corpus.{Corpus}
 use Rattle.task_ids.specs.declared.doc.Doc.{Doc}
 use Rattle.task_ids.specs.declared.task_id.TaskId.{TaskId}
-use Rattle.task_events.specs.declared.reply.Counts.{Counts}
 use Rattle.task_events.specs.declared.reply.Reply.{Reply}
 use Rattle.task_events.specs.declared.reply.Reply.TheVariants.{Search, Top, Hits, AllFailed, Wrote, Cancelled, Rejected}
 use Rattle.task_events.specs.declared.reply.SearchReply.{SearchReply}
@@ -18,33 +17,30 @@ use Rattle.task_events.specs.declared.request.ReindexAsk.{ReindexAsk}
 use Rattle.task_events.specs.declared.request.Request.{Request}
 use Rattle.task_events.specs.declared.request.Request.TheVariants as asks
 use Rattle.task_events.specs.declared.request.SearchAsk.{SearchAsk}
-use Rattle.task_events.specs.declared.request.SliceAsk.{SliceAsk}
 use Rattle.task_events.specs.declared.step.Asked.{Asked}
 use Rattle.task_events.specs.declared.step.Do.{Do}
 use Rattle.task_events.specs.declared.step.Do.TheVariants.{AskNext, Turn, Wait, Finish}
-use Rattle.task_events.specs.Counting.{are_below, is_batch}
-use Rattle.task_events.specs.Kind.{Progress}
+use Rattle.task_events.specs.Counting.{is_batch}
 use Rattle.task_events.specs.Kinds.{can_have}
 use Rattle.task_events.specs.Searches.{are_answered}
 use Rattle.task_events.specs.SliceTask.{first_page, later_page, page_from, context_in, answer_at, docs_on, is_clean, most_asks}
 use Rattle.task_events.specs.Steps.{with_answer}
 use Rattle.reindex.specs.declared.phase.Phase.{Phase}
 use Rattle.reindex.specs.declared.phase.Phase.TheVariants.{First, Reads, Holds, Writes, Rests, Over}
-use Rattle.reindex.specs.SliceFields.{IsSlice, in_hand}
+use Rattle.reindex.specs.SliceFields.{in_hand}
 use Rattle.reindex.specs.SliceRuns.{IsSliceAt, IsPhaseAt, newest_answer}
 use Rattle.reindex.specs.Slices.{Slicing, next_in, slice_next, slice_may_ask, slice_with_ask, takes_in, slice_takes, page_asked, phase_with, phase_after, context_after, slice_with_answer, is_open}
 use Rattle.reindex.proofs.SliceFed.{slice_fed}
 use Rattle.reindex.proofs.SliceRuns.{slice_follows, slice_asked, slice_may_ask_when, slice_may_take, slice_answered, slice_settled}
 use Rattle.search_phase.proofs.Sorting.{by_test}
-use Rattle.task_work.specs.declared.work.Work.{Work}
 use Rattle.task_work.specs.declared.work.Work.TheVariants as works
 use Rattle.task_work.specs.Works.{does_wait, due_in}
 use Rattle.world_moves.specs.Facts.{none_awaited}
-use Rattle.world_moves.specs.Good.{IsGoodReply, IsWithin}
+use Rattle.world_moves.specs.Good.{IsWithin}
 use Rattle.world_moves.specs.Owning.{IsOwnSearch}
 use Rattle.world_moves.specs.ReindexRuns.{SlicesFor, HasContext, RestsShortly}
 use Rattle.world_moves.proofs.AsksKept.{awaited_long, knows_more, knows_answer}
-use Rattle.world_moves.proofs.KindLaws.{AsksOwn, HasOpened, IsPlain}
+use Rattle.world_moves.proofs.KindLaws.{AsksOwn, HasOpened}
 use Rattle.world_moves.proofs.NoneAwaited.{all_answered}
 use Rattle.world_moves.proofs.SearchLaws.{all_known}
 use Rattle.world_moves.proofs.StillSound.{asked_sound}

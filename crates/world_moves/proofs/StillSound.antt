@@ -1,16 +1,13 @@
 -- What holds of the fields of a slice, and of a reindex that is cut into slices, at first and after an ask.
-use Rattle.std.proofs.Common.{◌≡◌, ◌<◌, ◌≤◌, ℕ, ◌+◌, ◌-◌, ◌*◌, ◌^◌, Bool, true, false, List, [], ◌∷◌, ◌++◌, length, filter, refl, sym, ap, subst, ◌∙◌, arith, length-append}
-use Rattle.std.specs.Prelude.{◌&&◌, ◌==◌, not, nat_lt, ⊤}
-use Rattle.std.specs.List.{list_any}
-use Rattle.std.proofs.lemmas.Bool.{and_parts, and_from, or_right, ltb-true, eqb-true}
+use Rattle.std.proofs.Common.{◌≡◌, ◌≤◌, ℕ, ◌+◌, ◌-◌, ◌*◌, ◌^◌, true, false, List, [], ◌∷◌, ◌++◌, length, refl, sym, subst, arith, length-append}
+use Rattle.std.specs.Prelude.{◌==◌, ⊤}
+use Rattle.std.proofs.lemmas.Bool.{and_parts, and_from, ltb-true}
 use Rattle.std.proofs.lemmas.Bool.Decides.{nat_tests}
 use Rattle.task_ids.specs.declared.task_id.TaskId.{TaskId}
 use Rattle.task_events.specs.declared.reply.Reply.{Reply}
 use Rattle.task_events.specs.declared.request.ReindexAsk.{ReindexAsk}
 use Rattle.task_events.specs.declared.request.Request.{Request}
 use Rattle.task_events.specs.declared.request.Request.TheVariants as asks
-use Rattle.task_events.specs.declared.request.SearchAsk.{SearchAsk}
-use Rattle.task_events.specs.SliceTask.{first_page}
 use Rattle.reindex.specs.BulkFields.{AreUpTo}
 use Rattle.reindex.specs.Bulks.{is_open as is_open_among, without}
 use Rattle.reindex.specs.declared.phase.Phase.{Phase}

@@ -6,7 +6,6 @@ use Rattle.serde_json.specs.Data.{Data, null, boolean, number, string, array, ob
 use Rattle.serde_json.specs.Find.{get_member}
 use Rattle.query_match.specs.declared.body.SearchBody.{SearchBody}
 use Rattle.query_match.specs.declared.sort.SortBy.{SortBy}
-use Rattle.query_parse.specs.declared.fault.BodyError.{BodyError}
 use Rattle.query_parse.specs.declared.fault.BodyError.TheVariants.{WindowTooLarge}
 use Rattle.query_parse.specs.Answers.{◌>>=◌}
 use Rattle.query_parse.specs.Bodies.{from_of, size_of, sort_of, query_of, window_at, hits_at, body_of, known_body_at, body_unless, unknown_field, body_at}

@@ -1,57 +1,58 @@
--- One more turn's rows are counted, and their keys are kept among the first.
-use Rattle.query_match.specs.declared.body.SearchBody.{SearchBody}
-use Rattle.std.specs.Prelude.{filter}
+-- The rows of one more turn are counted, and their keys are kept among the first.
+use Rattle.std.proofs.Common.{◌≡◌, ℕ, ◌+◌, ◌-◌, ◌*◌, ◌<◌, ◌≤◌, ◌++◌, List, length, map, take, filter, Option, Some, sym, ap, ◌∙◌, subst, arith, heap_items}
+use Rattle.std.specs.List.{slice_get}
+use Rattle.std.specs.Option.{option_or}
+use Rattle.task_events.specs.declared.request.HitKey.{HitKey}
+use Rattle.task_events.specs.Answers.{window}
 use Rattle.task_events.specs.HitOrder.{in_hit_order, is_after}
-use Rattle.std.proofs.Common.{◌≡◌, ◌++◌, take, ◌+◌, ◌*◌, ◌≤◌, ◌∙◌, length, refl, sym, ap, subst, arith, heap_items}
-use Rattle.search_phase.specs.Queries.{QueryState, IsQueried, looked}
-use Rattle.search_phase.proofs.Turns.{can_turn, turn_start, few_kept, few_found, IsQuery-turn, looked_on}
+use Rattle.search_phase.specs.Queries.{QueryState, IsQuery, next_rows, last_place, keys_of_rows}
+use Rattle.search_phase.proofs.Kept.{merged}
+use Rattle.search_phase.proofs.Rows.{last_is}
+use Rattle.search_phase.proofs.Turns.{turn_is, few_keys, few_next, few_kept, still_query}
 use Rattle.search_phase.proofs.query.ShardQuery.look.Goals as goal
-
-pub overflow_mul-start : goal.overflow_mul-start
-overflow_mul-start c =
-    let start : c.self.inside.turns * 1024 ≤ c.args.version = turn_start _ _ _ (can_turn _ _ _ _ c.self.view_is c.self.invariant.1 c.requires.not_ended c.requires.version) in
-    omega (arith, start, c.ranges.version.fits)
-
-pub overflow_sub-version : goal.overflow_sub-version
-overflow_sub-version c = turn_start _ _ _ (can_turn _ _ _ _ c.self.view_is c.self.invariant.1 c.requires.not_ended c.requires.version)
-
-pub overflow_add-end : goal.overflow_add-end
-overflow_add-end c =
-    let start : c.self.inside.turns * 1024 ≤ c.args.version = turn_start _ _ _ (can_turn _ _ _ _ c.self.view_is c.self.invariant.1 c.requires.not_ended c.requires.version) in
-    omega (arith, start, c.ranges.version.fits, c.min.ensures)
 
 pub keep_all-requires-clause-few : goal.keep_all-requires-clause-few
 keep_all-requires-clause-few c =
-    subst (λ (b : SearchBody). length (heap_items c.self.inside.first) ≤ b.from + b.size) (sym c.get-body.ensures)
-    (few_kept _ _ _ (can_turn _ _ _ _ c.self.view_is c.self.invariant.1 c.requires.not_ended c.requires.version) (heap_items c.self.inside.first) refl)
-
-pub overflow_add-self : goal.overflow_add-self
-overflow_add-self c =
-    let start : c.self.inside.turns * 1024 ≤ c.args.version = turn_start _ _ _ (can_turn _ _ _ _ c.self.view_is c.self.invariant.1 c.requires.not_ended c.requires.version) in
-    omega (arith, start, c.ranges.version.fits)
+    let few = few_kept c.args.self.now (heap_items c.self.inside.first) (subst IsQuery c.self.view_is c.self.invariant.1) (ap (λ (q : QueryState). q.keys) c.self.view_is) in
+    omega (arith, few, c.most-most.ensures)
 
 pub overflow_add-self-2 : goal.overflow_add-self-2
 overflow_add-self-2 c =
-    let can = can_turn _ _ _ _ c.self.view_is c.self.invariant.1 c.requires.not_ended c.requires.version in
-    let few : length c.in_ok-found.found.items ≤ c.args.version = few_found _ _ _ can c.in_ok-found.found.items (c.self.inside.turns * 1024 + c.min.result) c.in_ok-found.ensures in
-    let start : c.self.inside.turns * 1024 ≤ c.args.version = turn_start _ _ _ can in
-    let so_far : c.self.inside.count ≤ c.self.inside.turns * 4294967295 = c.self.invariant.1.few_counted in
-    omega (arith, few, start, so_far, c.ranges.version.fits, c.len-matched.ensures, c.in_ok-found.found.ok.0)
+    let q = c.args.self.now in
+    let next = next_rows q c.args.version c.args.shard.now in
+    let is : IsQuery q = subst IsQuery c.self.view_is c.self.invariant.1 in
+    let so_far : q.count ≤ q.turns * 1024 = subst (λ n. q.count ≤ q.turns * n) turn_is is.few_counted in
+    let count : c.self.inside.count ≡ q.count = ap (λ (s : QueryState). s.count) c.self.view_is in
+    let begun : q.turns * 1024 ≤ c.args.version = c.requires.few in
+    let found : c.in_ok-found.found.count ≡ length (keys_of_rows q.ask next) = c.in_ok-found.ensures.count in
+    omega (arith, so_far, count, begun, found, few_keys q.ask next, few_next q c.args.version c.args.shard.now, c.ranges.version.fits)
+
+pub returns-clause-ok : goal.returns-clause-ok
+returns-clause-ok c =
+    let q = c.args.self.now in
+    let next = next_rows q c.args.version c.args.shard.now in
+    let found = filter (is_after q.ask.after) (keys_of_rows q.ask next) in
+    let same = c.self.view_is in
+    let asks = ap (λ (s : QueryState). s.ask) same in
+    let turns = ap (λ (s : QueryState). s.turns + 1) same in
+    let last =
+    c.or-self-inside.ensures
+    ∙ ap (λ o. option_or o c.self.inside.last) (c.copied.ensures ∙ c.last.ensures.value ∙ ap (λ (ps : List ℕ). slice_get ps (length ps - 1)) c.requires.next)
+    ∙ last_is c.self.inside.last next ∙ ap (λ (s : QueryState). last_place s.last next) same in
+    let count = ap (λ n. c.self.inside.count + n) c.in_ok-found.ensures.count ∙ ap (λ (s : QueryState). s.count + length (keys_of_rows q.ask next)) same in
+    let keys =
+    c.in_ok-keep_all.ensures.ok
+    ∙ ap (λ n. take n (in_hit_order (heap_items c.self.inside.first ++ c.into_vec.result.items))) c.most-most.ensures
+    ∙ ap (λ (v : Rattle.std.proofs.Common.Vec HitKey Rattle.std.proofs.Common.Global). take (window q.ask.body) (in_hit_order (heap_items c.self.inside.first ++ v.items))) c.into_vec.ensures.value
+    ∙ merged (window q.ask.body) (heap_items c.self.inside.first) (heap_items c.in_ok-found.found.first) found c.in_ok-found.ensures.first
+    ∙ ap (λ (s : QueryState). take (window q.ask.body) (in_hit_order (s.keys ++ found))) same in
+    λ i. record { ask = asks i; version = Some c.args.version; turns = turns i; last = last i; count = count i; keys = keys i }
 
 pub invariant_of-self-2 : goal.invariant_of-self-2
 invariant_of-self-2 c =
-    let can = can_turn _ _ _ _ c.self.view_is c.self.invariant.1 c.requires.not_ended c.requires.version in
-    let few : length c.in_ok-found.found.items ≤ c.args.version = few_found _ _ _ can c.in_ok-found.found.items (c.self.inside.turns * 1024 + c.min.result) c.in_ok-found.ensures in
-    let kept = subst (λ (b : SearchBody). in_hit_order (heap_items c.keep_all.new.first) ≡ take (b.from + b.size) (in_hit_order (heap_items c.self.inside.first ++ filter (is_after c.self.inside.ask.after) c.in_ok-found.found.items))) c.get-body.ensures c.in_ok-keep_all.ensures.ok in
-    (c.keep_all.ensures.still_ordered, IsQuery-turn _ _ _ can (c.self.inside.count + c.len-matched.result) _ _ (omega (arith, c.ranges.version.fits)) (omega (arith, few, c.len-matched.ensures, c.in_ok-found.found.ok.0)) kept)
-
-pub returns-clause-ok : goal.returns-clause-ok
-returns-clause-ok c = λ queried.
-    let can = can_turn _ _ _ _ c.self.view_is c.self.invariant.1 c.requires.not_ended c.requires.version in
-    let was = subst (λ q. IsQueried q c.args.shard.now) (sym c.self.view_is) queried in
-    let ends = ap (λ n. c.self.inside.turns * 1024 + n) c.min.ensures in
-    let counted = c.len-matched.ensures ∙ c.in_ok-found.found.ok.0 in
-    let kept = subst (λ (b : SearchBody). in_hit_order (heap_items c.keep_all.new.first) ≡ take (b.from + b.size) (in_hit_order (heap_items c.self.inside.first ++ filter (is_after c.self.inside.ask.after) c.in_ok-found.found.items))) c.get-body.ensures c.in_ok-keep_all.ensures.ok in
-    ap (λ n. record { ask = c.self.inside.ask; version = Rattle.std.proofs.Common.Some c.args.version; turns = c.self.inside.turns + 1; count = c.self.inside.count + n; keys = Rattle.task_events.specs.HitOrder.in_hit_order (heap_items c.keep_all.new.first) }) counted
-    ∙ looked_on _ _ _ can c.in_ok-found.found.items (c.self.inside.turns * 1024 + c.min.result) ends c.in_ok-found.ensures was (heap_items c.self.inside.first) (heap_items c.keep_all.new.first) refl kept
-    ∙ ap (λ (q : QueryState). looked q.ask c.args.version (q.turns + 1) c.args.shard.now) c.self.view_is
+    let q = c.args.self.now in
+    let next = next_rows q c.args.version c.args.shard.now in (
+      c.keep_all.ensures.still_ordered,
+      subst IsQuery (sym (returns-clause-ok c))
+          (still_query q c.args.version c.args.shard.now next (subst IsQuery c.self.view_is c.self.invariant.1) c.requires.reads (few_next q c.args.version c.args.shard.now)),
+    )
