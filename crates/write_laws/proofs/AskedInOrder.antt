@@ -14,9 +14,9 @@ use Rattle.task_events.specs.Lawful.{Lawful}
 use Rattle.task_events.specs.Messages.{is_request, number_in_flight}
 use Rattle.task_events.specs.Same.{same_task}
 use Rattle.task_events.specs.Steps.{asked_by, with_answer}
-use Rattle.task_events.specs.Tasks.{child_of, is_live, live_child, reply_of}
+use Rattle.task_events.specs.Tasks.{child_of, has_ended, is_live, live_child, reply_of}
 use Rattle.task_laws.proofs.Asks.{AskFacts, ask_facts}
-use Rattle.task_laws.proofs.InFlight.{requests_in_flight}
+use Rattle.task_laws.proofs.InFlight.{answers_in_flight, requests_in_flight}
 use Rattle.task_laws.proofs.Same.{same_task_tells, same_tests}
 
 -- its answer, once it has come
@@ -126,3 +126,9 @@ module _ (cluster : Cluster) (t : TaskId) where
   asked_in_order (Refuse u c ∷ h) l = kept h (Refuse u c ∷ h) (refuse_keeps u c h l) (asked_in_order h l.1)
   asked_in_order (End u r ∷ h) l = kept h (End u r ∷ h) (end_keeps u r h l) (asked_in_order h l.1)
   asked_in_order (_ ∷ h) l = asked_in_order h l.1
+
+-- what has ended asks for nothing more, and is told nothing more
+pub asked_stays : (cluster : Cluster) (e : Event) (h : List Event) (t : TaskId) → Lawful cluster (e ∷ h) → has_ended t h ≡ true → asked_by t (e ∷ h) ≡ asked_by t h
+asked_stays cluster (Ask q j n child) h t l ended = let f = ask_facts cluster h l.1 in grind (arith, same_tests, f.live_or_ended q, l.0.goes_on.live)
+asked_stays cluster (Answered q j) h t l ended = let f = ask_facts cluster h l.1 in grind (arith, same_tests, f.live_or_ended q, f.live_asker q j, f.place q j, answers_in_flight q j h, l.0)
+asked_stays cluster _ h t l ended = refl

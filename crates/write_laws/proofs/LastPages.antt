@@ -22,7 +22,6 @@ use Rattle.task_events.specs.declared.request.Request.TheVariants as asks
 use Rattle.task_events.specs.declared.step.Asked.{Asked}
 use Rattle.task_events.specs.declared.step.Do.TheVariants.{Finish}
 use Rattle.task_events.specs.Asks.{answer_of, answer_or, last_ask, rejection_of}
-use Rattle.task_events.specs.Clock.{clock}
 use Rattle.task_events.specs.Contexts.{page_of}
 use Rattle.task_events.specs.Counting.{answers_in, failures_of, is_batch}
 use Rattle.task_events.specs.Kind.{Progress}
@@ -34,20 +33,21 @@ use Rattle.task_events.specs.ScrollTask.{scroll_step}
 use Rattle.task_events.specs.Searches.{failed_in, search_reply}
 use Rattle.task_events.specs.SearchTask.{search_step}
 use Rattle.task_events.specs.SliceTask.{answer_at, is_clean, docs_on, slice_counts, slice_step}
-use Rattle.task_events.specs.Steps.{asked_by, came_by, planned_step, progress_of}
+use Rattle.task_events.specs.Steps.{asked_by, planned_step}
 use Rattle.task_events.specs.Tasks.{child_of, reply_of}
-use Rattle.task_events.specs.Written.{corpus_at}
 use Rattle.write_laws.specs.Copied.{has_read_all, is_end}
 use Rattle.write_laws.specs.KindsAsked.{KeepsToKinds, is_part}
-use Rattle.write_laws.proofs.BulksWritten.{good_alive}
+use Rattle.write_laws.proofs.AskedInOrder.{asked_stays}
 use Rattle.write_laws.proofs.ChildAsks.{asks_made, child_request, ends_none}
 use Rattle.write_laws.proofs.EndedWritten.{ended_says}
-use Rattle.write_laws.proofs.SliceAsks.{AskSaid, EndsAfter, asks_said, is_reading, newest_answer, slice_ends}
-use Rattle.write_laws.proofs.SlicesWritten.{asked_stays, unfailed}
+use Rattle.write_laws.proofs.GoodAnswers.{good_alive}
+use Rattle.write_laws.proofs.SliceAsks.{AskSaid, EndsAfter, asks_said, is_reading, newest_answer}
+use Rattle.write_laws.proofs.SliceEnds.{none_failing, slice_ended}
+use Rattle.write_laws.proofs.SlicesWritten.{unfailed}
 use Rattle.write_laws.proofs.StepCases.{ends_by_plan}
 use Rattle.write_laws.proofs.WholeTurns.{AllPlanned}
 
-abbrev is_page : Reply → Bool
+abbrev pub is_page : Reply → Bool
 is_page (Search page) = true
 is_page _ = false
 
@@ -80,14 +80,14 @@ module _ (cluster : Cluster) (corpus : Corpus) (said : Scripted) where
 
   module _ (h : List Event) (l : Lawful cluster h) (keeps : KeepsToKinds said h) (planned : AllPlanned cluster corpus said h) where
     -- what was asked for a page, and did not fail, has shown one
-    reading_shows : (t : TaskId) (reply : Reply) (request : Request) → is_reading request ≡ true → failures_of reply ≡ 0 → reply_of t h ≡ Some reply → request_of said t h ≡ Some request → is_page reply ≡ true
+    pub reading_shows : (t : TaskId) (reply : Reply) (request : Request) → is_reading request ≡ true → failures_of reply ≡ 0 → reply_of t h ≡ Some reply → request_of said t h ≡ Some request → is_page reply ≡ true
     reading_shows t reply request reads good e asked =
         ended_says cluster corpus said request (λ last. (last ≡ reply) × (failures_of last ≡ 0)) (λ u c fits. absurd (omega (arith, fits.1))) (λ t h. is_page reply ≡ true) (λ e h t l ended says. says) (λ t last h says. says)
         (λ past u last lawful kept steps made fits.
         ap is_page (sym fits.0) ∙ reading_ends request reads past u last (ends_by_plan cluster corpus said past (End u last) steps.0.0 u last request refl (good_alive last fits.1) made) fits.1) h l keeps planned t reply (refl, good) e asked
 
     -- a bulk that did not fail is clean
-    bulk_clean : (t : TaskId) (reply : Reply) (ask : BulkAsk) → failures_of reply ≡ 0 → reply_of t h ≡ Some reply → request_of said t h ≡ Some (asks.Bulk ask) → is_clean reply ≡ true
+    pub bulk_clean : (t : TaskId) (reply : Reply) (ask : BulkAsk) → failures_of reply ≡ 0 → reply_of t h ≡ Some reply → request_of said t h ≡ Some (asks.Bulk ask) → is_clean reply ≡ true
     bulk_clean t reply ask good e asked =
         ended_says cluster corpus said (asks.Bulk ask) (λ last. (last ≡ reply) × (failures_of last ≡ 0)) (λ u c fits. absurd (omega (arith, fits.1))) (λ t h. is_clean reply ≡ true) (λ e h t l ended says. says) (λ t last h says. says)
         (λ past u last lawful kept steps made fits.
@@ -115,12 +115,10 @@ module _ (cluster : Cluster) (corpus : Corpus) (said : Scripted) (request : Requ
   all_read h t last l keeps p asked fits = ap (λ o. option_map_or is_end o false) ends.0.answered ∙ by_rejection (rejection_of t (last_ask t h) h) refl told good_one
     where
       ends : EndsAfter (length (asked_by t h)) (answer_at (asked_by t h) (length (asked_by t h) - 1)) × (Wrote (slice_counts (asked_by t h)) ≡ last)
-      ends =
-          slice_ends t ask slice cluster.shards (asked_by t h) (came_by t h) (clock h) last
-          (sym (does t (corpus_at corpus said h) (progress_of cluster corpus said t request h) (clock h)) ∙ ends_by_plan cluster corpus said h (End t last) p.0.0 t last request refl (good_alive last fits) asked)
+      ends = slice_ended cluster corpus said t request ask slice (does t) h last p asked fits
 
       good : sum_by failures_of (answers_in (asked_by t h)) ≡ 0
-      good = ap failures_of ends.1 ∙ fits
+      good = none_failing cluster corpus said t request ask slice (does t) h last p asked fits
 
       made : length (asked_by t h) ≡ last_ask t h
       made = asks_made cluster t h l.1

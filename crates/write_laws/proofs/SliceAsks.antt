@@ -144,22 +144,27 @@ at_last : {X : Type 0} (xs : List X) (x : X) → slice_get (xs ++ x ∷ []) (len
 at_last [] x = refl
 at_last (y ∷ xs) x = at_last xs x
 
-pub newest_answer : (cluster : Cluster) (t : TaskId) (h : List Event) → Lawful cluster h → (reply : Reply) → answer_at (asked_by t h) (length (asked_by t h) - 1) ≡ Some reply → answer_of t (last_ask t h) h ≡ Some reply
-newest_answer cluster t h l reply e = by_number (last_ask t h) (asks_made cluster t h l) (asked_in_order cluster t h l)
+-- it is that to the last ask, and has come
+pub newest_come : (cluster : Cluster) (t : TaskId) (h : List Event) → Lawful cluster h → (reply : Reply) → answer_at (asked_by t h) (length (asked_by t h) - 1) ≡ Some reply → answer_come t h (last_ask t h) ≡ Some reply
+newest_come cluster t h l reply e = by_number (last_ask t h) (asks_made cluster t h l) (asked_in_order cluster t h l)
   where
-    has_come : (k : ℕ) (b : Bool) → is_unanswered t k h ≡ b → cond b None (answer_of t k h) ≡ Some reply → answer_of t k h ≡ Some reply
-    has_come k true x come = absurd (cc)
-    has_come k false x come = come
-
-    by_number : (n : ℕ) → length (asked_by t h) ≡ n → asked_by t h ≡ map (asked_at t h) (up_to n) → answer_of t n h ≡ Some reply
+    by_number : (n : ℕ) → length (asked_by t h) ≡ n → asked_by t h ≡ map (asked_at t h) (up_to n) → answer_come t h n ≡ Some reply
     by_number zero made all = absurd (let none : answer_at [] (length (asked_by t h) - 1) ≡ Some reply = ap (λ xs. answer_at xs (length (asked_by t h) - 1)) (sym all) ∙ e in cc)
     by_number (suc n) made all =
         let split : asked_by t h ≡ map (asked_at t h) (up_to n) ++ asked_at t h (suc n) ∷ [] = all ∙ map-append (asked_at t h) (up_to n) (suc n ∷ []) in
         let before = length-map (up_to n) (asked_at t h) in
         let number : length (asked_by t h) - 1 ≡ length (map (asked_at t h) (up_to n)) = omega (arith, made, before, length_up_to n) in
-        let come : answer_come t h (suc n) ≡ Some reply =
-        sym (ap (option_and_then (λ a. a.answer)) (at_last (map (asked_at t h) (up_to n)) (asked_at t h (suc n)))) ∙ (λ i. answer_at (sym split i) (sym number i)) ∙ e in
-        has_come (suc n) (is_unanswered t (suc n) h) refl come
+        sym (ap (option_and_then (λ a. a.answer)) (at_last (map (asked_at t h) (up_to n)) (asked_at t h (suc n)))) ∙ (λ i. answer_at (sym split i) (sym number i)) ∙ e
+
+pub come_answered : (t : TaskId) (h : List Event) (k : ℕ) (reply : Reply) → answer_come t h k ≡ Some reply → (is_unanswered t k h ≡ false) × (answer_of t k h ≡ Some reply)
+come_answered t h k reply e = by_open (is_unanswered t k h) refl e
+  where
+    by_open : (b : Bool) → is_unanswered t k h ≡ b → cond b None (answer_of t k h) ≡ Some reply → (is_unanswered t k h ≡ false) × (answer_of t k h ≡ Some reply)
+    by_open true x come = absurd (cc)
+    by_open false x come = (x, come)
+
+pub newest_answer : (cluster : Cluster) (t : TaskId) (h : List Event) → Lawful cluster h → (reply : Reply) → answer_at (asked_by t h) (length (asked_by t h) - 1) ≡ Some reply → answer_of t (last_ask t h) h ≡ Some reply
+newest_answer cluster t h l reply e = (come_answered t h (last_ask t h) reply (newest_come cluster t h l reply e)).1
 
 -- ---- what its asks were for
 

@@ -1,18 +1,16 @@
 -- A slice that has ended without a failure has written each document of the pages that it was shown, once.
 use Rattle.std.proofs.Common.{◌≡◌, ◌+◌, ◌-◌, ◌%◌, ◌≤◌, ◌<◌, ◌⊎◌, inl, inr, ℕ, suc, Bool, true, false, cond, not, ◌&&◌, List, [], ◌∷◌, length, map, Option, Some, None, refl, sym, ap, subst, ◌∙◌, arith}
-use Rattle.std.specs.List.{flat_map, list_any, sum_by}
+use Rattle.std.specs.List.{list_any, sum_by}
 use Rattle.std.specs.Option.{option_map_or}
 use Rattle.std.specs.Prelude.{◌==◌, count_by, option_and_then}
 use Rattle.std.proofs.lemmas.Bool.{cases_lt}
 use Rattle.std.proofs.lemmas.Bool.Decides.{nat_tests}
-use Rattle.std.proofs.lemmas.List.Concat.{flat_map-cons}
-use Rattle.std.proofs.lemmas.List.Sums.{sum_by-append, sum_by-cons}
 use Rattle.task_ids.specs.declared.cluster.Cluster.{Cluster}
 use Rattle.task_ids.specs.declared.corpus.Corpus.{Corpus}
 use Rattle.task_ids.specs.declared.doc.Doc.{Doc}
 use Rattle.task_ids.specs.declared.task_id.TaskId.{TaskId}
 use Rattle.task_events.specs.declared.event.Event.{Event}
-use Rattle.task_events.specs.declared.event.Event.TheVariants.{Answered, Ask, Write, End}
+use Rattle.task_events.specs.declared.event.Event.TheVariants.{Write, End}
 use Rattle.task_events.specs.declared.event.Outcome.{Outcome}
 use Rattle.task_events.specs.declared.reply.Hit.{Hit}
 use Rattle.task_events.specs.declared.reply.Reply.{Reply}
@@ -22,33 +20,33 @@ use Rattle.task_events.specs.declared.request.ReindexAsk.{ReindexAsk}
 use Rattle.task_events.specs.declared.request.Request.{Request}
 use Rattle.task_events.specs.declared.request.Request.TheVariants as asks
 use Rattle.task_events.specs.Asks.{answer_of, answer_or, is_unanswered, last_ask, rejection_of, request_of_ask, unanswered}
-use Rattle.task_events.specs.Clock.{clock}
 use Rattle.task_events.specs.Counting.{answers_in, failures_of, is_batch}
 use Rattle.task_events.specs.Kind.{Progress}
 use Rattle.task_events.specs.Kinds.{kind_of}
 use Rattle.task_events.specs.Lawful.{Lawful}
 use Rattle.task_events.specs.Requests.{Scripted, request_of}
 use Rattle.task_events.specs.SliceTask.{answer_at, bulk_of, docs_on, slice_counts, slice_step}
-use Rattle.task_events.specs.Steps.{asked_by, came_by, progress_of}
-use Rattle.task_events.specs.Tasks.{child_of, has_ended, reply_of}
-use Rattle.task_events.specs.Written.{corpus_at, next_doc}
-use Rattle.task_laws.proofs.Asks.{ask_facts}
-use Rattle.task_laws.proofs.InFlight.{answers_in_flight}
+use Rattle.task_events.specs.Steps.{asked_by}
+use Rattle.task_events.specs.Tasks.{child_of, reply_of}
+use Rattle.task_events.specs.Written.{next_doc}
 use Rattle.task_laws.proofs.Pending.{is_pending}
-use Rattle.task_laws.proofs.Same.{same_tests}
 use Rattle.write_laws.specs.Copied.{HasWritten, docs_shown}
 use Rattle.write_laws.specs.KindsAsked.{KeepsToKinds, is_part}
 use Rattle.write_laws.specs.TreeWrites.{is_to_write, tree_is_writing, tree_number, tree_writes}
 use Rattle.write_laws.proofs.AnswersCount.{of_all}
-use Rattle.write_laws.proofs.AskedInOrder.{answer_come, asked_at, asked_in_order}
-use Rattle.write_laws.proofs.BulksWritten.{bulks_written, count_all, good_alive, own_least}
-use Rattle.write_laws.proofs.ByKind.{own_none, tree_none}
+use Rattle.write_laws.proofs.AskedForAll.{only_children}
+use Rattle.write_laws.proofs.AskedInOrder.{answer_come, asked_at, asked_in_order, asked_stays}
+use Rattle.write_laws.proofs.BulksWritten.{bulks_written, count_all}
+use Rattle.write_laws.proofs.ByKind.{tree_none}
 use Rattle.write_laws.proofs.ChildAsks.{asks_made, child_request, ends_none}
 use Rattle.write_laws.proofs.EndedWritten.{ended_says, none_at_end, none_written}
-use Rattle.write_laws.proofs.SliceAsks.{AskSaid, EndsAfter, asks_said, is_reading, newest_answer, slice_ends}
+use Rattle.write_laws.proofs.GoodAnswers.{good_alive, none_failed}
+use Rattle.write_laws.proofs.JoinedDocs.{count_joined}
+use Rattle.write_laws.proofs.SliceAsks.{AskSaid, EndsAfter, asks_said, is_reading, newest_answer}
+use Rattle.write_laws.proofs.SliceEnds.{none_failing, slice_ended}
 use Rattle.write_laws.proofs.StepCases.{ends_by_plan}
-use Rattle.write_laws.proofs.Sums.{by_pairs, each_none, sum_to}
-use Rattle.write_laws.proofs.Trees.{child_number, children_number, number_by_children, own_number}
+use Rattle.write_laws.proofs.Sums.{by_pairs, sum_to}
+use Rattle.write_laws.proofs.Trees.{child_number, children_number}
 use Rattle.write_laws.proofs.WholeTurns.{AllPlanned}
 
 -- ---- replies
@@ -83,14 +81,8 @@ tree_least passes t (Write index shard outcome id ∷ h) = by_write (tree_is_wri
     by_write false b n m less = less
 tree_least passes t (_ ∷ h) = tree_least passes t h
 
-count_joined : (test : Doc → Bool) (answers : List Reply) → sum_by (λ reply. count_by test (docs_on reply)) answers ≡ count_by test (flat_map docs_on answers)
-count_joined test [] = refl
-count_joined test (reply ∷ answers) =
-    sum_by-cons (λ reply. count_by test (docs_on reply)) reply answers ∙ ap (λ n. count_by test (docs_on reply) + n) (count_joined test answers)
-    ∙ sym (sum_by-append (λ doc. cond (test doc) 1 0) (docs_on reply) (flat_map docs_on answers)) ∙ ap (count_by test) (sym (flat_map-cons docs_on reply answers))
-
 -- a bulk shows no page
-bulk_shows_none : (cluster : Cluster) (corpus : Corpus) (said : Scripted) (h : List Event) → Lawful cluster h → KeepsToKinds said h → AllPlanned cluster corpus said h → (t : TaskId) (reply : Reply) (ask : BulkAsk)
+pub bulk_shows_none : (cluster : Cluster) (corpus : Corpus) (said : Scripted) (h : List Event) → Lawful cluster h → KeepsToKinds said h → AllPlanned cluster corpus said h → (t : TaskId) (reply : Reply) (ask : BulkAsk)
     → failures_of reply ≡ 0 → reply_of t h ≡ Some reply → request_of said t h ≡ Some (asks.Bulk ask) → docs_on reply ≡ []
 bulk_shows_none cluster corpus said h l keeps p t reply ask good e asked =
     ended_says cluster corpus said (asks.Bulk ask) (λ last. (last ≡ reply) × (failures_of last ≡ 0)) (λ u c fits. absurd (omega (arith, fits.1))) (λ t h. docs_on reply ≡ []) (λ e h t l ended says. says) (λ t last h says. says)
@@ -108,10 +100,7 @@ module _ (cluster : Cluster) (corpus : Corpus) (said : Scripted) (h : List Event
   come k = rw (none_open k) refl
 
   pub unfailed : (k : ℕ) → 1 ≤ k → k ≤ last_ask t h → option_map_or failures_of (answer_of t k h) 0 ≡ 0
-  unfailed k low high =
-      ap (λ o. option_map_or failures_of o 0) (sym (come k))
-      ∙ each_none (λ j. option_map_or failures_of (answer_come t h j) 0) (last_ask t h)
-      (sym (of_all failures_of (λ a. a.answer) (asked_at t h) (last_ask t h)) ∙ ap (λ xs. sum_by failures_of (answers_in xs)) (sym (asked_in_order cluster t h l)) ∙ good) k low high
+  unfailed k low high = ap (λ o. option_map_or failures_of o 0) (sym (come k)) ∙ none_failed cluster t h l good k low high
 
   for_what : (k : ℕ) → 1 ≤ k → k ≤ last_ask t h → AskSaid cluster corpus said t request ask slice does h k
   for_what k low high = asks_said cluster corpus said t request ask slice does h l planned asked k low high
@@ -169,9 +158,6 @@ module _ (cluster : Cluster) (corpus : Corpus) (said : Scripted) (h : List Event
         by_rejection None e has unfailing = by_child (child_of t k h) refl has.0 (sym (ap (λ n. answer_or n (option_and_then (λ c. reply_of c h) (child_of t k h))) e) ∙ has.1) unfailing has.1
         by_rejection (Some n) e has unfailing = absurd (omega (arith, unfailing))
 
-    own : own_number passes t h ≡ 0
-    own = let none = own_none cluster said (λ outcome. true) h l keeps t (rw asked apart) in let least = own_least passes t h in omega (arith, none, least)
-
     last_none : cond (last_ask t h % 2 == 1) (shown (last_ask t h)) 0 ≡ 0
     last_none = by_parity (last_ask t h % 2 == 1) refl
       where
@@ -186,19 +172,13 @@ module _ (cluster : Cluster) (corpus : Corpus) (said : Scripted) (h : List Event
 
     pub slice_number : tree_number passes t h ≡ count_by test (docs_shown (asked_by t h))
     slice_number =
-        number_by_children cluster passes h l t ∙ ap (λ n. n + children_number passes t h) own ∙ alone ∙ sym (of_all (λ reply. count_by test (docs_on reply)) (λ a. a.answer) (asked_at t h) (last_ask t h))
-        ∙ ap (λ xs. sum_by (λ reply. count_by test (docs_on reply)) (answers_in xs)) (sym (asked_in_order cluster t h l)) ∙ count_joined test (answers_in (asked_by t h))
+        only_children cluster said passes h l keeps t request asked apart ∙ alone ∙ sym (of_all (λ reply. count_by test (docs_on reply)) (λ a. a.answer) (asked_at t h) (last_ask t h))
+        ∙ ap (λ xs. sum_by (λ reply. count_by test (docs_on reply)) (answers_in xs)) (sym (asked_in_order cluster t h l)) ∙ count_joined docs_on test (answers_in (asked_by t h))
       where
-        alone : 0 + children_number passes t h ≡ sum_to shown (last_ask t h)
+        alone : children_number passes t h ≡ sum_to shown (last_ask t h)
         alone = let pairs = by_pairs (child_number passes t h) shown (last_ask t h) page_none bulk_page in omega (arith, pairs, last_none)
 
 -- ---- by its end
-
--- what has ended asks for nothing more, and is told nothing more
-pub asked_stays : (cluster : Cluster) (e : Event) (h : List Event) (t : TaskId) → Lawful cluster (e ∷ h) → has_ended t h ≡ true → asked_by t (e ∷ h) ≡ asked_by t h
-asked_stays cluster (Ask q j n child) h t l ended = let f = ask_facts cluster h l.1 in grind (arith, same_tests, f.live_or_ended q, l.0.goes_on.live)
-asked_stays cluster (Answered q j) h t l ended = let f = ask_facts cluster h l.1 in grind (arith, same_tests, f.live_or_ended q, f.live_asker q j, f.place q j, answers_in_flight q j h, l.0)
-asked_stays cluster _ h t l ended = refl
 
 module _ (cluster : Cluster) (corpus : Corpus) (said : Scripted) (request : Request) (ask : ReindexAsk) (slice : ℕ)
     (does : (t : TaskId) (made : Corpus) (q : Progress) (now : ℕ) → (kind_of request).step cluster made t q now ≡ slice_step t ask slice cluster.shards q.asked q.came now) (apart : is_part request ≡ false) where
@@ -214,12 +194,10 @@ module _ (cluster : Cluster) (corpus : Corpus) (said : Scripted) (request : Requ
       written c reply bulk unfailing e made = bulks_written cluster corpus said h l.1 keeps p.1 c reply bulk unfailing e made
 
       ends : EndsAfter (length (asked_by t h)) (answer_at (asked_by t h) (length (asked_by t h) - 1)) × (Wrote (slice_counts (asked_by t h)) ≡ last)
-      ends =
-          slice_ends t ask slice cluster.shards (asked_by t h) (came_by t h) (clock h) last
-          (sym (does t (corpus_at corpus said h) (progress_of cluster corpus said t request h) (clock h)) ∙ ends_by_plan cluster corpus said h (End t last) p.0.0 t last request refl (good_alive last fits) asked)
+      ends = slice_ended cluster corpus said t request ask slice (does t) h last p asked fits
 
       good : sum_by failures_of (answers_in (asked_by t h)) ≡ 0
-      good = ap failures_of ends.1 ∙ fits
+      good = none_failing cluster corpus said t request ask slice (does t) h last p asked fits
 
   pub slices_written : (h : List Event) → Lawful cluster h → KeepsToKinds said h → AllPlanned cluster corpus said h → (t : TaskId) (reply : Reply) → failures_of reply ≡ 0 → reply_of t h ≡ Some reply → request_of said t h ≡ Some request → HasWritten said t h (docs_shown (asked_by t h))
   slices_written =

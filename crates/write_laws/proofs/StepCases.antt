@@ -38,7 +38,7 @@ module _ (cluster : Cluster) (corpus : Corpus) (said : Scripted) (t : TaskId) (h
   by_step false (Some c) counts e is = by_mark c counts (unanswered t h) e is
   by_step false None counts e is = by_plan (request_of said t h) refl e is
 
-  step_case : (e : Event) → next_step cluster corpus said t h ≡ Some e → P e
+  pub step_case : (e : Event) → next_step cluster corpus said t h ≡ Some e → P e
   step_case e is = by_step (is_new t h) (mark_of t h) (counted cluster corpus said t h) e is
 
 -- ---- what a step of some task is

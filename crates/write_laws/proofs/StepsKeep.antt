@@ -80,7 +80,7 @@ module _ (said : Scripted) (t : TaskId) where
   no_notes : (notes : List WriteNote) (g : List Event) → notes ≡ [] → KeepsToKinds said g → KeepsToKinds said (with_notes notes g)
   no_notes notes g none keeps = subst (λ x. KeepsToKinds said (with_notes x g)) (sym none) keeps
 
-  none_at : (place : Option (List ℕ × ℕ)) (writes : List Doc) (turns : ℕ) → notes_at place writes (docs_of_turn [] turns) ≡ []
+  pub none_at : (place : Option (List ℕ × ℕ)) (writes : List Doc) (turns : ℕ) → notes_at place writes (docs_of_turn [] turns) ≡ []
   none_at None writes turns = refl
   none_at (Some place) writes turns = ap (notes_at (Some place) writes) (no_docs rows_per_turn (turns * rows_per_turn))
 

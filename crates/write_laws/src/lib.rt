@@ -1,7 +1,7 @@
 //! What the tasks that write tell of their writes, over the histories of runs.
 #![tactic(auto)]
 
-ghost use Rattle.std.specs.Prelude.{◌≡◌, List, Some, true};
+ghost use Rattle.std.specs.Prelude.{ℕ, ◌≡◌, List, Some, true};
 ghost use Rattle.task_ids.specs.declared.task_id.TaskId.{TaskId};
 ghost use Rattle.task_events.specs.declared.event.Event.{Event};
 ghost use Rattle.task_events.specs.declared.reply.Counts.{Counts};
@@ -9,6 +9,7 @@ ghost use Rattle.task_events.specs.declared.reply.Reply.TheVariants.{Wrote};
 ghost use Rattle.task_events.specs.declared.request.BulkAsk.{BulkAsk};
 ghost use Rattle.task_events.specs.declared.request.BulkShardAsk.{BulkShardAsk};
 ghost use Rattle.task_events.specs.declared.request.ReindexAsk.{ReindexAsk};
+ghost use Rattle.task_events.specs.declared.request.Request.{Request};
 ghost use Rattle.task_events.specs.declared.request.Request.TheVariants.{Bulk, BulkShard, Reindex, Slice};
 ghost use Rattle.task_events.specs.declared.request.SliceAsk.{SliceAsk};
 ghost use Rattle.task_events.specs.Lawful.{Lawful};
@@ -19,7 +20,12 @@ ghost use Rattle.command_roots.specs.Roots.{scripted};
 ghost use Rattle.world_moves.specs.Plain.{AnswersPlainly};
 ghost use Rattle.world_steps.specs.Scripts.{IsRunSoFar};
 ghost use Rattle.write_laws.specs.Copied.{HasWritten, docs_shown, has_read_all};
+ghost use Rattle.write_laws.specs.CopiedAll.{CopiesItsRows};
+ghost use Rattle.write_laws.specs.CopiedRows.{CopiesRows};
+ghost use Rattle.write_laws.specs.CopiedSlices.{CopiesSlices};
+ghost use Rattle.write_laws.specs.Destinations.{WritesInto, dest_in};
 ghost use Rattle.write_laws.specs.KindsAsked.{KeepsToKinds};
+ghost use Rattle.write_laws.specs.Throttled.{KeepsToRates};
 ghost use Rattle.write_laws.specs.TreeWrites.{CountsItsWrites};
 
 use script_lang::Script;
@@ -84,4 +90,55 @@ pub fn reads_all_pages()
     ensures reindexes { (cluster : Cluster) (corpus : Corpus) (script : Script) (h : List Event) (t : TaskId) (ask : ReindexAsk) (counts : Counts)
         → IsRunSoFar cluster corpus script h → Lawful cluster h → ask.slices ≡ 1
         → request_of (scripted script) t h ≡ Some (Reindex ask) → reply_of t h ≡ Some (Wrote counts) → counts.failures ≡ 0 → has_read_all (asked_by t h) ≡ true }
+{}
+
+/// A reindex of several slices that tells of no failure has asked for each of its slices, in order. Each of these has
+/// ended and tells of no failure, and together they have written what the reindex has.
+///
+/// It computes nothing: its contract is the law.
+pub fn writes_its_slices()
+    ensures { (cluster : Cluster) (corpus : Corpus) (script : Script) (h : List Event) (t : TaskId) (ask : ReindexAsk) (counts : Counts)
+        → IsRunSoFar cluster corpus script h → Lawful cluster h → (ask.slices ≡ 1 → ⊥)
+        → request_of (scripted script) t h ≡ Some (Reindex ask) → reply_of t h ≡ Some (Wrote counts) → counts.failures ≡ 0 → CopiesSlices (scripted script) t ask h }
+{}
+
+/// In a run each slice asks for a page after its first one at the moment that its rate gives, or later.
+///
+/// It computes nothing: its contract is the law.
+pub fn keeps_to_its_rate()
+    ensures { (cluster : Cluster) (corpus : Corpus) (script : Script) (h : List Event)
+        → IsRunSoFar cluster corpus script h → Lawful cluster h → KeepsToRates (scripted script) h }
+{}
+
+/// A slice that tells of no failure has written each row of its part of the source as its first search found it, once, and
+/// nothing else; so has a reindex that does the work of its one slice itself.
+///
+/// It computes nothing: its contract is the law.
+pub fn copies_its_rows()
+    ensures slices { (cluster : Cluster) (corpus : Corpus) (script : Script) (h : List Event) (t : TaskId) (ask : SliceAsk) (counts : Counts)
+        → IsRunSoFar cluster corpus script h → Lawful cluster h → AnswersPlainly cluster corpus script h
+        → request_of (scripted script) t h ≡ Some (Slice ask) → reply_of t h ≡ Some (Wrote counts) → counts.failures ≡ 0 → CopiesRows cluster corpus script t ask.reindex ask.slice h }
+    ensures reindexes { (cluster : Cluster) (corpus : Corpus) (script : Script) (h : List Event) (t : TaskId) (ask : ReindexAsk) (counts : Counts)
+        → IsRunSoFar cluster corpus script h → Lawful cluster h → AnswersPlainly cluster corpus script h → ask.slices ≡ 1
+        → request_of (scripted script) t h ≡ Some (Reindex ask) → reply_of t h ≡ Some (Wrote counts) → counts.failures ≡ 0 → CopiesRows cluster corpus script t ask 0 h }
+{}
+
+/// A reindex that tells of no failure has written, for each of its slices, each row of that slice as its first search found
+/// it, once, and nothing else, and all of it into the index that it was asked to write to.
+///
+/// It computes nothing: its contract is the law.
+pub fn copies_all_rows()
+    ensures { (cluster : Cluster) (corpus : Corpus) (script : Script) (h : List Event)
+        → IsRunSoFar cluster corpus script h → Lawful cluster h → AnswersPlainly cluster corpus script h → CopiesItsRows cluster corpus script h }
+{
+    copies_its_rows();
+    writes_where_told();
+}
+
+/// All that a task and its descendants have written is in the index to which the task was asked to write.
+///
+/// It computes nothing: its contract is the law.
+pub fn writes_where_told()
+    ensures { (cluster : Cluster) (corpus : Corpus) (script : Script) (h : List Event) (t : TaskId) (request : Request) (dest : List ℕ)
+        → IsRunSoFar cluster corpus script h → Lawful cluster h → request_of (scripted script) t h ≡ Some request → dest_in request ≡ Some dest → WritesInto dest t h }
 {}
