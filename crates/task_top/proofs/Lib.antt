@@ -5,6 +5,7 @@ pub mod OneLine
 pub mod PagesBegun
 pub mod PrintedLines
 pub mod ProgressLemmas
+pub mod RanSoFar
 pub mod ReadingLaws
 pub mod Reasons
 pub mod RootEnds
@@ -12,4 +13,3 @@ pub mod RootLaws
 pub mod TopLemmas
 pub mod TurnEvents
 pub mod UnharmedSearches
-pub mod WritesTold

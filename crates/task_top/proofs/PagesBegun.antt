@@ -2,7 +2,6 @@
 use Rattle.std.proofs.Common.{◌≡◌, ◌∙◌, ℕ, List, ◌∷◌, Option, Some, None, refl, ap}
 use Rattle.std.specs.Prelude.{option_and_then, is_ok}
 use Rattle.task_ids.specs.declared.task_id.TaskId.{TaskId}
-use Rattle.task_ids.specs.declared.text.Text.{Text}
 use Rattle.task_events.specs.declared.event.Event.{Event}
 use Rattle.task_events.specs.declared.event.Event.TheVariants.{Begin}
 use Rattle.task_events.specs.Clock.{clock}
@@ -12,7 +11,7 @@ use Rattle.script_lang.specs.declared.command.Command.TheVariants.{Scroll}
 use Rattle.script_lang.specs.declared.command.ContextTarget.{ContextTarget}
 use Rattle.script_lang.specs.declared.command.ContextTarget.TheVariants.{Id, Command}
 use Rattle.script_lang.specs.declared.command.Script.{Script}
-use Rattle.command_roots.specs.Roots.{cleared, cleared_in, command_at, context_named, page_answer, page_at, scripted}
+use Rattle.command_roots.specs.Roots.{cleared, cleared_in, command_at, context_named, page_at, scripted}
 use Rattle.world_steps.specs.Scripts.{can_page, page_node}
 
 module _ (k : ℕ) (h : List Event) where

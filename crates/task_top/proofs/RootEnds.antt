@@ -14,7 +14,6 @@ use Rattle.task_events.specs.declared.reply.Reply.{Reply}
 use Rattle.task_events.specs.declared.reply.Reply.TheVariants.{Search, AllFailed, Cancelled}
 use Rattle.task_events.specs.declared.request.Request.{Request}
 use Rattle.task_events.specs.declared.request.Request.TheVariants as asks
-use Rattle.task_events.specs.declared.request.SearchAsk.{SearchAsk}
 use Rattle.task_events.specs.Answers.{plain_answer}
 use Rattle.task_events.specs.Contexts.{page_of}
 use Rattle.task_events.specs.Readings.{Reading, search_reading, page_reading}

@@ -11,10 +11,13 @@ ghost use Rattle.task_events.specs.declared.history.TheConstants.{MAX_EVENTS};
 ghost use Rattle.task_events.specs.Laws.{IsDrained};
 ghost use Rattle.script_lang.specs.declared.command.Mode.{Mode};
 ghost use Rattle.script_lang.specs.declared.command.Script.{Script};
+ghost use Rattle.command_roots.specs.Roots.{scripted};
 ghost use Rattle.world_moves.specs.Cancels.{AllAnswered};
 ghost use Rattle.world_moves.specs.Moves.{greatest_number};
 ghost use Rattle.world_moves.specs.Plain.{AnswersPlainly};
 ghost use Rattle.world_steps.specs.Scripts.{CanRun, IsRun, IsRunSoFar};
+ghost use Rattle.write_laws.specs.CopiedAll.{CopiesItsRows};
+ghost use Rattle.write_laws.specs.Throttled.{KeepsToRates};
 ghost use Rattle.write_laws.specs.TreeWrites.{CountsItsWrites};
 ghost use Rattle.task_top.specs.EachLine.{HasLines};
 ghost use Rattle.task_top.specs.Promises.{CancelsExactly, KeepsAllLaws};
@@ -24,7 +27,7 @@ ghost use Rattle.task_top.specs.Unharmed.{AnswersWholly};
 use task_laws::{
     causes, drained_bans, early_children, late_children, one_place, one_stage, waiting,
 };
-use write_laws::counts_its_writes;
+use write_laws::{copies_all_rows, counts_its_writes, keeps_to_its_rate};
 
 /// In a mode and for a cluster any bytes are read as one corpus and one script or refused at one line for one cause, and
 /// never both.
@@ -70,8 +73,9 @@ pub(crate) fn all_laws()
     causes();
 }
 
-/// In a whole run each command has its line. In any run a search to which nothing happened has no failed shard, and a task that was to
-/// write has replied with the numbers of the documents that it and its descendants have written.
+/// In a whole run each command has its line. In any run a search to which nothing happened has no failed shard, a task that was to
+/// write has replied with the numbers of the documents that it and its descendants have written, a reindex that tells of no failure has
+/// copied the rows of all its slices, and a slice keeps to its rate.
 ///
 /// It computes nothing: its contract is the law.
 pub(crate) fn answer_laws()
@@ -81,7 +85,13 @@ pub(crate) fn answer_laws()
         → Lawful cluster h → AnswersPlainly cluster corpus script h → AnswersWholly script h }
     ensures wrote { (cluster : Cluster) (corpus : Corpus) (script : Script) (h : List Event)
         → IsRunSoFar cluster corpus script h → Lawful cluster h → AnswersPlainly cluster corpus script h → CountsItsWrites script h }
+    ensures copied { (cluster : Cluster) (corpus : Corpus) (script : Script) (h : List Event)
+        → IsRunSoFar cluster corpus script h → Lawful cluster h → AnswersPlainly cluster corpus script h → CopiesItsRows cluster corpus script h }
+    ensures throttled { (cluster : Cluster) (corpus : Corpus) (script : Script) (h : List Event)
+        → IsRunSoFar cluster corpus script h → Lawful cluster h → KeepsToRates (scripted script) h }
 {
     causes();
     counts_its_writes();
+    copies_all_rows();
+    keeps_to_its_rate();
 }

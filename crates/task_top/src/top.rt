@@ -10,6 +10,8 @@ ghost use Rattle.task_top.specs.Kept.{AnswersInput, IsReadWhole, RanAsRead, Rest
 ghost use Rattle.task_top.specs.Progress.{EndsWhole};
 ghost use Rattle.task_top.specs.Promises.{KeepsAllLaws, CancelsExactly};
 ghost use Rattle.task_top.specs.Unharmed.{AnswersWholly};
+ghost use Rattle.write_laws.specs.CopiedAll.{CopiesItsRows};
+ghost use Rattle.write_laws.specs.Throttled.{KeepsToRates};
 ghost use Rattle.write_laws.specs.TreeWrites.{CountsItsWrites};
 
 use crate::kept::Kept;
@@ -68,6 +70,12 @@ pub fn sim_top<S: Source, K: Sink>(
     // Each reindex that has ended in it, cancelled or not, replied with the numbers of the documents that it and its tasks have created and
     // replaced.
     ensures wrote { CountsItsWrites result.1.script result.1.history }
+    // Each reindex that tells of no failure has written, for each of its slices, each matching row of that slice at the versions that the
+    // slice's first search read, once, with its id and source, and nothing else, and all of it into the index that it was asked to write to.
+    ensures copied { CopiesItsRows cluster.now result.1.corpus result.1.script result.1.history }
+    // Each slice asks for a page after its first one once so long has gone by since the page before came as the documents of that take at
+    // the rate.
+    ensures throttled { KeepsToRates (scripted result.1.script) result.1.history }
     // After a whole run nothing is live, in flight or listed, no ban stands, and every cancel that named a task is answered.
     ensures rests { Rests result.0 result.1 }
     // So each command has its line: a search, a scroll or a reindex the end of its task or what refused it, a tick its event, a cancel its answer or that it

@@ -13,5 +13,11 @@ returns-clause-lines c = λ cluster corpus script h lawful plain drained answere
 pub returns-clause-wrote : goal.returns-clause-wrote
 returns-clause-wrote c = c.counts_its_writes.ensures.runs
 
+pub returns-clause-copied : goal.returns-clause-copied
+returns-clause-copied c = c.copies_all_rows.ensures
+
+pub returns-clause-throttled : goal.returns-clause-throttled
+returns-clause-throttled c = c.keeps_to_its_rate.ensures
+
 pub returns-clause-unharmed : goal.returns-clause-unharmed
 returns-clause-unharmed c = λ cluster corpus script h lawful plain t ask reply. answers_wholly cluster corpus script (c.causes.ensures.named cluster) t h lawful plain ask reply

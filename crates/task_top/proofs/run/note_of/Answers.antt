@@ -1,4 +1,4 @@
-use Rattle.std.proofs.Common.{◌≡◌, ◌≤◌, ◌<◌, ◌^◌, subst, arith}
+use Rattle.std.proofs.Common.{◌≤◌, ◌<◌, ◌^◌, subst, arith}
 use Rattle.world_steps.specs.Scripts.{CanDo}
 use Rattle.task_top.proofs.run.note_of.Goals as goal
 

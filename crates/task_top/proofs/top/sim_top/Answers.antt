@@ -2,8 +2,8 @@ use Rattle.std.proofs.Common.{sym, ◌∙◌, ap}
 use Rattle.std.specs.Str.Lines.{lines}
 use Rattle.script_lang.specs.declared.command.Mode.TheVariants.{Sim}
 use Rattle.task_top.specs.Reading.{read_lines}
+use Rattle.task_top.proofs.RanSoFar.{none_asked, none_copied, none_told, ran_so_far}
 use Rattle.task_top.proofs.TopLemmas.{every_moment, every_moment_of_nothing, too_long, refused, read_as}
-use Rattle.task_top.proofs.WritesTold.{none_told, writes_told}
 use Rattle.task_top.proofs.top.sim_top.Goals as goal
 
 pub returns-in-Err-TooLong-clause-input : goal.returns-in-Err-TooLong-clause-input
@@ -62,4 +62,44 @@ returns-clause-wrote g c = none_told _ _ c.nothing-in-Err-Memory-read_input.ensu
 pub returns-in-Ok-read_input-clause-wrote : goal.returns-in-Ok-read_input-clause-wrote
 returns-in-Ok-read_input-clause-wrote g c =
     let kept = c.run_and_print.ensures in
-    writes_told c.args.cluster.now c.whole_is_so_far.ensures c.answer_laws.ensures.wrote _ _ kept.status kept.run kept.lawful kept.plain
+    c.answer_laws.ensures.wrote c.args.cluster.now _ _ _ (ran_so_far c.args.cluster.now c.whole_is_so_far.ensures _ _ kept.status kept.run) kept.lawful kept.plain
+
+pub returns-in-Err-ReadFault-clause-copied : goal.returns-in-Err-ReadFault-clause-copied
+returns-in-Err-ReadFault-clause-copied g c = none_copied _ _ _ _ c.nothing.ensures.no_event
+
+pub returns-in-Err-TooLong-clause-copied : goal.returns-in-Err-TooLong-clause-copied
+returns-in-Err-TooLong-clause-copied g c = none_copied _ _ _ _ c.nothing-in-Err-TooLong.ensures.no_event
+
+pub returns-in-Err-Memory-clause-copied : goal.returns-in-Err-Memory-clause-copied
+returns-in-Err-Memory-clause-copied g c = none_copied _ _ _ _ c.nothing-in-Err-Memory.ensures.no_event
+
+pub returns-in-Err-Bad-clause-copied : goal.returns-in-Err-Bad-clause-copied
+returns-in-Err-Bad-clause-copied g c = none_copied _ _ _ _ c.nothing-in-Err-Bad.ensures.no_event
+
+pub returns-clause-copied : goal.returns-clause-copied
+returns-clause-copied g c = none_copied _ _ _ _ c.nothing-in-Err-Memory-read_input.ensures.no_event
+
+pub returns-in-Ok-read_input-clause-copied : goal.returns-in-Ok-read_input-clause-copied
+returns-in-Ok-read_input-clause-copied g c =
+    let kept = c.run_and_print.ensures in
+    c.answer_laws.ensures.copied c.args.cluster.now _ _ _ (ran_so_far c.args.cluster.now c.whole_is_so_far.ensures _ _ kept.status kept.run) kept.lawful kept.plain
+
+pub returns-in-Err-ReadFault-clause-throttled : goal.returns-in-Err-ReadFault-clause-throttled
+returns-in-Err-ReadFault-clause-throttled g c = none_asked c.nothing.result.script _ c.nothing.ensures.no_event
+
+pub returns-in-Err-TooLong-clause-throttled : goal.returns-in-Err-TooLong-clause-throttled
+returns-in-Err-TooLong-clause-throttled g c = none_asked c.nothing-in-Err-TooLong.result.script _ c.nothing-in-Err-TooLong.ensures.no_event
+
+pub returns-in-Err-Memory-clause-throttled : goal.returns-in-Err-Memory-clause-throttled
+returns-in-Err-Memory-clause-throttled g c = none_asked c.nothing-in-Err-Memory.result.script _ c.nothing-in-Err-Memory.ensures.no_event
+
+pub returns-in-Err-Bad-clause-throttled : goal.returns-in-Err-Bad-clause-throttled
+returns-in-Err-Bad-clause-throttled g c = none_asked c.nothing-in-Err-Bad.result.script _ c.nothing-in-Err-Bad.ensures.no_event
+
+pub returns-clause-throttled : goal.returns-clause-throttled
+returns-clause-throttled g c = none_asked c.nothing-in-Err-Memory-read_input.result.script _ c.nothing-in-Err-Memory-read_input.ensures.no_event
+
+pub returns-in-Ok-read_input-clause-throttled : goal.returns-in-Ok-read_input-clause-throttled
+returns-in-Ok-read_input-clause-throttled g c =
+    let kept = c.run_and_print.ensures in
+    c.answer_laws.ensures.throttled c.args.cluster.now _ _ _ (ran_so_far c.args.cluster.now c.whole_is_so_far.ensures _ _ kept.status kept.run) kept.lawful
