@@ -1,4 +1,4 @@
-//! Tests of single calls: of ids, tracks, tables, bans, cancellations and shards, and of what no run of the program shows.
+//! Tests of single calls: of ids, tracks, tables, bans, cancellations, contexts and lists, and of what no run of the program shows.
 //! They stand in a crate of their own, since a crate with tests is proved twice.
 #![tactic(auto)]
 
@@ -17,24 +17,8 @@ mod ids;
 #[cfg(test)]
 mod lists;
 #[cfg(test)]
-mod pages;
-#[cfg(test)]
-mod phases;
-#[cfg(test)]
-mod reindexes;
-#[cfg(test)]
-mod roots;
-#[cfg(test)]
-mod scripts;
-#[cfg(test)]
-mod shards;
-#[cfg(test)]
-mod slices;
-#[cfg(test)]
 mod tables;
 #[cfg(test)]
 mod tracks;
 #[cfg(test)]
 mod waits;
-#[cfg(test)]
-mod writes;

@@ -7,7 +7,7 @@ use Rattle.task_events.specs.declared.step.Asked.{Asked}
 use Rattle.search_phase.specs.Searching.{Searching, is_above, with_ask, answered_by, with_answer}
 use Rattle.search_phase.proofs.Lookups.{list_all-weaker, list_all-append}
 use Rattle.search_phase.proofs.Sorting.{by_test}
-use Rattle.part_tests.proofs.pages.step.Goals as goal
+use Rattle.work_tests.proofs.pages.step.Goals as goal
 
 above_more : (n : ℕ) (asked : List Asked) → is_above n asked ≡ true → is_above (n + 1) asked ≡ true
 above_more n asked h =

@@ -1,0 +1,22 @@
+//! Tests of single calls: of shards, of the work of queries, fetches, pages and reindexes, and of the reading of scripts.
+//! They stand in a crate of their own, since a crate with tests is proved twice.
+#![tactic(auto)]
+
+#[cfg(test)]
+mod candidates;
+#[cfg(test)]
+mod pages;
+#[cfg(test)]
+mod phases;
+#[cfg(test)]
+mod reindexes;
+#[cfg(test)]
+mod roots;
+#[cfg(test)]
+mod scripts;
+#[cfg(test)]
+mod shards;
+#[cfg(test)]
+mod slices;
+#[cfg(test)]
+mod writes;
