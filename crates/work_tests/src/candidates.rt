@@ -1,7 +1,7 @@
 //! The rows of a shard that have a value, and the living row of an id.
 
 use crate::phases::write;
-use query_match::{Pick, Scalar, Text};
+use query_match::{Pick, Scalar, Text, is_key};
 use shard_docs::Shard;
 use std::alloc::Global;
 
@@ -18,7 +18,7 @@ fn shard(alloc: Global) -> Shard {
     shard
 }
 
-/// The first two places above one at which a row that is alive at the version has this number at `k`.
+/// The first two places above one at which a row that is alive at the version has this number at `k`, a field without a dot.
 fn with_number(
     shard: &Shard,
     k: &Text,
@@ -26,6 +26,9 @@ fn with_number(
     version: u32,
     after: Option<u32>,
 ) -> [Option<u32>; 2] {
+    if !is_key(k.as_str()) {
+        return [None, None];
+    }
     let value = Scalar::Whole(number);
     let pick = Pick {
         field: k,
