@@ -20,7 +20,7 @@ last_pushed places place =
 pub ends_pushed : (places : List ℕ) (place last : ℕ) → ends_with_place place (places ++ last ∷ []) ≡ eqb last place
 ends_pushed places place last = ap (λ o. option_map_or (λ l. eqb l place) o false) (last_pushed places last)
 
-with_new : (place : ℕ) (places : List ℕ) → ends_with_place place places ≡ false → with_place place places ≡ places ++ place ∷ []
+pub with_new : (place : ℕ) (places : List ℕ) → ends_with_place place places ≡ false → with_place place places ≡ places ++ place ∷ []
 with_new place places apart = ap (λ b. cond b places (places ++ place ∷ [])) apart
 
 with_old : (place : ℕ) (places : List ℕ) → ends_with_place place places ≡ true → with_place place places ≡ places
@@ -91,7 +91,7 @@ module _ (place : ℕ) (old mid new : Index) where
 -- ---- the places of rows
 
 -- a place that is not below all is not the last
-not_last : (test : ℕ → Bool) (n : ℕ) (places : List ℕ) → HasPlaces test n places → (place : ℕ) → n ≤ place → ends_with_place place places ≡ false
+pub not_last : (test : ℕ → Bool) (n : ℕ) (places : List ℕ) → HasPlaces test n places → (place : ℕ) → n ≤ place → ends_with_place place places ≡ false
 not_last test zero places empty place h = ap (ends_with_place place) empty
 not_last test (suc n) places (before, has, top) place h =
     ⊎_elim

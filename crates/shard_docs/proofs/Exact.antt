@@ -1,21 +1,25 @@
 -- An index without a place of a row that has not the value: after one more write, and when candidates are looked for.
-use Rattle.std.proofs.Common.{◌≡◌, ℕ, Bool, true, false, cond, List, [], ◌∷◌, ◌++◌, length, Option, Some, None, refl, sym, ap, subst, ◌∙◌, ⊎_elim, true≢false}
+use Rattle.std.proofs.Common.{◌≡◌, ℕ, ◌≤◌, Bool, true, false, not, ◌||◌, ◌⊎◌, inl, inr, cond, ltb, List, [], ◌∷◌, ◌++◌, length, map, Option, Some, None, refl, sym, ap, subst, ◌∙◌, ⊎_elim, true≢false}
 use Rattle.std.proofs.lemmas.Bool.{cases_Bool, cases_lt}
 use Rattle.std.specs.List.{AllByRecursion, filter, slice_get}
 use Rattle.std.specs.Option.{option_map_or}
 use Rattle.task_ids.specs.declared.doc.Doc.{Doc}
 use Rattle.query_match.specs.declared.scalar.Scalar.{Scalar}
-use Rattle.query_match.specs.Picks.{Picked, has_picked}
 use Rattle.shard_docs.specs.declared.index.Index.{Index}
 use Rattle.shard_docs.specs.Candidates.{is_candidate}
-use Rattle.shard_docs.specs.Places.{places_of, ends_with_place, MayAdd, KeepsUnless, is_at_row, IsExactFor}
-use Rattle.shard_docs.proofs.Indexed.{none_past, same_before, at_new}
-use Rattle.shard_docs.proofs.RowLemmas.{row_is}
+use Rattle.shard_docs.specs.Deaths.{is_alive_before}
+use Rattle.shard_docs.specs.Places.{places_of, ends_with_place, MayAdd, KeepsUnless, has_value_at, may_be_at_row, IsExactFor}
+use Rattle.shard_docs.specs.SeenRows.{SeenRow, SeenRows, new_row, doc_alive}
+use Rattle.shard_docs.specs.Tables.{deaths}
+use Rattle.shard_docs.proofs.Indexed.{with_row, none_past, same_before, at_new}
+use Rattle.shard_docs.proofs.KeptLemmas.{still_dead}
+use Rattle.shard_docs.proofs.RowLemmas.{row_seen}
+use Rattle.shard_docs.proofs.TableLemmas.{docs_of}
 
 -- ---- lists of places
 
 module _ (has more : ℕ → Bool) (still : (p : ℕ) → has p ≡ true → more p ≡ true) where
-  all_still : (places : List ℕ) → AllByRecursion (λ p. has p ≡ true) places → AllByRecursion (λ p. more p ≡ true) places
+  pub all_still : (places : List ℕ) → AllByRecursion (λ p. has p ≡ true) places → AllByRecursion (λ p. more p ≡ true) places
   all_still [] all = tt
   all_still (p ∷ places) (here, all) = (still p here, all_still places all)
 
@@ -23,7 +27,7 @@ module _ (has more : ℕ → Bool) (still : (p : ℕ) → has p ≡ true → mor
   all_push [] place all last = (last, tt)
   all_push (p ∷ places) place (here, all) last = (still p here, all_push places place all last)
 
-  all_with : (same : Bool) (places : List ℕ) (place : ℕ) → AllByRecursion (λ p. has p ≡ true) places → more place ≡ true
+  pub all_with : (same : Bool) (places : List ℕ) (place : ℕ) → AllByRecursion (λ p. has p ≡ true) places → more place ≡ true
       → AllByRecursion (λ p. more p ≡ true) (cond same places (places ++ place ∷ []))
   all_with true places place all last = all_still places all
   all_with false places place all last = all_push places place all last
@@ -44,51 +48,69 @@ all_filtered has above (p ∷ places) (here, all) = either (above p) (all_filter
 
 -- ---- one more write
 
-still_at_row : (f : List ℕ) (v : Scalar) (writes : List Doc) (doc : Doc) (place : ℕ) → is_at_row f v writes place ≡ true → is_at_row f v (writes ++ doc ∷ []) place ≡ true
-still_at_row f v writes doc place here =
-    ⊎_elim
-    (λ below. sym (same_before f v writes doc place below) ∙ here)
-    (λ past. absurd (true≢false (sym here ∙ none_past f v writes place past)))
-    (cases_lt place (length writes))
+abbrev pub May : List ℕ → Scalar → ℕ → SeenRow → Bool
+May f v oldest row = not (is_alive_before oldest row.died) || has_value_at f v row.doc
 
-pub still_exact : (writes : List Doc) (doc : Doc) (place : ℕ) (old new : Index) → place ≡ length writes → IsExactFor writes old → MayAdd place old new
-    → KeepsUnless (λ f v. has_picked (Some (record { field = f; value = v })) doc.source) old new → IsExactFor (writes ++ doc ∷ []) new
-still_exact writes doc place old new at exact may kept f v =
-    let has = is_at_row f v writes in
-    let more = is_at_row f v (writes ++ doc ∷ []) in
-    let still = still_at_row f v writes doc in
+still_at_row : (f : List ℕ) (v : Scalar) (s : SeenRows) (doc : Doc) (room place : ℕ) → may_be_at_row f v s place ≡ true → may_be_at_row f v (with_row s doc room) place ≡ true
+still_at_row f v s doc room place here =
+    ⊎_elim
+    (λ below. sym (same_before (May f v s.oldest) s.rows (new_row doc) place below) ∙ here)
+    (λ past. absurd (true≢false (sym here ∙ none_past (May f v s.oldest) s.rows place past)))
+    (cases_lt place (length s.rows))
+
+pub still_exact : (s : SeenRows) (doc : Doc) (room place : ℕ) (old new : Index) → place ≡ length s.rows → IsExactFor s old → MayAdd place old new
+    → KeepsUnless (λ f v. has_value_at f v doc) old new → IsExactFor (with_row s doc room) new
+still_exact s doc room place old new at exact may kept f v =
+    let has = may_be_at_row f v s in
+    let more = may_be_at_row f v (with_row s doc room) in
+    let still = still_at_row f v s doc room in
     let stay = all_still has more still (places_of old f v) (exact f v) in
     ⊎_elim
-    (λ yes.
-    let last : more place ≡ true = ap more at ∙ at_new f v writes doc ∙ yes in
+    (λ here.
+    let last : more place ≡ true = ap more at ∙ at_new (May f v s.oldest) s.rows (new_row doc) ∙ or_true here in
     ⊎_elim
     (λ same. subst (AllByRecursion (λ p. more p ≡ true)) (sym same) stay)
     (λ added. subst (AllByRecursion (λ p. more p ≡ true)) (sym added) (all_with has more still (ends_with_place place (places_of old f v)) (places_of old f v) place (exact f v) last))
     (may f v))
-    (λ no. subst (AllByRecursion (λ p. more p ≡ true)) (sym (kept f v no)) stay)
-    (cases_Bool (has_picked (Some (record { field = f; value = v })) doc.source))
+    (λ none. subst (AllByRecursion (λ p. more p ≡ true)) (sym (kept f v none)) stay)
+    (cases_Bool (has_value_at f v doc))
+  where
+    or_true : {b : Bool} → b ≡ true → not true || b ≡ true
+    or_true e = e
+
+pub exact_still : (s t : SeenRows) (index : Index) → ((f : List ℕ) (v : Scalar) (i : ℕ) → may_be_at_row f v s i ≡ true → may_be_at_row f v t i ≡ true) → IsExactFor s index → IsExactFor t index
+exact_still s t index still exact f v = all_still (may_be_at_row f v s) (may_be_at_row f v t) (still f v) (places_of index f v) (exact f v)
 
 -- ---- candidates
 
-module _ (f : List ℕ) (v : Scalar) (version : ℕ) (writes : List Doc) where
-  abbrev pick : Option Picked
-  pick = Some (record { field = f; value = v })
+-- of a row that has the value, or is forgotten, it is asked only whether it is alive
+only_alive : (f : List ℕ) (v : Scalar) (version : ℕ) (s : SeenRows) → map (λ row. row.died) s.rows ≡ deaths 0 (docs_of s.rows) → s.oldest ≤ version → (place : ℕ) → may_be_at_row f v s place ≡ true
+    → is_candidate None version (docs_of s.rows) place ≡ is_candidate (Some (record { field = f; value = v })) version (docs_of s.rows) place
+only_alive f v version s dies readable place here =
+    ap (λ o. option_map_or (λ doc. true) o false) (row_seen s.rows dies version place)
+    ∙ by (slice_get s.rows place) here
+    ∙ sym (ap (λ o. option_map_or (has_value_at f v) o false) (row_seen s.rows dies version place))
+  where
+    alike : (below alive has : Bool) (doc : Doc) → has_value_at f v doc ≡ has → ((alive ≡ false) ⊎ (has ≡ true))
+        → option_map_or (λ doc. true) (cond below (cond alive (Some doc) None) None) false ≡ option_map_or (has_value_at f v) (cond below (cond alive (Some doc) None) None) false
+    alike false alive has doc is either = refl
+    alike true false has doc is either = refl
+    alike true true has doc is (inl dead) = cc
+    alike true true has doc is (inr some) = sym (is ∙ some)
 
-  -- of a row that has the value it is asked only whether it is alive
-  alive_or_not : (alive : Bool) (o : Option Doc) → option_map_or (λ doc. has_picked pick doc.source) o false ≡ true
-      → option_map_or (λ doc. true) (cond alive o None) false ≡ option_map_or (λ doc. has_picked pick doc.source) (cond alive o None) false
-  alive_or_not true None here = absurd cc
-  alive_or_not true (Some doc) here = sym here
-  alive_or_not false o here = refl
+    by : (o : Option SeenRow) → option_map_or (May f v s.oldest) o false ≡ true
+        → option_map_or (λ doc. true) (cond (ltb place version) (doc_alive version o) None) false ≡ option_map_or (has_value_at f v) (cond (ltb place version) (doc_alive version o) None) false
+    by None may = cc
+    by (Some row) may =
+        alike (ltb place version) (is_alive_before version row.died) (has_value_at f v row.doc) row.doc refl
+        (⊎_elim
+        (λ kept. inr (sym (ap (λ b. not b || has_value_at f v row.doc) kept) ∙ may))
+        (λ gone. inl (still_dead s.oldest version row.died readable gone))
+        (cases_Bool (is_alive_before s.oldest row.died)))
 
-  only_alive : (place : ℕ) → is_at_row f v writes place ≡ true → is_candidate None version writes place ≡ is_candidate pick version writes place
-  only_alive place here =
-      ap (λ o. option_map_or (λ doc. true) o false) (row_is version place writes)
-      ∙ alive_or_not _ (slice_get writes place) here
-      ∙ sym (ap (λ o. option_map_or (λ doc. has_picked pick doc.source) o false) (row_is version place writes))
-
-  pub exact_candidates : (above : ℕ → Bool) (places : List ℕ) → AllByRecursion (λ place. is_at_row f v writes place ≡ true) places
-      → filter (is_candidate None version writes) (filter above places) ≡ filter (is_candidate pick version writes) (filter above places)
-  exact_candidates above places all =
-      chosen_alike (is_at_row f v writes) (is_candidate None version writes) (is_candidate pick version writes) (filter above places)
-      (all_filtered (is_at_row f v writes) above places all) only_alive
+pub exact_candidates : (f : List ℕ) (v : Scalar) (version : ℕ) (s : SeenRows) → map (λ row. row.died) s.rows ≡ deaths 0 (docs_of s.rows) → s.oldest ≤ version → (above : ℕ → Bool) (places : List ℕ)
+    → AllByRecursion (λ place. may_be_at_row f v s place ≡ true) places
+    → filter (is_candidate None version (docs_of s.rows)) (filter above places) ≡ filter (is_candidate (Some (record { field = f; value = v })) version (docs_of s.rows)) (filter above places)
+exact_candidates f v version s dies readable above places all =
+    chosen_alike (may_be_at_row f v s) (is_candidate None version (docs_of s.rows)) (is_candidate (Some (record { field = f; value = v })) version (docs_of s.rows)) (filter above places)
+    (all_filtered (may_be_at_row f v s) above places all) (only_alive f v version s dies readable)

@@ -1,7 +1,7 @@
 -- The row of an id that is alive is that of its last place.
-use Rattle.std.proofs.Common.{◌≡◌, ℕ, ◌+◌, ◌<◌, zero, suc, Bool, true, false, cond, List, [], ◌∷◌, length, get_or, Option, Some, None, option_map, is_some, string_bytes, IsUtf8, refl, sym, ap, subst, ◌∙◌, arith, ⊎_elim, true≢false}
+use Rattle.std.proofs.Common.{◌≡◌, ℕ, ◌+◌, zero, suc, Bool, true, false, cond, List, [], ◌∷◌, Option, Some, None, option_map, is_some, string_bytes, IsUtf8, refl, sym, ap, subst, ◌∙◌, arith, ⊎_elim, true≢false}
 use Rattle.std.proofs.lemmas.Map.Entries.{place_from_lookup}
-use Rattle.std.proofs.lemmas.Option.{slice_get-map, slice_get_read}
+use Rattle.std.proofs.lemmas.Option.{slice_get-map}
 use Rattle.std.proofs.lemmas.Slice.Eq.{bytes_eq-Decides}
 use Rattle.std.proofs.lemmas.Str.{IsUtf8-string_bytes}
 use Rattle.std.specs.HashMap.{get_by_text}
@@ -9,7 +9,7 @@ use Rattle.std.specs.List.{find, slice_get}
 use Rattle.std.specs.Str.{bytes_eq}
 use Rattle.task_ids.specs.declared.doc.Doc.{Doc}
 use Rattle.task_ids.specs.Rows.{Row, has_id, living_rows}
-use Rattle.shard_docs.specs.declared.shard.StoredRow.{StoredRow}
+use Rattle.shard_docs.specs.SeenRows.{SeenRow}
 use Rattle.shard_docs.specs.Candidates.{living_row}
 use Rattle.shard_docs.specs.Tables.{further, last_place, IsTables}
 use Rattle.shard_docs.proofs.Ids.{same_or_other}
@@ -79,15 +79,15 @@ module _ (id : List ℕ) where
   some_living first place (doc ∷ later) found h there =
       at_last (last_place id later) (bytes_eq id doc.id) first place doc found later refl refl h there (λ p last here. some_living (suc first) p later found last here)
 
-  pub not_living : (rows : List StoredRow) (living : Living) → IsTables rows living → get_by_text living id ≡ None → living_row id (docs_of rows) ≡ None
+  pub not_living : (rows : List SeenRow) (living : Living) → IsTables rows living → get_by_text living id ≡ None → living_row id (docs_of rows) ≡ None
   not_living rows living tables none = none_living 0 (docs_of rows) (sym (tables.places id) ∙ none)
 
-  pub is_living : (rows : List StoredRow) (living : Living) (place : ℕ) (row : StoredRow) → IsTables rows living → get_by_text living id ≡ Some place → place < length rows → row ≡ get_or rows place row
-      → living_row id (docs_of rows) ≡ Some (place, row.doc)
-  is_living rows living place row tables at within is =
-      let there : slice_get (docs_of rows) place ≡ Some row.doc = slice_get-map (λ r. r.doc) rows place ∙ ap (option_map (λ r. r.doc)) (slice_get_read rows (length rows) place row refl within is) in
+  pub is_living : (rows : List SeenRow) (living : Living) (place : ℕ) (doc : Doc) → IsTables rows living → get_by_text living id ≡ Some place → Some doc ≡ option_map (λ (row : SeenRow). row.doc) (slice_get rows place)
+      → living_row id (docs_of rows) ≡ Some (place, doc)
+  is_living rows living place doc tables at is =
+      let there : slice_get (docs_of rows) place ≡ Some doc = slice_get-map (λ r. r.doc) rows place ∙ sym is in
       let none : 0 + place ≡ place = omega arith in
-      some_living 0 place (docs_of rows) row.doc (sym (tables.places id) ∙ at) there ∙ ap (λ n. Some (n, row.doc)) none
+      some_living 0 place (docs_of rows) doc (sym (tables.places id) ∙ at) there ∙ ap (λ n. Some (n, doc)) none
 
   -- only texts are ids
   pub no_text : (living : Living) (found : Option ℕ) → get_by_text living id ≡ found → (IsUtf8 id → ⊥) → get_by_text living id ≡ None

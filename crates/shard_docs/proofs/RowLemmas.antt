@@ -1,20 +1,18 @@
 -- The row of a place at a version, from the version at which it died.
-use Rattle.std.proofs.Common.{◌≡◌, ℕ, zero, suc, ◌+◌, ◌<◌, ◌≤◌, Bool, true, false, not, ◌&&◌, cond, eqb, ltb, List, [], ◌∷◌, length, map, take, get_or, Option, Some, None, option_map, refl, sym, ap, ◌∙◌, arith, ⊎_elim}
+use Rattle.std.proofs.Common.{◌≡◌, ℕ, zero, suc, ◌+◌, ◌<◌, ◌≤◌, Bool, true, false, not, ◌&&◌, cond, eqb, ltb, List, [], ◌∷◌, map, take, get_or, Option, Some, None, option_map, refl, sym, ap, ◌∙◌, arith, ⊎_elim}
 use Rattle.std.proofs.lemmas.Bool.{cases_Bool, cases_lt, ne_eqb, eq-eqb, lt-ltb, le-ltb}
-use Rattle.std.proofs.Math.Bool.{and-false}
-use Rattle.std.proofs.lemmas.List.{length-map}
-use Rattle.std.proofs.lemmas.Option.{slice_get_past, slice_get_read, get_or_from_slice_get, slice_get-map}
+use Rattle.std.proofs.lemmas.Option.{get_or_from_slice_get, slice_get-map}
 use Rattle.std.specs.List.{slice_get}
 use Rattle.std.specs.Map.{lookup}
 use Rattle.std.specs.Str.{bytes_eq}
 use Rattle.task_ids.specs.declared.doc.Doc.{Doc}
 use Rattle.task_ids.specs.Rows.{Row, has_id, living_rows, row_at}
-use Rattle.shard_docs.specs.declared.shard.StoredRow.{StoredRow}
+use Rattle.shard_docs.specs.SeenRows.{SeenRow, doc_alive}
 use Rattle.shard_docs.specs.Deaths.{is_alive_before}
 use Rattle.shard_docs.specs.Tables.{died_at, deaths}
 
 -- nothing dies before the first of the later writes
-alive_first : (id : List ℕ) (place version : ℕ) (later : List Doc) → version ≤ place → is_alive_before version (died_at id place later) ≡ true
+pub alive_first : (id : List ℕ) (place version : ℕ) (later : List Doc) → version ≤ place → is_alive_before version (died_at id place later) ≡ true
 alive_first id place version [] h = refl
 alive_first id place version (doc ∷ later) h =
     ⊎_elim
@@ -23,7 +21,7 @@ alive_first id place version (doc ∷ later) h =
     (cases_Bool (bytes_eq id doc.id))
 
 -- a later one of the first writes has the id exactly where the row is no more alive
-has_id-take : (id : List ℕ) (place more version : ℕ) (later : List Doc) → version ≡ place + more → has_id id (take more later) ≡ not (is_alive_before version (died_at id place later))
+pub has_id-take : (id : List ℕ) (place more version : ℕ) (later : List Doc) → version ≡ place + more → has_id id (take more later) ≡ not (is_alive_before version (died_at id place later))
 has_id-take id place zero version later e = sym (ap not (alive_first id place version later (omega arith)))
 has_id-take id place (suc more) version [] e = refl
 has_id-take id place (suc more) version (doc ∷ later) e =
@@ -94,31 +92,22 @@ row_found place first (suc more) version (suc i) (doc ∷ later) e v =
 pub row_is : (version place : ℕ) (writes : List Doc) → row_at version place writes ≡ cond (ltb place version && is_alive_before version (get_or (deaths 0 writes) place None)) (slice_get writes place) None
 row_is version place writes = row_found place 0 version version place writes (omega arith) (omega arith)
 
-module _ (rows : List StoredRow) (version place : ℕ) (died : map (λ row. row.died) rows ≡ deaths 0 (map (λ row. row.doc) rows)) where
-  -- there is no row past the last
-  pub row_past : length rows ≤ place → None ≡ row_at version place (map (λ row. row.doc) rows)
-  row_past past =
-      sym
-      (row_is version place (map (λ row. row.doc) rows)
-      ∙ ap (λ found. cond (ltb place version && is_alive_before version (get_or (deaths 0 (map (λ row. row.doc) rows)) place None)) found None)
-      (slice_get_past (map (λ row. row.doc) rows) place (omega (arith, length-map rows (λ row. row.doc))))
-      ∙ none_either (ltb place version && is_alive_before version (get_or (deaths 0 (map (λ row. row.doc) rows)) place None)))
+module _ (rows : List SeenRow) (died : map (λ row. row.died) rows ≡ deaths 0 (map (λ row. row.doc) rows)) (version place : ℕ) where
+  -- it is that of the seen row of the place, where that is alive
+  pub row_seen : row_at version place (map (λ row. row.doc) rows) ≡ cond (ltb place version) (doc_alive version (slice_get rows place)) None
+  row_seen =
+      row_is version place (map (λ row. row.doc) rows)
+      ∙ ap (λ ds. cond (ltb place version && is_alive_before version (get_or ds place None)) (slice_get (map (λ row. row.doc) rows) place) None) (sym died)
+      ∙ ap (λ o. cond (ltb place version && is_alive_before version (get_or (map (λ row. row.died) rows) place None)) o None) (slice_get-map (λ row. row.doc) rows place)
+      ∙ by (slice_get rows place) refl
+    where
+      both : (b a : Bool) (doc : Doc) → cond (b && a) (Some doc) None ≡ cond b (cond a (Some doc) None) None
+      both true a doc = refl
+      both false a doc = refl
 
-  module _ (row : StoredRow) (within : place < length rows) (here : row ≡ get_or rows place row) where
-    row_of : row_at version place (map (λ r. r.doc) rows) ≡ cond (ltb place version && is_alive_before version row.died) (Some row.doc) None
-    row_of =
-        let found : slice_get rows place ≡ Some row = slice_get_read rows (length rows) place row refl within here in
-        let its_death : get_or (map (λ r. r.died) rows) place None ≡ row.died =
-        get_or_from_slice_get (map (λ r. r.died) rows) place row.died None (slice_get-map (λ r. r.died) rows place ∙ ap (option_map (λ r. r.died)) found) in
-        row_is version place (map (λ r. r.doc) rows)
-        ∙ ap (λ d. cond (ltb place version && is_alive_before version d) (slice_get (map (λ r. r.doc) rows) place) None) (ap (λ ds. get_or ds place None) (sym died) ∙ its_death)
-        ∙ ap (λ doc. cond (ltb place version && is_alive_before version row.died) doc None) (slice_get-map (λ r. r.doc) rows place ∙ ap (option_map (λ r. r.doc)) found)
-
-    pub row_alive : place < version → is_alive_before version row.died ≡ true → Some row.doc ≡ row_at version place (map (λ r. r.doc) rows)
-    row_alive below alive = sym (row_of ∙ ap (λ b. cond (b && is_alive_before version row.died) (Some row.doc) None) (lt-ltb place version below) ∙ ap (λ b. cond b (Some row.doc) None) alive)
-
-    pub row_dead : is_alive_before version row.died ≡ false → None ≡ row_at version place (map (λ r. r.doc) rows)
-    row_dead dead = sym (row_of ∙ ap (λ b. cond (ltb place version && b) (Some row.doc) None) dead ∙ ap (λ b. cond b (Some row.doc) None) (and-false (ltb place version)))
-
-    pub row_to_come : version ≤ place → None ≡ row_at version place (map (λ r. r.doc) rows)
-    row_to_come above = sym (row_of ∙ ap (λ b. cond (b && is_alive_before version row.died) (Some row.doc) None) (le-ltb place version above))
+      by : (o : Option SeenRow) → slice_get rows place ≡ o → cond (ltb place version && is_alive_before version (get_or (map (λ row. row.died) rows) place None)) (option_map (λ row. row.doc) o) None ≡ cond (ltb place version) (doc_alive version o) None
+      by None e = none_either (ltb place version && is_alive_before version (get_or (map (λ row. row.died) rows) place None)) ∙ sym (none_either (ltb place version))
+      by (Some row) e =
+          let its_death : get_or (map (λ r. r.died) rows) place None ≡ row.died =
+          get_or_from_slice_get (map (λ r. r.died) rows) place row.died None (slice_get-map (λ r. r.died) rows place ∙ ap (option_map (λ r. r.died)) e) in
+          ap (λ d. cond (ltb place version && is_alive_before version d) (Some row.doc) None) its_death ∙ both (ltb place version) (is_alive_before version row.died) row.doc

@@ -1,11 +1,13 @@
 -- The tables of a shard after one more write.
-use Rattle.std.proofs.Common.{◌≡◌, ℕ, suc, ◌+◌, ◌<◌, ◌^◌, Bool, true, false, ◌||◌, cond, List, [], ◌∷◌, ◌++◌, length, map, set, get_or, Option, Some, None, is_some, String, string_bytes, refl, sym, ap, ◌∙◌, arith, ⊎_elim, length-append, length-set}
+use Rattle.std.proofs.Common.{◌≡◌, ℕ, suc, ◌+◌, ◌<◌, ◌^◌, Bool, true, false, ◌||◌, cond, List, [], ◌∷◌, ◌++◌, length, map, set, get_or, Option, Some, None, option_map, is_some, String, string_bytes, refl, sym, ap, ◌∙◌, arith, ⊎_elim, length-append, length-set}
 use Rattle.std.proofs.lemmas.Bool.{cases_Bool}
 use Rattle.std.proofs.lemmas.List.{map_push, map-set, set-append_left, length-map}
 use Rattle.std.proofs.Math.Seq.{map-set_same}
 use Rattle.std.proofs.lemmas.Map.Text.{hash_map_updates_text}
 use Rattle.std.specs.HashMap.{HashMap, get, get_by_text, Updates}
-use Rattle.std.specs.List.{list_any}
+use Rattle.std.proofs.lemmas.Option.{slice_get-map}
+use Rattle.std.proofs.lemmas.Slice.Eq.{bytes_eq-Decides}
+use Rattle.std.specs.List.{list_any, slice_get}
 use Rattle.std.specs.Map.{lookup}
 use Rattle.std.specs.Str.{bytes_eq}
 use Rattle.std.specs.String.{string_eq}
@@ -14,11 +16,11 @@ use Rattle.std.specs.declared.hash.FoldHasher.{FoldHasher}
 use Rattle.std.specs.declared.hash.BuildHasherDefault.{BuildHasherDefault}
 use Rattle.task_ids.specs.declared.doc.Doc.{Doc}
 use Rattle.task_ids.specs.Rows.{has_id, living_rows, is_alive}
-use Rattle.shard_docs.specs.declared.shard.StoredRow.{StoredRow}
+use Rattle.shard_docs.specs.SeenRows.{SeenRow}
 use Rattle.shard_docs.specs.Tables.{died_at, deaths, further, last_place, IsTables}
 use Rattle.shard_docs.proofs.Ids.{same_or_other}
 
-abbrev pub docs_of : List StoredRow → List Doc
+abbrev pub docs_of : List SeenRow → List Doc
 docs_of rows = map (λ row. row.doc) rows
 
 -- an id has a last place exactly where it was written
@@ -29,7 +31,7 @@ some_further (Some p) None = refl
 some_further (Some p) (Some q) = refl
 
 -- the place of a write among those from it on, if it is of the id
-abbrev here_if : Bool → Option ℕ
+abbrev pub here_if : Bool → Option ℕ
 here_if same = cond same (Some 0) None
 
 some_here : (same : Bool) → is_some (here_if same) ≡ same
@@ -43,7 +45,7 @@ some_place id (doc ∷ later) =
     ∙ ap (λ b. b || has_id id later) (some_here (bytes_eq id doc.id))
 
 -- and it dies by later writes exactly where it is among them
-some_death : (id : List ℕ) (place : ℕ) (later : List Doc) → is_some (died_at id place later) ≡ has_id id later
+pub some_death : (id : List ℕ) (place : ℕ) (later : List Doc) → is_some (died_at id place later) ≡ has_id id later
 some_death id place [] = refl
 some_death id place (doc ∷ later) = first_or_later (bytes_eq id doc.id) (died_at id (suc place) later) ∙ ap (λ b. bytes_eq id doc.id || b) (some_death id (suc place) later)
   where
@@ -159,11 +161,21 @@ deaths-more place next (first ∷ later) doc e =
         (λ other. rw (other.0, other.1) (first_dies (died_at first.id (suc place) later) (last_place doc.id later) false (suc next) (λ no. cc)))
         (same_or_other first.id doc.id)
 
+none_dies : (died : Option ℕ) → is_some died ≡ false → died ≡ None
+none_dies None e = refl
+none_dies (Some d) e = cc
+
+some_same : (a b : ℕ) → Some a ≡ Some b → a ≡ b
+some_same a b e = cc
+
+none_some : (b : ℕ) → None ≡ Some b → ⊥
+none_some b e = cc
+
 abbrev pub Living : Type 0
 Living = HashMap (String Global) ℕ (BuildHasherDefault FoldHasher)
 
 -- a table with the same entries
-pub same_tables : (rows : List StoredRow) (living same : Living) → same.entries ≡ living.entries → IsTables rows living → IsTables rows same
+pub same_tables : (rows : List SeenRow) (living same : Living) → same.entries ≡ living.entries → IsTables rows living → IsTables rows same
 same_tables rows living same e tables = record {
   few = tables.few;
   died = tables.died;
@@ -171,22 +183,55 @@ same_tables rows living same e tables = record {
 }
 
 -- what the table had for the id
-pub found_place : (rows : List StoredRow) (living : Living) (doc : Doc) (key : String Global) (old found : Option ℕ) → IsTables rows living → string_bytes key ≡ doc.id
+pub found_place : (rows : List SeenRow) (living : Living) (doc : Doc) (key : String Global) (old found : Option ℕ) → IsTables rows living → string_bytes key ≡ doc.id
     → old ≡ get string_eq living key → old ≡ found → last_place doc.id (docs_of rows) ≡ found
 found_place rows living doc key old found tables named is_old is_found =
     sym (ap (λ id. last_place id (docs_of rows)) named) ∙ sym (tables.places (string_bytes key)) ∙ sym is_old ∙ is_found
 
+-- the last row of an id is alive
+last_alive : (id : List ℕ) (first place : ℕ) (writes : List Doc) → last_place id writes ≡ Some place → slice_get (deaths first writes) place ≡ Some None
+last_alive id first place [] e = cc
+last_alive id first place (doc ∷ later) e = by (last_place id later) refl place refl (λ p is. last_alive id (suc first) p later is)
+  where
+    never : last_place id later ≡ None → bytes_eq id doc.id ≡ true → died_at doc.id (suc first) later ≡ None
+    never none same =
+        let one : id ≡ doc.id = (bytes_eq-Decides id doc.id).0 same in
+        none_dies (died_at doc.id (suc first) later) (some_death doc.id (suc first) later ∙ ap (λ i. has_id i later) (sym one) ∙ sym (some_place id later) ∙ ap is_some none)
+
+    by : (last : Option ℕ) → last_place id later ≡ last → (p : ℕ) → place ≡ p → ((q : ℕ) → last_place id later ≡ Some q → slice_get (deaths (suc first) later) q ≡ Some None) → slice_get (deaths first (doc ∷ later)) place ≡ Some None
+    by (Some q) is p at rest =
+        let here : suc q ≡ place = some_same (suc q) place (sym (ap (λ l. further l (here_if (bytes_eq id doc.id))) is) ∙ e) in
+        ap (slice_get (deaths first (doc ∷ later))) (sym here) ∙ rest q is
+    by None is p at rest =
+        ⊎_elim
+        (λ same.
+        let here : 0 ≡ place = some_same 0 place (sym (ap (λ l. further l (here_if (bytes_eq id doc.id))) is ∙ ap (λ b. further None (here_if b)) same) ∙ e) in
+        ap (slice_get (deaths first (doc ∷ later))) (sym here) ∙ ap Some (never is same))
+        (λ other. absurd (none_some place (sym (ap (λ l. further l (here_if (bytes_eq id doc.id))) is ∙ ap (λ b. further None (here_if b)) other) ∙ e)))
+        (cases_Bool (bytes_eq id doc.id))
+
+-- the row that the table has for an id is alive
+pub living_row_is : (rows : List SeenRow) (living : Living) (id : List ℕ) (place : ℕ) → IsTables rows living → last_place id (docs_of rows) ≡ Some place → (row : SeenRow) × (slice_get rows place ≡ Some row) × (row.died ≡ None)
+living_row_is rows living id place tables last = by (slice_get rows place) refl
+  where
+    died : slice_get (map (λ row. row.died) rows) place ≡ Some None
+    died = ap (λ ds. slice_get ds place) tables.died ∙ last_alive id 0 place (docs_of rows) last
+
+    by : (o : Option SeenRow) → slice_get rows place ≡ o → (row : SeenRow) × (slice_get rows place ≡ Some row) × (row.died ≡ None)
+    by None e = let none : None ≡ Some None = sym (slice_get-map (λ (row : SeenRow). row.died) rows place ∙ ap (option_map (λ (row : SeenRow). row.died)) e) ∙ died in cc
+    by (Some row) e = let some : Some row.died ≡ Some None = sym (slice_get-map (λ (row : SeenRow). row.died) rows place ∙ ap (option_map (λ (row : SeenRow). row.died)) e) ∙ died in (row, e, cc)
+
 -- the documents of the rows after a row was added
-pub docs_more : (rows : List StoredRow) (doc : Doc) → docs_of (rows ++ record { doc = doc; died = None } ∷ []) ≡ docs_of rows ++ doc ∷ []
+pub docs_more : (rows : List SeenRow) (doc : Doc) → docs_of (rows ++ record { doc = doc; died = None } ∷ []) ≡ docs_of rows ++ doc ∷ []
 docs_more rows doc = map_push (λ row. row.doc) rows (record { doc = doc; died = None })
 
 -- and another died
-pub docs_same : (rows : List StoredRow) (doc : Doc) (place version : ℕ) (row : StoredRow) → row ≡ get_or (rows ++ record { doc = doc; died = None } ∷ []) place row
+pub docs_same : (rows : List SeenRow) (doc : Doc) (place version : ℕ) (row : SeenRow) → row ≡ get_or (rows ++ record { doc = doc; died = None } ∷ []) place row
     → docs_of (set (rows ++ record { doc = doc; died = None } ∷ []) place (record { doc = row.doc; died = Some version })) ≡ docs_of rows ++ doc ∷ []
 docs_same rows doc place version row is_row =
     map-set_same (λ r. r.doc) (rows ++ record { doc = doc; died = None } ∷ []) place (record { doc = row.doc; died = Some version }) row (ap (λ r. r.doc) is_row) ∙ docs_more rows doc
 
-module _ (rows : List StoredRow) (living more : Living) (doc : Doc) (key : String Global) (tables : IsTables rows living) (named : string_bytes key ≡ doc.id)
+module _ (rows : List SeenRow) (living more : Living) (doc : Doc) (key : String Global) (tables : IsTables rows living) (named : string_bytes key ≡ doc.id)
     (updates : Updates string_eq living more key (Some (length rows))) where
   -- the table after the write has the place of the last write of each id
   places_more : (id : List ℕ) → get_by_text more id ≡ last_place id (docs_of rows ++ doc ∷ [])
@@ -213,7 +258,7 @@ module _ (rows : List StoredRow) (living more : Living) (doc : Doc) (key : Strin
   }
 
   -- a write of an id that is alive in a row
-  module _ (place version : ℕ) (row : StoredRow) (found : last_place doc.id (docs_of rows) ≡ Some place) (newest : version ≡ suc (length rows))
+  module _ (place version : ℕ) (row : SeenRow) (found : last_place doc.id (docs_of rows) ≡ Some place) (newest : version ≡ suc (length rows))
       (is_row : row ≡ get_or (rows ++ record { doc = doc; died = None } ∷ []) place row) where
     deaths_same : map (λ r. r.died) (set (rows ++ record { doc = doc; died = None } ∷ []) place (record { doc = row.doc; died = Some version })) ≡ set (map (λ r. r.died) rows) place (Some version) ++ None ∷ []
     deaths_same =

@@ -6,7 +6,10 @@ pub mod Deaths
 pub mod Ends
 pub mod Fault
 pub mod Json
+pub mod KeptRows
 pub mod Places
 pub mod Seen
+pub mod SeenRows
+pub mod Shown
 pub mod Tables
 pub mod Written

@@ -6,7 +6,7 @@ use Rattle.std.specs.declared.alloc.Global.{Global}
 use Rattle.std.specs.declared.hash.FoldHasher.{FoldHasher}
 use Rattle.std.specs.declared.hash.BuildHasherDefault.{BuildHasherDefault}
 use Rattle.task_ids.specs.declared.doc.Doc.{Doc}
-use Rattle.shard_docs.specs.declared.shard.StoredRow.{StoredRow}
+use Rattle.shard_docs.specs.SeenRows.{SeenRow}
 
 -- the version at which the row of an id dies by the writes that come after it, of which the first has this place
 abbrev pub died_at : List ℕ → ℕ → List Doc → Option ℕ
@@ -29,7 +29,7 @@ last_place id [] = None
 last_place id (doc ∷ later) = further (last_place id later) (if bytes_eq id doc.id then Some 0 else None)
 
 -- the rows keep at which version they died, and the table has the place of the last write of each id
-pub record IsTables (rows : List StoredRow) (living : HashMap (String Global) ℕ (BuildHasherDefault FoldHasher)) : Type 0 where
+pub record IsTables (rows : List SeenRow) (living : HashMap (String Global) ℕ (BuildHasherDefault FoldHasher)) : Type 0 where
   pub few : length rows < 2 ^ 32
   pub died : map (λ row. row.died) rows ≡ deaths 0 (map (λ row. row.doc) rows)
   pub places : (id : List ℕ) → get_by_text living id ≡ last_place id (map (λ row. row.doc) rows)

@@ -15,8 +15,8 @@ use std::alloc::{AllocError, Global};
 use std::collections::{BTreeMap, HashMap};
 
 /// The places of the rows that have a value at a field, by field and value: ascending, each once. A field is a key
-/// without a dot, and of a list each value counts, at any depth. Places may be left of a row for which memory ran out, so
-/// the rows are to be looked at.
+/// without a dot, and of a list each value counts, at any depth. Places may be left of a row for which memory ran out, and
+/// of rows that are forgotten.
 #[derive(Drop)]
 pub(crate) struct Index {
     alloc: Global,

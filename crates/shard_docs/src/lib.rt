@@ -8,6 +8,7 @@ mod index;
 mod json_line;
 mod lines;
 mod placing;
+mod rows;
 mod seen;
 mod shard;
 

@@ -4,13 +4,15 @@ ghost use Rattle.query_match.specs.Picks.{picked};
 ghost use Rattle.query_match.specs.Values.{is_key};
 ghost use Rattle.shard_docs.specs.Candidates.{next_places, living_row, is_candidate, is_above};
 ghost use Rattle.shard_docs.specs.Written.{outcome_of};
-ghost use Rattle.shard_docs.specs.Deaths.{is_alive_before};
+ghost use Rattle.shard_docs.specs.Places.{IsIndexOf, IsExactFor};
+ghost use Rattle.shard_docs.specs.Shown.{ShowsFrom};
 
 use crate::index::{Index, places_above};
+use crate::rows::Rows;
 use doc_match::has_picked;
 use query_match::Pick;
 use std::alloc::{AllocError, Global};
-use std::collections::HashMap;
+use std::collections::{HashMap, VecDeque};
 use std::marker::Model;
 use task_ids::Doc;
 
@@ -26,40 +28,29 @@ pub enum Written {
     Updated,
 }
 
-/// A document that was written, and the version at which another took its place.
-#[derive(Drop)]
-struct StoredRow {
-    doc: Doc,
-    died: Option<u32>,
-}
-
-impl StoredRow {
-    fn is_alive_at(&self, version: u32) -> bool
-        ensures { result ≡ is_alive_before version self.now.died }
-    {
-        match self.died {
-            Some(died) => version < died,
-            None => true,
-        }
-    }
-}
-
 /// A shard of an index: the documents that were written to it, in order, of which a newer one takes the place of an
 /// older one of its id. Contracts see the list of all writes. It can be read as of any version, which is a number of
 /// first writes.
+///
+/// Rows that died before a version can be forgotten: `purge`. A write that is forgotten is seen as one of the next
+/// document, which takes its place at once, so what is alive from that version on is as before.
 #[derive(Drop)]
 pub struct Shard {
-    rows: Vec<StoredRow>,
+    rows: Rows,
     /// The place of the living row of each id.
     living: HashMap<String, u32>,
-    /// The places of the rows, dead ones too, by the values of their fields.
+    /// The places of the rows that are not forgotten, dead ones too, by the values of their fields.
     index: Index,
-    /// A write for which memory ran out may have left places in the index that no row has.
+    /// The versions at which the rows died that are not forgotten, in order.
+    deaths: VecDeque<u32>,
+    /// How many rows were forgotten since memory was given back.
+    forgotten: usize,
+    /// A write for which memory ran out may have left places in the index of rows that have not the value.
     spoiled: bool,
 }
 
 impl Model for Shard {
-    ghost use Rattle.std.specs.Prelude.{◌≡◌, List, map, false};
+    ghost use Rattle.std.specs.Prelude.{◌≡◌, ◌≤◌, List, map, length, false};
     ghost use Rattle.task_ids.specs.declared.doc.Doc.{Doc};
     ghost use Rattle.task_ids.specs.contracts.doc.Doc as doc;
     ghost use Rattle.std.specs.Coded.{coded_list};
@@ -71,10 +62,10 @@ impl Model for Shard {
     ghost use Rattle.shard_docs.specs.Tables.{IsTables};
     ghost use Rattle.shard_docs.specs.Places.{IsIndexOf, IsExactFor};
 
-    ghost view = { λ s. map (λ row. row.doc) s.rows.items };
+    ghost view = { λ s. map (λ row. row.doc) s.rows.rows };
 
-    ghost invariant = { λ s. IsTables s.rows.items s.living × IsIndexOf (map (λ row. row.doc) s.rows.items) s.index
-        × (s.spoiled ≡ false → IsExactFor (map (λ row. row.doc) s.rows.items) s.index) };
+    ghost invariant = { λ s. IsTables s.rows.rows s.living × (s.rows.oldest ≤ length s.rows.rows) × IsIndexOf s.rows s.index
+        × (s.spoiled ≡ false → IsExactFor s.rows s.index) };
 }
 
 impl Shard {
@@ -83,9 +74,11 @@ impl Shard {
         ensures { result ≡ [] }
     {
         Shard {
-            rows: Vec::new(alloc),
+            rows: Rows::new(alloc),
             living: HashMap::new(alloc),
             index: Index::new(alloc),
+            deaths: VecDeque::new(alloc),
+            forgotten: 0,
             spoiled: false,
         }
     }
@@ -106,17 +99,57 @@ impl Shard {
         self.spoiled = true;
         self.index.add(doc.source.as_value(), place as u32)?;
         let id = String::from_str(*self.rows.allocator(), doc.id.get().as_str())?;
-        self.rows.push(StoredRow { doc, died: None })?;
+        self.rows.reserve()?;
+        self.deaths.reserve(1)?;
         let Ok(replaced) = self.living.insert(id, place as u32) else {
-            self.rows.truncate(place);
             return Err(AllocError);
         };
+        self.rows.push(doc);
         self.spoiled = was_spoiled;
         let Some(replaced) = replaced else {
             return Ok(Written::Created);
         };
-        self.rows[replaced as usize].died = Some(place as u32 + 1);
+        self.rows.kill(replaced, place as u32 + 1);
+        self.deaths.push_back_reserved(place as u32 + 1);
         Ok(Written::Updated)
+    }
+
+    /// Forgets the rows that are dead at a version, and tells how many it forgets now. From that version on the same rows
+    /// are alive as before, and each has its place; what a lower version shows is not said. It takes no memory that it
+    /// must have, and a step for each row that it forgets. At times the memory of all that is forgotten is given back,
+    /// which takes a step for each row that is kept, at most as many as were forgotten since.
+    pub fn purge(&mut self, oldest: u32) -> u32
+        requires { oldest ≤ length self.old }
+        ensures { ShowsFrom oldest self.old self.new }
+    {
+        if oldest <= self.rows.oldest() {
+            return 0;
+        }
+        let count = take_deaths(&mut self.deaths, oldest);
+        self.rows.forget(oldest);
+        self.forgotten = self.forgotten.saturating_add(count as usize);
+        if self.forgotten > self.rows.stored() / 2 {
+            self.give_back();
+        }
+        count
+    }
+
+    /// Whether a row has died that is not forgotten.
+    pub fn has_dead(&self) -> bool {
+        !self.deaths.is_empty()
+    }
+
+    /// Gives the memory of forgotten rows back.
+    fn give_back(&mut self)
+        ensures { self.new ≡ self.old }
+    {
+        self.rows.sweep();
+        self.forgotten = 0;
+        // where memory runs out the index stays as it is
+        if let Ok(index) = index_of(&self.rows) {
+            self.index = index;
+            self.spoiled = false;
+        }
     }
 
     /// The number of writes so far.
@@ -137,9 +170,8 @@ impl Shard {
     pub fn row(&self, version: u32, place: u32) -> Option<&Doc>
         ensures { option_copied result ≡ row_at version place self.now }
     {
-        let row = self.rows.get(place as usize)?;
-        if place < version && row.is_alive_at(version) {
-            Some(&row.doc)
+        if place < version {
+            self.rows.alive(version, place)
         } else {
             None
         }
@@ -155,7 +187,7 @@ impl Shard {
             return None;
         };
         let place = *living.get(id)?;
-        Some((place, &self.rows[place as usize].doc))
+        Some((place, self.rows.doc(place)))
     }
 
     /// The next places above one, or from the first on, ascending, of rows that are alive at a version and have what is
@@ -174,7 +206,7 @@ impl Shard {
     {
         match pick {
             Some(pick) => self.picked_places(version, pick, after, out),
-            None => self.all_places(version, after, out),
+            None => self.all_places(version, None, after, out),
         }
     }
 
@@ -190,6 +222,10 @@ impl Shard {
         ensures count { result ≡ length (take (length out.old) (next_places (Some (picked pick.entry)) version after self.now)) }
         ensures places { take result out.new ≡ take (length out.old) (next_places (Some (picked pick.entry)) version after self.now) }
     {
+        // the index knows nothing of rows that are forgotten
+        if version < self.rows.oldest() {
+            return self.all_places(version, Some(pick), after, out);
+        }
         let places = places_above(self.index.places(pick.field.as_str(), pick.value), after);
         if self.spoiled {
             return self.candidates_among(version, Some(pick), places, out);
@@ -221,17 +257,25 @@ impl Shard {
         count
     }
 
-    /// The first places above one of rows that are alive at a version.
-    fn all_places(&self, version: u32, after: Option<u32>, out: &mut [u32]) -> usize
-        ensures count { result ≡ length (take (length out.old) (next_places None version after self.now)) }
-        ensures places { take result out.new ≡ take (length out.old) (next_places None version after self.now) }
+    /// The first places above one of rows that are alive at a version and have what is picked, where something is: each
+    /// row is looked at.
+    fn all_places(
+        &self,
+        version: u32,
+        pick: Option<Pick<'_>>,
+        after: Option<u32>,
+        out: &mut [u32],
+    ) -> usize
+        requires { IfSome pick (λ p. is_key p.field.now ≡ true) }
+        ensures count { result ≡ length (take (length out.old) (next_places (option_map picked pick.entry) version after self.now)) }
+        ensures places { take result out.new ≡ take (length out.old) (next_places (option_map picked pick.entry) version after self.now) }
     {
         let mut count = 0;
         for place in first_above(after)..version.min(self.rows()) {
             if count == out.len() {
                 return count;
             }
-            let is_chosen = self.is_candidate(version, None, place);
+            let is_chosen = self.is_candidate(version, pick, place);
             count = put(out, count, place, is_chosen);
         }
         count
@@ -248,6 +292,33 @@ impl Shard {
             (None, _) => false,
         }
     }
+}
+
+/// Takes those of some versions out, in order, that are not above one, and tells how many.
+fn take_deaths(deaths: &mut VecDeque<u32>, oldest: u32) -> u32 {
+    let mut count = 0u32;
+    for _ in 0..deaths.len() {
+        match deaths.front() {
+            Some(died) if *died <= oldest => {
+                deaths.pop_front();
+                count = count.saturating_add(1);
+            }
+            _ => return count,
+        }
+    }
+    count
+}
+
+/// The index of some rows. It fails only for want of memory.
+fn index_of(rows: &Rows) -> Result<Index, AllocError>
+    ensures has { IfOk result (λ index. IsIndexOf rows.now index) }
+    ensures exact { IfOk result (λ index. IsExactFor rows.now index) }
+{
+    let mut index = Index::new(*rows.allocator());
+    for row in rows.kept() {
+        index.add(row.doc.source.as_value(), row.place)?;
+    }
+    Ok(index)
 }
 
 /// The first place above one, if a row can have it.
