@@ -3,5 +3,6 @@ pub mod Cases
 mod Known
 mod Made
 mod PlacedLines
+mod Purged
 mod Replaced
 mod Written

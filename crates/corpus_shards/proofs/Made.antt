@@ -18,9 +18,11 @@ use Rattle.std.specs.Global.{Vec}
 use Rattle.std.proofs.lemmas.List.FromFn.{length-map-range_with_len}
 use Rattle.task_ids.specs.declared.corpus.Corpus.{Corpus}
 use Rattle.task_ids.specs.declared.doc.Doc.{Doc}
+use Rattle.task_events.specs.Documents.{writes_of}
+use Rattle.shard_docs.specs.Shown.{ShowsFrom}
 use Rattle.shard_docs.proofs.Ids.{same_or_other}
 use Rattle.corpus_shards.specs.declared.Shards.{Shards}
-use Rattle.corpus_shards.specs.Stored.{HasWritten, writes_in, has_shards, was_there}
+use Rattle.corpus_shards.specs.Stored.{ShownFrom, HasWritten, writes_in, has_shards, was_there}
 use Rattle.corpus_shards.proofs.Cases.{AreSameOrOther}
 
 -- nothing lies in shards without a document
@@ -46,9 +48,9 @@ others_either s t index (Ok x) ok err q off = ok q ∙ ap (λ b. b || has_shards
 others_either s t index (Err e) ok err q off = err q
 
 -- what is written does not tell which were made
-pub noted_written : (s : Shards) (made : HashSet (String Global) (BuildHasherDefault FoldHasher)) (corpus : Corpus) (shards : ℕ)
-    → HasWritten corpus shards s → HasWritten corpus shards (record s { made = made })
-noted_written s made corpus shards has = record { count = has.count; some = has.some; each = has.each; as_many = has.as_many; few = has.few; empty = has.empty }
+pub noted_written : (s : Shards) (made : HashSet (String Global) (BuildHasherDefault FoldHasher)) (corpus : Corpus) (shards : ℕ) (oldest : ShownFrom)
+    → HasWritten corpus shards oldest s → HasWritten corpus shards oldest (record s { made = made })
+noted_written s made corpus shards oldest has = record { count = has.count; some = has.some; low = has.low; each = has.each; as_many = has.as_many; few = has.few; empty = has.empty }
 
 module _ (s t : Shards) (index : List ℕ) (none : has_shards s index ≡ false) where
   -- an index that had no shards is noted as one that was made
@@ -96,11 +98,12 @@ module _ (s t : Shards) (index : List ℕ) (none : has_shards s index ≡ false)
             ∙ sym (nothing_at (get_by_text s.by_index q) (ap (has_shards s) (sym same) ∙ none))
         by_case (inr (off, back)) = ap (λ b. found_as (cond b (Some list) (get_by_text s.by_index q)) k) off
 
-    pub still_written : t.count ≡ s.count → t.empty ≡ s.empty → (corpus : Corpus) (shards : ℕ) → HasWritten corpus shards s → HasWritten corpus shards t
-    still_written count empty corpus shards has = record {
+    pub still_written : t.count ≡ s.count → t.empty ≡ s.empty → (corpus : Corpus) (shards : ℕ) (oldest : ShownFrom) → HasWritten corpus shards oldest s → HasWritten corpus shards oldest t
+    still_written count empty corpus shards oldest has = record {
       count = count ∙ has.count;
       some = has.some;
-      each = λ q k. same_writes q k ∙ has.each q k;
+      low = has.low;
+      each = λ q k. subst (ShowsFrom (oldest q k) (writes_of corpus shards q k)) (sym (same_writes q k)) (has.each q k);
       as_many = λ q. as_many_at q (bytes_eq index q) refl;
       few = has.few;
       empty = empty ∙ has.empty;

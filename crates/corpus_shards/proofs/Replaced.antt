@@ -13,7 +13,7 @@ use Rattle.std.proofs.lemmas.Slice.Eq.{bytes_eq-Decides}
 use Rattle.task_ids.specs.declared.doc.Doc.{Doc}
 use Rattle.shard_docs.proofs.Ids.{same_or_other}
 use Rattle.corpus_shards.specs.declared.Shards.{Shards}
-use Rattle.corpus_shards.specs.Stored.{Replaces, has_shards}
+use Rattle.corpus_shards.specs.Stored.{Replaces, has_shards, writes_in}
 use Rattle.corpus_shards.proofs.Cases.{AreSameOrOther}
 use Rattle.corpus_shards.proofs.PlacedLines.{Table}
 
@@ -62,3 +62,22 @@ module _ (s : Shards) (index : List ℕ) (shard : ℕ) (list : Vec (List Doc)) (
       has_as : (q : List ℕ) → AtIndex q → is_some (get_by_text after q) ≡ has_shards s q
       has_as q (inl (hit, was, is)) = ap is_some is ∙ sym (ap is_some was)
       has_as q (inr (off, same)) = ap is_some same
+
+-- the shards of an index were looked at and are given back as they were
+pub given_back : (s : Shards) (index : List ℕ) (shard : ℕ) (list : Vec (List Doc)) (after : Table) → get_by_text s.by_index index ≡ Some list
+    → ((q : List ℕ) → get_by_text after q ≡ cond (bytes_eq index q) (Some list) (get_by_text s.by_index q)) → Replaces index shard (writes_in s index shard) s (record s { by_index = after })
+given_back s index shard list after found changed = record {
+  here = ap (λ o. among o shard) (same index);
+  elsewhere = λ q k other. ap (λ o. among o k) (same q);
+  as_many = λ q. ap how_many (same q);
+  from_start = λ q. ap (λ o. is_some o && not (contains_text s.made q)) (same q);
+  count = refl;
+  empty = refl;
+}
+  where
+    same : (q : List ℕ) → get_by_text after q ≡ get_by_text s.by_index q
+    same q = by_case (same_or_other index q)
+      where
+        by_case : AreSameOrOther index q → get_by_text after q ≡ get_by_text s.by_index q
+        by_case (inl (hit, back, one)) = changed q ∙ ap (λ b. cond b (Some list) (get_by_text s.by_index q)) hit ∙ sym found ∙ ap (get_by_text s.by_index) one
+        by_case (inr (off, back)) = changed q ∙ ap (λ b. cond b (Some list) (get_by_text s.by_index q)) off

@@ -1,5 +1,5 @@
 -- The shards have what is written.
-use Rattle.std.proofs.Common.{◌≡◌, ◌⊎◌, inl, inr, not, ◌&&◌, ℕ, ◌<◌, ◌≤◌, Bool, true, false, List, [], length, map, get_or, string_bytes, Option, Some, None, sym, ap, ◌∙◌, refl, arith}
+use Rattle.std.proofs.Common.{◌≡◌, ◌⊎◌, inl, inr, not, ◌&&◌, ℕ, ◌<◌, ◌≤◌, Bool, true, false, List, [], length, map, get_or, string_bytes, Option, Some, None, sym, ap, subst, ◌∙◌, refl, arith}
 use Rattle.std.specs.Prelude.{is_some, option_map, if◌then◌else◌}
 use Rattle.std.specs.List.{list_any, range_with_len}
 use Rattle.std.specs.Str.{bytes_eq}
@@ -11,6 +11,8 @@ use Rattle.std.proofs.lemmas.Bool.{cases_lt}
 use Rattle.task_ids.specs.declared.corpus.CorpusLine.{CorpusLine}
 use Rattle.task_ids.specs.declared.doc.Doc.{Doc}
 use Rattle.task_events.specs.Documents.{writes_of}
+use Rattle.shard_docs.specs.Shown.{ShowsFrom}
+use Rattle.shard_docs.proofs.ShownMore.{shows_all}
 use Rattle.corpus_shards.specs.declared.Shards.{Shards}
 use Rattle.corpus_shards.specs.Placed.{has_index, AreShards}
 use Rattle.corpus_shards.specs.Stored.{HasWritten, writes_in, was_there}
@@ -33,11 +35,12 @@ module _ (lines : List CorpusLine) (shards : ℕ) (s : Shards) (are : AreShards 
       by_case None e = rw e (sym (unknown_index lines shards index shard (none_found lines shards s.by_index index are e)))
       by_case (Some list) e = rw e (in_list list (found_shards lines shards s.by_index index list are e) (cases_lt shard shards))
 
-  pub placed : s.count ≡ shards → s.empty ≡ [] → HasWritten (record { lines = lines }) shards s
+  pub placed : s.count ≡ shards → s.empty ≡ [] → HasWritten (record { lines = lines }) shards (λ _ _. 0) s
   placed count empty = record {
     count = count;
     some = are.some_shards;
-    each = placed_each;
+    low = λ _ _. omega arith;
+    each = λ index shard. subst (ShowsFrom 0 (writes_of (record { lines = lines }) shards index shard)) (sym (placed_each index shard)) (shows_all 0 (writes_of (record { lines = lines }) shards index shard));
     as_many = as_many_shards lines shards s.by_index are;
     few = are.few;
     empty = empty;

@@ -1,5 +1,5 @@
 -- What the shards of all indices have.
-use Rattle.std.specs.Prelude.{◌≡◌, ℕ, ◌<◌, List, [], length, map, slice_index_or, Bool, not, ◌&&◌, ◌==◌, is_some, option_map, false, IfSome}
+use Rattle.std.specs.Prelude.{◌≡◌, ℕ, ◌<◌, ◌≤◌, List, [], length, map, slice_index_or, Bool, not, ◌&&◌, ◌==◌, is_some, option_map, false, IfSome, max, if◌then◌else◌}
 use Rattle.std.specs.Option.{option_map_or}
 use Rattle.std.specs.Str.{bytes_eq}
 use Rattle.std.specs.HashMap.{get_by_text}
@@ -8,6 +8,7 @@ use Rattle.task_ids.specs.declared.corpus.Corpus.{Corpus}
 use Rattle.task_ids.specs.declared.corpus.CorpusLine.{CorpusLine}
 use Rattle.task_ids.specs.declared.doc.Doc.{Doc}
 use Rattle.task_events.specs.Documents.{writes_of}
+use Rattle.shard_docs.specs.Shown.{ShowsFrom}
 use Rattle.corpus_shards.specs.Placed.{AreFew}
 use Rattle.corpus_shards.specs.declared.Shards.{Shards}
 
@@ -27,15 +28,30 @@ NoneMade s = (index : List ℕ) → contains_text s.made index ≡ false
 abbrev pub writes_in : Shards → List ℕ → ℕ → List Doc
 writes_in s index shard = option_map_or (λ list. slice_index_or list.items shard []) (get_by_text s.by_index index) []
 
--- Each shard of each index has what is written, of which the corpus is all lines so far: those that were read, and one for each document
--- that was written since.
-pub record HasWritten (corpus : Corpus) (shards : ℕ) (s : Shards) : Type 0 where
+-- of each shard of each index the version from which on it shows what was written
+abbrev pub ShownFrom : Type 0
+ShownFrom = List ℕ → ℕ → ℕ
+
+-- of one shard at least this version, and of the others as before
+abbrev pub raised : List ℕ → ℕ → ℕ → ShownFrom → ShownFrom
+raised index shard from oldest q k = if bytes_eq index q && (shard == k) then max (oldest q k) from else oldest q k
+
+-- Each shard of each index shows, from a version on, what is written, of which the corpus is all lines so far: those that were read, and
+-- one for each document that was written since.
+pub record HasWritten (corpus : Corpus) (shards : ℕ) (oldest : ShownFrom) (s : Shards) : Type 0 where
   pub count : s.count ≡ shards
   pub some : 0 < shards
-  pub each : (index : List ℕ) (shard : ℕ) → writes_in s index shard ≡ writes_of corpus shards index shard
+  -- as many documents were written
+  pub low : (index : List ℕ) (shard : ℕ) → oldest index shard ≤ length (writes_of corpus shards index shard)
+  pub each : (index : List ℕ) (shard : ℕ) → ShowsFrom (oldest index shard) (writes_of corpus shards index shard) (writes_in s index shard)
   pub as_many : (index : List ℕ) → IfSome (get_by_text s.by_index index) (λ list. length list.items ≡ shards)
   pub few : AreFew corpus.lines shards
   pub empty : s.empty ≡ []
+
+-- t is s but for which of its shards are noted
+pub record IsNotedAs (s t : Shards) : Type 0 where
+  pub written : (corpus : Corpus) (shards : ℕ) (oldest : ShownFrom) → HasWritten corpus shards oldest s → HasWritten corpus shards oldest t
+  pub from_start : (q : List ℕ) → was_there t q ≡ was_there s q
 
 -- the lines of documents that are written to an index
 abbrev pub lines_of : List ℕ → List Doc → List CorpusLine

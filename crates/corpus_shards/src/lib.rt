@@ -1,7 +1,7 @@
 //! The shards of indices: where each document lies that the corpus has or that was written since.
 #![tactic(auto)]
 
-ghost use Rattle.std.specs.Prelude.{◌≡◌, ℕ, List, ◌++◌, ◌∷◌, [], ◌<◌, ◌^◌, ◌||◌, false, length, map, IfOk, IfSome, OnOk, OnErr, is_some};
+ghost use Rattle.std.specs.Prelude.{◌≡◌, ℕ, List, ◌++◌, ◌∷◌, [], ◌<◌, ◌^◌, ◌||◌, ◌&&◌, ◌==◌, ◌≤◌, true, false, length, map, IfOk, IfSome, OnOk, OnErr, is_some};
 ghost use Rattle.std.specs.List.{list_any, range_with_len};
 ghost use Rattle.std.specs.HashMap.{get_by_text};
 ghost use Rattle.std.specs.Str.{bytes_eq};
@@ -11,12 +11,20 @@ ghost use Rattle.task_ids.specs.declared.corpus.CorpusLine.{CorpusLine};
 ghost use Rattle.std.specs.Borrow.{sem};
 ghost use Rattle.corpus_shards.specs.Lent.{LendsShard};
 ghost use Rattle.corpus_shards.specs.Placed.{AreShards, has_index};
-ghost use Rattle.corpus_shards.specs.Stored.{HasWritten, writes_in, has_shards, was_there, NoneMade};
+ghost use Rattle.corpus_shards.specs.Stored.{ShownFrom, raised, HasWritten, IsNotedAs, writes_in, has_shards, was_there, NoneMade};
 
 use shard_docs::{Shard, shard_of};
+use shared_value::Shared;
 use std::alloc::{AllocError, Global};
 use std::collections::{HashMap, HashSet};
 use task_ids::{Corpus, CorpusLine, Doc, Text};
+
+/// A shard of an index in which rows have died that it may forget once nothing reads them.
+#[derive(Drop)]
+pub struct Stale {
+    pub index: Shared<Text>,
+    pub shard: u32,
+}
 
 /// The shards of each index that a document is of, that is known from the start, or that was made. The contracts of
 /// this crate say when they have what was written (`HasWritten`).
@@ -30,6 +38,8 @@ pub struct Shards {
     pub made: HashSet<String>,
     /// The shard of an index that has none: no document.
     pub empty: Shard,
+    /// Where rows may be forgotten: it is looked for them nowhere else.
+    pub stale: Vec<Stale>,
 }
 
 /// The number of the shard of a document, of so many.
@@ -83,12 +93,46 @@ fn place(
     Ok(())
 }
 
+/// Notes those of some shards in which rows have died.
+fn stale_among(
+    alloc: Global,
+    by_index: &HashMap<String, Vec<Shard>>,
+) -> Result<Vec<Stale>, AllocError> {
+    let mut stale = Vec::new(alloc);
+    for (index, shards) in by_index.iter() {
+        note_dead(alloc, &mut stale, index.as_str(), shards.as_slice())?;
+    }
+    Ok(stale)
+}
+
+/// Notes those shards of an index in which rows have died.
+fn note_dead(
+    alloc: Global,
+    stale: &mut Vec<Stale>,
+    index: &str,
+    shards: &[Shard],
+) -> Result<(), AllocError> {
+    let mut number = 0u32;
+    for shard in shards {
+        if shard.has_dead() {
+            let name = Text::new(String::from_str(alloc, index)?);
+            let index = Shared::new(alloc, name)?;
+            stale.push(Stale {
+                index,
+                shard: number,
+            })?;
+        }
+        number = number.saturating_add(1);
+    }
+    Ok(())
+}
+
 impl Shards {
     /// The shards of a corpus, of which each index has so many. It copies the documents. It fails only for want of
     /// memory.
     pub fn new(alloc: Global, corpus: &Corpus, count: u32) -> Result<Shards, AllocError>
         requires { 0 < count }
-        ensures written { IfOk result (λ shards. HasWritten corpus.now count shards) }
+        ensures written { IfOk result (λ shards. HasWritten corpus.now count (λ _ _. 0) shards) }
         ensures from_start { IfOk result (λ shards. (index : List ℕ)
             → was_there shards index ≡ has_index corpus.now.lines index) }
         ensures none_made { IfOk result (λ shards. NoneMade shards) }
@@ -97,11 +141,13 @@ impl Shards {
         for line in corpus.lines.as_slice() {
             place(alloc, &mut by_index, line, count)?;
         }
+        let stale = stale_among(alloc, &by_index)?;
         Ok(Shards {
             count,
             by_index,
             made: HashSet::new(alloc),
             empty: Shard::new(alloc),
+            stale,
         })
     }
 
@@ -137,6 +183,59 @@ impl Shards {
         Some(&mut shards[shard as usize])
     }
 
+    /// Forgets the rows of a shard that are dead at a version, and tells how many. There is nothing to forget where there is no
+    /// such shard.
+    pub fn purge(&mut self, index: &str, shard: u32, oldest: u32) -> u32
+        requires { oldest ≤ length (writes_in self.old index.now shard) }
+        ensures written { (corpus : Corpus) (shards : ℕ) (old : ShownFrom) → HasWritten corpus shards old self.old
+            → HasWritten corpus shards (raised index.now shard oldest old) self.new }
+        ensures elsewhere { (q : List ℕ) (k : ℕ) → (bytes_eq index.now q && (shard == k)) ≡ false
+            → writes_in self.new q k ≡ writes_in self.old q k }
+        ensures from_start { (q : List ℕ) → was_there self.new q ≡ was_there self.old q }
+        ensures made { self.new.made ≡ self.old.made }
+        ensures count { self.new.count ≡ self.old.count }
+        ensures stale { self.new.stale ≡ self.old.stale }
+    {
+        let Some(shards) = self.by_index.get_mut(index) else {
+            return 0;
+        };
+        let place = shard as usize;
+        if place >= shards.len() {
+            return 0;
+        }
+        shards[place].purge(oldest)
+    }
+
+    /// Whether a row of a shard has died that is not forgotten.
+    pub fn has_dead(&self, index: &str, shard: u32) -> bool {
+        let Some(shards) = self.by_index.get(index) else {
+            return false;
+        };
+        match shards.get(shard as usize) {
+            Some(shard) => shard.has_dead(),
+            None => false,
+        }
+    }
+
+    /// Notes a shard in which rows have died. It fails only for want of memory, and then nothing is noted.
+    pub fn note_stale(&mut self, index: Shared<Text>, shard: u32) -> Result<(), AllocError>
+        ensures ok { OnOk result (self.new.stale.items ≡ self.old.stale.items ++ record { index = index; shard = shard } ∷ []) }
+        ensures noted { IsNotedAs self.old self.new }
+    {
+        self.stale.push(Stale { index, shard })?;
+        Ok(())
+    }
+
+    /// A shard that was noted is not any more: that at a place of the notes. There is nothing to do where there is no such place.
+    pub fn drop_stale(&mut self, place: usize)
+        ensures fewer { length self.new.stale.items ≤ length self.old.stale.items }
+        ensures noted { IsNotedAs self.old self.new }
+    {
+        if place < self.stale.len() {
+            self.stale.swap_remove(place);
+        }
+    }
+
     /// Gives an index that has none its shards, without a document. It fails only for want of memory.
     fn add(&mut self, alloc: Global, index: &str) -> Result<(), AllocError>
         requires none { has_shards self.old index.now ≡ false }
@@ -145,8 +244,8 @@ impl Shards {
         ensures err { OnErr result ((q : List ℕ) → has_shards self.new q ≡ has_shards self.old q) }
         ensures same { (q : List ℕ) (shard : ℕ) → writes_in self.new q shard ≡ writes_in self.old q shard }
         ensures made { self.new.made ≡ self.old.made }
-        ensures written { (corpus : Corpus) (shards : ℕ) → HasWritten corpus shards self.old
-            → HasWritten corpus shards self.new }
+        ensures written { (corpus : Corpus) (shards : ℕ) (oldest : ShownFrom) → HasWritten corpus shards oldest self.old
+            → HasWritten corpus shards oldest self.new }
     {
         let shards = empty_shards(alloc, self.count)?;
         self.by_index
@@ -162,8 +261,8 @@ impl Shards {
         ensures err { OnErr result ((q : List ℕ) → was_there self.new q ≡ was_there self.old q) }
         ensures same { (q : List ℕ) (shard : ℕ) → writes_in self.new q shard ≡ writes_in self.old q shard }
         ensures none_made { NoneMade self.new }
-        ensures written { (corpus : Corpus) (shards : ℕ) → HasWritten corpus shards self.old
-            → HasWritten corpus shards self.new }
+        ensures written { (corpus : Corpus) (shards : ℕ) (oldest : ShownFrom) → HasWritten corpus shards oldest self.old
+            → HasWritten corpus shards oldest self.new }
     {
         if self.by_index.contains_key(index) {
             return Ok(());
@@ -176,8 +275,8 @@ impl Shards {
     pub fn know_all(&mut self, alloc: Global, indices: &[Text]) -> Result<(), AllocError>
         requires none_made { NoneMade self.old }
         ensures known { OnOk result ((q : List ℕ) → was_there self.new q ≡ (was_there self.old q || list_any (bytes_eq q) indices.now)) }
-        ensures written { (corpus : Corpus) (shards : ℕ) → HasWritten corpus shards self.old
-            → HasWritten corpus shards self.new }
+        ensures written { (corpus : Corpus) (shards : ℕ) (oldest : ShownFrom) → HasWritten corpus shards oldest self.old
+            → HasWritten corpus shards oldest self.new }
     {
         for index in indices {
             self.know(alloc, index.as_str())?;
@@ -193,8 +292,8 @@ impl Shards {
         ensures err { OnErr result ((q : List ℕ) → has_shards self.new q ≡ has_shards self.old q) }
         ensures same { (q : List ℕ) (shard : ℕ) → writes_in self.new q shard ≡ writes_in self.old q shard }
         ensures from_start { (q : List ℕ) → was_there self.new q ≡ was_there self.old q }
-        ensures written { (corpus : Corpus) (shards : ℕ) → HasWritten corpus shards self.old
-            → HasWritten corpus shards self.new }
+        ensures written { (corpus : Corpus) (shards : ℕ) (oldest : ShownFrom) → HasWritten corpus shards oldest self.old
+            → HasWritten corpus shards oldest self.new }
     {
         if self.by_index.contains_key(index) {
             return Ok(());

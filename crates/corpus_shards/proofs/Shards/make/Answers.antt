@@ -10,4 +10,4 @@ returns-clause-from_start c =
     (λ q. ap (λ made. contains_text made q) c.add.ensures.made ∙ noted s.made c.insert.new.self c.in_ok-from_str.field-0 c.args.index.now c.in_ok-from_str.ensures.ok c.in_ok-insert.ensures.updates q)
 
 pub returns-clause-written : goal.returns-clause-written
-returns-clause-written c = λ corpus shards has. c.add.ensures.written corpus shards (noted_written c.args.self.now c.insert.new.self corpus shards has)
+returns-clause-written c = λ corpus shards oldest has. c.add.ensures.written corpus shards oldest (noted_written c.args.self.now c.insert.new.self corpus shards oldest has)
