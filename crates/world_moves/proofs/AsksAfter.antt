@@ -68,7 +68,7 @@ node_within cluster t request l = on_place (kind_of request).place
 -- ---- answers in flight
 
 -- an answer is one to an ask that was made
-answer_asked : (p : TaskId) (k : ℕ) (h : List Event) → AskFacts h → AnswerFacts h → (reply : Reply) → answer_of p k h ≡ Some reply → k ≤ last_ask p h
+pub answer_asked : (p : TaskId) (k : ℕ) (h : List Event) → AskFacts h → AnswerFacts h → (reply : Reply) → answer_of p k h ≡ Some reply → k ≤ last_ask p h
 answer_asked p k h f g reply e = of_parts (rejection_of p k h) refl (child_of p k h) refl (cases_lt (last_ask p h) k)
   where
     of_parts : (o : Option ℕ) → rejection_of p k h ≡ o → (c : Option TaskId) → child_of p k h ≡ c → (last_ask p h < k) ⊎ (k ≤ last_ask p h) → k ≤ last_ask p h

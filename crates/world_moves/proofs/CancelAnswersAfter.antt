@@ -33,6 +33,7 @@ use Rattle.corpus_shards.specs.declared.Shards.{Shards}
 use Rattle.task_events.specs.declared.request.Request.{Request}
 use Rattle.task_events.specs.Asks.{request_of_ask}
 use Rattle.world_moves.specs.Good.{IsWithin, so_far}
+use Rattle.world_moves.specs.Reads.{Oldest}
 use Rattle.world_moves.specs.Ties.{Ties, IsKept, IsTableAt, IsGood}
 use Rattle.world_moves.proofs.KeptTasks.{kept_same}
 use Rattle.world_moves.proofs.CancelAnswers.{IsAnswerable, answers_appended, answers_keep, all_lawful, answered_after}
@@ -114,8 +115,8 @@ module _ (cluster : Cluster) (t : TaskId) (h : List Event) where
   }
 
   -- what is written stays
-  pub shards_answered : (corpus : Corpus) (script : Script) (shards : Shards) → HasWritten (so_far corpus script h) cluster.shards shards → HasWritten (so_far corpus script (with_answers t h)) cluster.shards shards
-  shards_answered corpus script shards has = kept (λ past. HasWritten (so_far corpus script past) cluster.shards shards) (λ c past x. x) (λ c past x. x) t h has
+  pub shards_answered : (corpus : Corpus) (script : Script) (oldest : Oldest) (shards : Shards) → HasWritten (so_far corpus script h) cluster.shards oldest shards → HasWritten (so_far corpus script (with_answers t h)) cluster.shards oldest shards
+  shards_answered corpus script oldest shards has = kept (λ past. HasWritten (so_far corpus script past) cluster.shards oldest shards) (λ c past x. x) (λ c past x. x) t h has
 
   pub answers_noted : (tables : List Table) (roots : ℕ → Option TaskId) (bans : List (FinMap task_id_cmp ℕ)) (cores : List Cancellations) (listings : BTreeSet Listing)
       → Cancelling cluster (λ u. waiting_for u h) h tables roots bans cores listings → Cancelling cluster (λ u. waiting_for u (with_answers t h)) (with_answers t h) tables roots bans cores listings

@@ -32,6 +32,7 @@ use Rattle.world_moves.specs.Flights.{message_of, told_parent}
 use Rattle.world_moves.specs.Moves.{IsPartOf, MayLeave}
 use Rattle.world_moves.specs.Plain.{AnswersPlainly, EndsPlainly}
 use Rattle.command_roots.specs.Roots.{scripted}
+use Rattle.world_moves.specs.Reads.{Oldest}
 use Rattle.world_moves.specs.Ties.{Ties}
 use Rattle.task_events.specs.declared.request.Request.{Request}
 use Rattle.task_events.specs.declared.reply.Counts.{Counts}
@@ -75,10 +76,10 @@ module _ (counts : Counts) (t : TaskId) (h : List Event) where
   awaits_none _ m = absurd m
 
   -- what is written stays
-  pub shards_left : (corpus : Corpus) (script : Script) (cluster : Cluster) (shards : Shards) (e : Event) → MayLeave counts t e h → HasWritten (so_far corpus script h) cluster.shards shards → HasWritten (so_far corpus script (e ∷ h)) cluster.shards shards
-  shards_left corpus script cluster shards (Refuse u c) m has = has
-  shards_left corpus script cluster shards (End u reply) m has = has
-  shards_left corpus script cluster shards _ m has = absurd m
+  pub shards_left : (corpus : Corpus) (script : Script) (cluster : Cluster) (oldest : Oldest) (shards : Shards) (e : Event) → MayLeave counts t e h → HasWritten (so_far corpus script h) cluster.shards oldest shards → HasWritten (so_far corpus script (e ∷ h)) cluster.shards oldest shards
+  shards_left corpus script cluster oldest shards (Refuse u c) m has = has
+  shards_left corpus script cluster oldest shards (End u reply) m has = has
+  shards_left corpus script cluster oldest shards _ m has = absurd m
 
   -- what its reply tells: a child that is refused has counted nothing
   abbrev pub told_counts : (e : Event) → MayLeave counts t e h → Counts

@@ -20,7 +20,7 @@ use Rattle.world_moves.specs.Good.{IsWithin, IsContextWithin, IsShardWithin, Gro
 
 -- ---- a shard
 
-few_grown : (n : ℕ) (writes longer more : List Doc) → longer ≡ writes ++ more → n ≤ length writes → n ≤ length longer
+pub few_grown : (n : ℕ) (writes longer more : List Doc) → longer ≡ writes ++ more → n ≤ length writes → n ≤ length longer
 few_grown n writes longer more is low = rw is (omega (arith, low, length-append writes more))
 
 module _ (cluster : Cluster) (corpus later : Corpus) (grows : Grows cluster corpus later) where

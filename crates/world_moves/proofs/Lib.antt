@@ -41,6 +41,7 @@ pub mod FetchLaws
 pub mod FirstRuns
 pub mod FlightAfter
 pub mod Growing
+pub mod KeptAbove
 pub mod KeptTasks
 pub mod KindLaws
 pub mod Lent
@@ -50,6 +51,7 @@ pub mod LookingLaws
 pub mod MarksAfter
 pub mod NamedCancels
 pub mod NextChild
+pub mod NoParts
 pub mod NodeTables
 pub mod NodeTablesSame
 pub mod NodesAsked
@@ -58,6 +60,7 @@ pub mod NoteParts
 pub mod Numbered
 pub mod OneChange
 pub mod OpenListings
+pub mod OpensAbove
 pub mod Outcomes
 pub mod OwnPages
 pub mod OwnTasks
@@ -75,12 +78,16 @@ pub mod PartsWithin
 pub mod PassedWorks
 pub mod PassesNow
 pub mod PlainEnds
+pub mod PlanReads
 pub mod PossibleHits
 pub mod PossibleTops
+pub mod PurgedTies
 pub mod QueryLaws
 pub mod QuietCounts
 pub mod QuietEvents
 pub mod ReadInTime
+pub mod ReadsAbove
+pub mod ReadsAfter
 pub mod ReindexLaws
 pub mod RequestsAfter
 pub mod RequestsInFlight

@@ -83,7 +83,7 @@ opened_id (works.Bulk s) t reply now c e = absurd (cc)
 opened_id (works.BulkShard s) t reply now c e = absurd (cc)
 
 -- a good reply keeps what was counted
-found_keeps : (r : Reading) (asked : List Asked) (found : SearchReply) → search_reply r asked ≡ Search found → found.shards ≡ counts_in r asked
+pub found_keeps : (r : Reading) (asked : List Asked) (found : SearchReply) → search_reply r asked ≡ Search found → found.shards ≡ counts_in r asked
 found_keeps r asked found e = of_test (length (failed_in r asked) == length r.shards) _ refl e
   where
     of_test : (b : Bool) (x : SearchReply) → x.shards ≡ counts_in r asked → cond b (AllFailed (failed_in r asked)) (Search x) ≡ Search found → found.shards ≡ counts_in r asked

@@ -78,7 +78,7 @@ given None e = absurd (cc)
 given (Some reply) e = (reply, refl)
 
 -- asks that are numbered in order
-numbered_at : (b : ℕ) (xs : List Asked) → map (λ a. a.ask) xs ≡ range_with_len b (length xs) → (i : ℕ) (a : Asked) → slice_get xs i ≡ Some a → a.ask ≡ b + i
+pub numbered_at : (b : ℕ) (xs : List Asked) → map (λ a. a.ask) xs ≡ range_with_len b (length xs) → (i : ℕ) (a : Asked) → slice_get xs i ≡ Some a → a.ask ≡ b + i
 numbered_at b [] e i a at = absurd (cc)
 numbered_at b (x ∷ xs) e zero a at = let first : x.ask ≡ b = cc in let same : x ≡ a = cc in let here : a.ask ≡ x.ask = ap (λ (y : Asked). y.ask) (sym same) in omega (arith, first, here)
 numbered_at b (x ∷ xs) e (suc i) a at = let later = numbered_at (b + 1) xs (cc) i a at in omega (arith, later)

@@ -54,7 +54,7 @@ module _ (cluster : Cluster) (corpus : Corpus) where
   root_within (Some command) h q e = command_within command h q e
 
 -- a task that has no parent was asked by a command
-by_command : (said : Scripted) (t : TaskId) (h : List Event) (q : Request) → parent_of t h ≡ None → request_of said t h ≡ Some q → (k : ℕ) × (g : List Event) × (said.root k g ≡ Some q)
+pub by_command : (said : Scripted) (t : TaskId) (h : List Event) (q : Request) → parent_of t h ≡ None → request_of said t h ≡ Some q → (k : ℕ) × (g : List Event) × (said.root k g ≡ Some q)
 by_command said t [] q none e = absurd (cc)
 by_command said t (Root k u ∷ h) q none e = by_task (same_task t u) refl (λ asked. by_command said t h q none asked)
   where

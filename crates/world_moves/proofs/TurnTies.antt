@@ -1,27 +1,38 @@
 -- All tables of the world fit the past after a turn of work, with what it has written.
-use Rattle.std.proofs.Common.{◌≡◌, ◌<◌, ◌^◌, ℕ, true, false, List, ◌∷◌, ◌++◌, length, Option, Some, None, refl, sym, ap, subst, ◌∙◌}
-use Rattle.std.specs.Prelude.{IfSome}
+use Rattle.std.proofs.Common.{◌≡◌, ◌<◌, ◌≤◌, ◌^◌, ◌&&◌, ℕ, true, false, cond, List, [], ◌∷◌, ◌++◌, length, Option, Some, None, refl, sym, ap, subst, ◌∙◌, arith}
+use Rattle.std.specs.Prelude.{IfSome, ◌==◌}
+use Rattle.std.specs.List.{AllByRecursion}
+use Rattle.std.specs.Str.{bytes_eq}
+use Rattle.std.proofs.lemmas.Bool.Decides.{nat_tests}
+use Rattle.std.proofs.lemmas.List.{length-append}
+use Rattle.std.proofs.lemmas.Slice.Eq.{bytes_eq-Decides}
 use Rattle.std.specs.BTreeMap.{BTreeMap, get}
 use Rattle.std.specs.Ordering.{nat_cmp}
 use Rattle.std.specs.HashMap.{get_by_text}
 use Rattle.std.specs.Global.{Vec}
 use Rattle.task_ids.specs.declared.task_id.TaskId.{TaskId}
 use Rattle.task_ids.specs.declared.doc.Doc.{Doc}
+use Rattle.task_ids.specs.Placing.{shard_of}
 use Rattle.task_events.specs.declared.event.Event.TheVariants.{Work as worked, Write}
 use Rattle.task_events.specs.declared.request.WriteNote.{WriteNote}
 use Rattle.task_events.specs.declared.step.Do.TheVariants.{Turn}
 use Rattle.task_events.specs.Bans.{mark_of}
+use Rattle.task_events.specs.Documents.{writes_of}
 use Rattle.task_events.specs.Lawful.{AwaitsNoMark}
 use Rattle.task_events.specs.Requests.{request_of}
 use Rattle.task_events.specs.Same.{same_task}
 use Rattle.task_events.specs.Tasks.{is_live, is_new}
 use Rattle.task_events.specs.Written.{with_notes}
+use Rattle.shard_docs.specs.Shown.{ShowsFrom}
+use Rattle.shard_docs.proofs.ShownMore.{shows_more}
 use Rattle.task_work.specs.declared.work.Work.{Work}
+use Rattle.task_work.specs.Reads.{WorkReadsFrom}
 use Rattle.task_work.specs.Works.{IsWorkOn, next_of, place_of, docs_next, with_turn, work_notes}
+use Rattle.task_work.proofs.Shown.{works_on_shown, works_on_own, notes_shown, turn_shown, reads_after_turn}
 use Rattle.command_roots.specs.Roots.{scripted}
 use Rattle.corpus_shards.specs.declared.Shards.{Shards}
-use Rattle.corpus_shards.specs.Stored.{HasWritten, Replaces, was_there, writes_in}
-use Rattle.corpus_shards.proofs.Appended.{appended}
+use Rattle.corpus_shards.specs.Stored.{HasWritten, IsNotedAs, Replaces, was_there, writes_in, lines_of}
+use Rattle.corpus_shards.proofs.Appended.{appended, writes_append, writes_of_one}
 use Rattle.node_parts.specs.declared.running.Running.{Running}
 use Rattle.node_parts.specs.Running.{DoesNext}
 use Rattle.world_moves.specs.declared.state.State.{State}
@@ -38,6 +49,8 @@ use Rattle.world_moves.proofs.DescriptionsAfter.{quiet}
 use Rattle.world_moves.proofs.NoteParts.{none_yet}
 use Rattle.world_moves.proofs.PagesAfter.{quiet_pages}
 use Rattle.world_moves.proofs.QuietCounts.{still_counts}
+use Rattle.world_moves.proofs.ReadsAfter.{notes_reads, reads_after}
+use Rattle.world_moves.proofs.ReadsAbove.{work_reads}
 use Rattle.world_moves.proofs.TurnsAfter as turns
 use Rattle.world_moves.proofs.WritesAfter.{notes_keep}
 
@@ -60,8 +73,8 @@ module _ (s : State) (tied : IsTied s) (t : TaskId) (r : Running) (live : is_liv
   pub nothing_yet : IsPartOf s.history s.history (turned_in s t)
   nothing_yet = subst (IsPartOf s.history s.history) (sym past_is) (none_yet (worked t) (work_notes r.work own) s.history s.history refl)
 
-  -- it is the turn over a shard, as it was found
-  module _ (index : List ℕ) (number : ℕ) (place : place_of r.work ≡ Some (index, number)) (old new : Shards) (has : HasWritten (so_far s.corpus.now s.script.now s.history) s.cluster.shards old) where
+  -- it is the turn over a shard, as it was found: from where the task reads it, it shows what was written
+  module _ (index : List ℕ) (number : ℕ) (place : place_of r.work ≡ Some (index, number)) (old new : Shards) (has : HasWritten (so_far s.corpus.now s.script.now s.history) s.cluster.shards tied.oldest old) where
     pub shard_there : IfSome (get_by_text old.by_index index) (λ list. number < length list.items)
     shard_there = of_list (get_by_text old.by_index index) (has.as_many index)
       where
@@ -72,33 +85,73 @@ module _ (s : State) (tied : IsTied s) (t : TaskId) (r : Running) (live : is_liv
         of_list None many = tt
         of_list (Some list) many = subst (λ n. number < n) (sym many) low
 
+    abbrev from : ℕ
+    from = tied.oldest index number
+
+    own_is : own ≡ writes_of (so_far s.corpus.now s.script.now s.history) s.cluster.shards index number
+    own_is = turns.own_at s.cluster s.corpus.now s.script.now s.history (task_at s.tasks) s.tables.items s.flight tied.ties t s.clock r live passed unmarked here index number place
+
+    was_written : from ≤ length own
+    was_written = subst (λ those. from ≤ length those) (sym own_is) (has.low index number)
+
+    reads : WorkReadsFrom from r.work
+    reads = work_reads s tied t live passed r here index number place
+
     module _ (found : List Doc) (there : found ≡ writes_in old index number) where
-      pub is_own : found ≡ own
-      is_own = there ∙ has.each index number ∙ sym (turns.own_at s.cluster s.corpus.now s.script.now s.history (task_at s.tasks) s.tables.items s.flight tied.ties t s.clock r live passed unmarked here index number place)
+      shows : ShowsFrom from own found
+      shows = subst (λ those. ShowsFrom from those found) (sym own_is) (subst (ShowsFrom from (writes_of (so_far s.corpus.now s.script.now s.history) s.cluster.shards index number)) (sym there) (has.each index number))
 
       pub works_on : IsWorkOn r.work found
-      works_on = let laws = turns.laws s.cluster s.corpus.now s.script.now s.history (task_at s.tasks) s.tables.items s.flight tied.ties t s.clock r live passed unmarked here in subst (IsWorkOn r.work) (sym is_own) laws.on
+      works_on = let laws = turns.laws s.cluster s.corpus.now s.script.now s.history (task_at s.tasks) s.tables.items s.flight tied.ties t s.clock r live passed unmarked here in works_on_shown from own found shows was_written r.work reads laws.on
+
+      -- it takes a turn over it
+      pub turns_over : (now : ℕ) × (next_of r.work found now ≡ Turn)
+      turns_over = (s.clock, subst (λ o. DoesNext o s.clock Turn) here does found works_on)
 
       pub noted_is : (notes : List WriteNote) → notes ≡ work_notes r.work found → turned_in s t ≡ with_notes notes (worked t ∷ s.history)
-      noted_is notes are = past_is ∙ ap (λ those. with_notes those (worked t ∷ s.history)) (sym (are ∙ ap (work_notes r.work) is_own))
+      noted_is notes are = past_is ∙ ap (λ those. with_notes those (worked t ∷ s.history)) (sym (are ∙ notes_shown from own found shows was_written r.work))
 
       module _ (w : Work) (left : List Doc) (turned : w ≡ with_turn r.work found) (on : IsWorkOn w left) (written : left ≡ found ++ docs_next r.work) (few : length left < 2 ^ 32)
-          (replaces : Replaces index number left old new) (from_start : (q : List ℕ) → was_there old q ≡ was_there s.shards q) (after : BTreeMap TaskId Running) (now_here : task_at after t ≡ Some (record r { work = w })) (others : (q : TaskId) → same_task t q ≡ false → task_at after q ≡ task_at s.tasks q) where
-        has_later : HasWritten (so_far s.corpus.now s.script.now (with_notes (work_notes r.work own) (worked t ∷ s.history))) s.cluster.shards new
-        has_later = subst (λ now. HasWritten now s.cluster.shards new) (sym (turns.later_is s.cluster s.corpus.now s.script.now s.history (task_at s.tasks) s.tables.items s.flight tied.ties t s.clock r live passed unmarked here index number place))
-            (appended (so_far s.corpus.now s.script.now s.history) s.cluster.shards old new index number (docs_next r.work) has
+          (replaces : Replaces index number left old new) (from_start : (q : List ℕ) → was_there old q ≡ was_there s.shards q) (marked : Shards) (as_new : IsNotedAs new marked)
+          (after : BTreeMap TaskId Running) (now_here : task_at after t ≡ Some (record r { work = w })) (others : (q : TaskId) → same_task t q ≡ false → task_at after q ≡ task_at s.tasks q) where
+        in_shard : AllByRecursion (λ doc. shard_of doc.id s.cluster.shards ≡ number) (docs_next r.work)
+        in_shard = turns.in_its_shard s.cluster s.corpus.now s.script.now s.history (task_at s.tasks) s.tables.items s.flight tied.ties t s.clock r live passed unmarked here index number place
+
+        has_later : HasWritten (so_far s.corpus.now s.script.now (with_notes (work_notes r.work own) (worked t ∷ s.history))) s.cluster.shards tied.oldest marked
+        has_later = as_new.written _ s.cluster.shards tied.oldest
+            (subst (λ now. HasWritten now s.cluster.shards tied.oldest new) (sym (turns.later_is s.cluster s.corpus.now s.script.now s.history (task_at s.tasks) s.tables.items s.flight tied.ties t s.clock r live passed unmarked here index number place))
+            (appended (so_far s.corpus.now s.script.now s.history) s.cluster.shards tied.oldest old new index number (docs_next r.work) has
             (subst (λ those. Replaces index number those old new) (written ∙ ap (λ those. those ++ docs_next r.work) there) replaces)
-            (turns.in_its_shard s.cluster s.corpus.now s.script.now s.history (task_at s.tasks) s.tables.items s.flight tied.ties t s.clock r live passed unmarked here index number place)
-            (subst (λ those. length those < 2 ^ 32) (sym replaces.here) few))
+            in_shard
+            (subst (λ those. length those < 2 ^ 32) (sym replaces.here) few)))
 
-        shard_later : own_writes s.cluster (so_far s.corpus.now s.script.now (with_notes (work_notes r.work own) (worked t ∷ s.history))) (request_of (scripted s.script.now) t s.history) ≡ left
-        shard_later = turns.own_later s.cluster s.corpus.now s.script.now s.history (task_at s.tasks) s.tables.items s.flight tied.ties t s.clock r live passed unmarked here index number place ∙ sym (has_later.each index number) ∙ replaces.here
+        turned_own : w ≡ with_turn r.work own
+        turned_own = turned ∙ turn_shown from own found shows was_written r.work reads
 
-        tied_so : IsTied (record s { shards = new; history = with_notes (work_notes r.work own) (worked t ∷ s.history); tasks = after })
+        -- what lies in its shard then
+        shard_later : own_writes s.cluster (so_far s.corpus.now s.script.now (with_notes (work_notes r.work own) (worked t ∷ s.history))) (request_of (scripted s.script.now) t s.history) ≡ own ++ docs_next r.work
+        shard_later =
+            let here_too : (bytes_eq index index && (number == number)) ≡ true = rw ((bytes_eq-Decides index index).1 refl) (grind (arith, nat_tests)) in
+            turns.own_later s.cluster s.corpus.now s.script.now s.history (task_at s.tasks) s.tables.items s.flight tied.ties t s.clock r live passed unmarked here index number place
+            ∙ ap (λ now. writes_of now s.cluster.shards index number) (turns.later_is s.cluster s.corpus.now s.script.now s.history (task_at s.tasks) s.tables.items s.flight tied.ties t s.clock r live passed unmarked here index number place)
+            ∙ writes_append (so_far s.corpus.now s.script.now s.history).lines (lines_of index (docs_next r.work)) s.cluster.shards index number
+            ∙ ap (λ those. those ++ writes_of (record { lines = lines_of index (docs_next r.work) }) s.cluster.shards index number) (sym own_is)
+            ∙ ap (λ those. own ++ those) (writes_of_one index (docs_next r.work) s.cluster.shards number index number in_shard ∙ ap (λ b. cond b (docs_next r.work) []) here_too)
+
+        on_later : IsWorkOn w (own_writes s.cluster (so_far s.corpus.now s.script.now (with_notes (work_notes r.work own) (worked t ∷ s.history))) (request_of (scripted s.script.now) t s.history))
+        on_later =
+            let shows_later : ShowsFrom from (own ++ docs_next r.work) left = subst (ShowsFrom from (own ++ docs_next r.work)) (sym written) (shows_more from own found shows was_written (docs_next r.work)) in
+            let many = length-append own (docs_next r.work) in
+            let low : from ≤ length own = was_written in
+            let low_later : from ≤ length (own ++ docs_next r.work) = omega (arith, low, many) in
+            let reads_then : WorkReadsFrom from w = subst (WorkReadsFrom from) (sym turned_own) (reads_after_turn from own found shows was_written r.work reads) in
+            subst (IsWorkOn w) (sym shard_later) (works_on_own from (own ++ docs_next r.work) left shows_later low_later w reads_then on)
+
+        tied_so : IsTied (record s { shards = marked; history = with_notes (work_notes r.work own) (worked t ∷ s.history); tasks = after })
         tied_so = record {
           ties = turns.after_work s.cluster s.corpus.now s.script.now s.history (task_at s.tasks) s.tables.items s.flight tied.ties t s.clock r live passed unmarked here
               (turns.grows_so s.cluster s.corpus.now s.script.now s.history (task_at s.tasks) s.tables.items s.flight tied.ties t s.clock r live passed unmarked here index number place)
-              w next (turned ∙ ap (with_turn r.work) is_own) (shard_later ∙ written ∙ ap (λ those. those ++ docs_next r.work) is_own) (subst (IsWorkOn w) (sym shard_later) on)
+              w next turned_own shard_later on_later
               tied.awaits (task_at after) now_here others;
           cancels = notes_keep (λ g. Cancelling s.cluster (λ u. waiting_for u g) g s.tables.items (get nat_cmp s.roots) s.bans.items s.cores.items s.listings)
               (λ i k outcome id g known. noted s.cluster (λ u. waiting_for u g) g _ _ _ _ _ known (Write i k outcome id) refl refl) (work_notes r.work own) (worked t ∷ s.history)
@@ -110,9 +163,11 @@ module _ (s : State) (tied : IsTied s) (t : TaskId) (r : Running) (live : is_liv
           pages = notes_keep (λ g. Paging s.cluster s.corpus.now s.script.now g s.contexts.items)
               (λ i k outcome id g pages. quiet_pages s.cluster s.corpus.now s.script.now g s.contexts.items pages (Write i k outcome id) refl) (work_notes r.work own) (worked t ∷ s.history)
               (quiet_pages s.cluster s.corpus.now s.script.now s.history s.contexts.items tied.pages (worked t) refl);
-          shards = record { has = has_later; from_start = λ q. replaces.from_start q ∙ from_start q ∙ tied.shards.from_start q };
+          shards = record { has = has_later; from_start = λ q. as_new.from_start q ∙ replaces.from_start q ∙ from_start q ∙ tied.shards.from_start q };
           awaits = notes_keep AwaitsNoMark (λ i k outcome id g awaits. tt) (work_notes r.work own) (worked t ∷ s.history) tt;
+          oldest = tied.oldest;
+          reads = notes_reads tied.oldest s.cluster s.corpus.now s.script.now (work_notes r.work own) (worked t ∷ s.history) (reads_after tied.oldest s.cluster s.corpus.now s.script.now s.history tied.reads tied.ties.lawful (worked t) tt);
         }
 
-        pub turn_tied : IsTied (record s { shards = new; history = turned_in s t; tasks = after })
-        turn_tied = subst (λ past. IsTied (record s { shards = new; history = past; tasks = after })) (sym past_is) tied_so
+        pub turn_tied : IsTied (record s { shards = marked; history = turned_in s t; tasks = after })
+        turn_tied = subst (λ past. IsTied (record s { shards = marked; history = past; tasks = after })) (sym past_is) tied_so

@@ -14,7 +14,9 @@ pub mod Moves
 pub mod Owning
 pub mod Paging
 pub mod Plain
+pub mod Purging
 pub mod QueryRuns
+pub mod Reads
 pub mod ReindexRuns
 pub mod SearchRuns
 pub mod Ties

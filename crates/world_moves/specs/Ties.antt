@@ -48,6 +48,7 @@ use Rattle.world_moves.specs.Cancelling.{Cancelling}
 use Rattle.world_moves.specs.Describing.{Describing}
 use Rattle.world_moves.specs.Left.{HasLeft, left_in}
 use Rattle.world_moves.specs.Paging.{Paging}
+use Rattle.world_moves.specs.Reads.{Oldest, ReadsFrom}
 
 -- the work of a task is as far as the past says, for what it was asked to do
 abbrev pub WorksFor : Cluster → Corpus → TaskId → Bool → Progress → List Request → List (Option ℕ) → Option Request → Work → Type 0
@@ -145,14 +146,22 @@ HasDescriptions s = Describing s.script.now s.history s.tables.items s.flight s.
 abbrev pub HasContexts : State → Type 0
 HasContexts s = Paging s.cluster s.corpus.now s.script.now s.history s.contexts.items
 
--- the shards have what is written, and tell which indices are known from the start
-pub record HoldsShards (written corpus : Corpus) (commands : List Command) (count : ℕ) (shards : Shards) : Type 0 where
-  pub has : HasWritten written count shards
+-- the shards show what is written, from some versions on, and tell which indices are known from the start
+pub record HoldsShards (written corpus : Corpus) (commands : List Command) (count : ℕ) (oldest : Oldest) (shards : Shards) : Type 0 where
+  pub has : HasWritten written count oldest shards
   pub from_start : (index : List ℕ) → was_there shards index ≡ is_known corpus commands index
 
 -- and the shards
-abbrev pub HasShards : State → Type 0
-HasShards s = HoldsShards (so_far s.corpus.now s.script.now s.history) s.corpus.now s.script.now.commands s.cluster.shards s.shards
+abbrev pub HasShards : Oldest → State → Type 0
+HasShards oldest s = HoldsShards (so_far s.corpus.now s.script.now s.history) s.corpus.now s.script.now.commands s.cluster.shards oldest s.shards
+
+-- and no version of a shard is read below these
+abbrev pub HasReads : Oldest → State → Type 0
+HasReads oldest s = ReadsFrom oldest s.cluster s.corpus.now s.script.now s.history
+
+-- the shards, of which no version is read below some
+abbrev pub HasShardsRead : State → Type 0
+HasShardsRead s = (oldest : Oldest) × HasShards oldest s × HasReads oldest s
 
 -- All tables say of the past what they should, while one cancel, perhaps, is still naming tasks.
 pub record IsTiedWhile (naming : Option ℕ) (s : State) : Type 0 where
@@ -161,7 +170,9 @@ pub record IsTiedWhile (naming : Option ℕ) (s : State) : Type 0 where
   pub counts : HasLeft naming s.history (left_in s.left)
   pub tells : HasDescriptions s
   pub pages : HasContexts s
-  pub shards : HasShards s
+  pub oldest : Oldest
+  pub reads : HasReads oldest s
+  pub shards : HasShards oldest s
   pub awaits : AwaitsNoMark s.history
 
 -- and while none is

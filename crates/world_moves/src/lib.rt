@@ -16,6 +16,7 @@ pub mod marks;
 pub mod pages;
 pub mod passing;
 pub mod performing;
+pub mod purging;
 pub mod requests;
 pub mod rows;
 mod sending;

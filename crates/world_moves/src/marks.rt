@@ -8,7 +8,7 @@ ghost use Rattle.world_moves.specs.Cancels.{waiting_for, waits_for_end};
 ghost use Rattle.world_moves.specs.Cancelling.{waiting_but, cancels_of, naming_of};
 ghost use Rattle.world_moves.specs.Left.{HasLeft, left_in};
 ghost use Rattle.world_moves.specs.Moves.{IsPartOf};
-ghost use Rattle.world_moves.specs.Ties.{HasTies, HasCancels, HasDescriptions, HasContexts, HasShards, IsTiedWhile, Keeps, KeepsLaws};
+ghost use Rattle.world_moves.specs.Ties.{HasTies, HasCancels, HasDescriptions, HasContexts, HasShardsRead, IsTiedWhile, Keeps, KeepsLaws};
 
 use crate::append::append;
 use crate::performing::{count_down, send_all};
@@ -33,7 +33,7 @@ pub fn mark(
     requires counts { HasLeft (naming_of waiter) state.old.history (left_in state.old.left) }
     requires tells { HasDescriptions state.old }
     requires pages { HasContexts state.old }
-    requires shards { HasShards state.old }
+    requires shards { HasShardsRead state.old }
     requires lawful { Lawful state.old.cluster (Event.Mark task cancel ∷ state.old.history) }
     requires number { IsCancel cancel }
     requires waiting { waiting_for task state.old.history ≡ cancels_of waiter }

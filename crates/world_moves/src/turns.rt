@@ -5,14 +5,18 @@ ghost use Rattle.task_events.specs.declared.history.TheConstants.{MAX_EVENTS};
 ghost use Rattle.task_events.specs.Bans.{mark_of};
 ghost use Rattle.task_events.specs.Tasks.{is_live, is_new};
 ghost use Rattle.task_events.specs.Written.{write_of, with_notes};
+ghost use Rattle.corpus_shards.specs.Stored.{IsNotedAs};
 ghost use Rattle.world_moves.specs.Moves.{IsPartOf, IsCutShort};
 ghost use Rattle.world_moves.specs.Ties.{IsTied, Keeps, KeepsLaws, task_at, turned_in};
 ghost use Rattle.node_parts.specs.Running.{DoesNext};
 
 use crate::append::append;
 use crate::state::State;
+use corpus_shards::Shards;
+use shared_value::Shared;
+use std::alloc::AllocError;
 use task_events::{Do, Event, History, Outcome, Stop, WriteNote};
-use task_ids::TaskId;
+use task_ids::{TaskId, Text};
 
 /// The event of a write that is noted. It takes no memory, and fails only where a text of it has too many owners (`Memory`).
 fn write_of(note: &WriteNote) -> Result<Event, Stop>
@@ -50,6 +54,22 @@ fn note_turn(history: &mut History, task: TaskId, notes: &[WriteNote]) -> Result
     Ok(())
 }
 
+/// Notes a shard that has dead rows, where it had none before. It fails only for want of memory.
+fn note_dead(
+    shards: &mut Shards,
+    index: Shared<Text>,
+    shard: u32,
+    had_dead: bool,
+    has_dead: bool,
+) -> Result<(), AllocError>
+    ensures { IsNotedAs shards.old shards.new }
+{
+    if had_dead || !has_dead {
+        return Ok(());
+    }
+    shards.note_stale(index, shard)
+}
+
 /// A task that has passed and whose work takes a turn next takes it, over its shard. What it writes is noted, a document at a time. An
 /// index that has no shards yet gets them.
 ///
@@ -85,9 +105,14 @@ pub fn turn(state: &mut State<'_>, task: TaskId) -> Result<(), Stop>
     let Some(shard) = state.shards.get_mut(index.get().as_str(), number) else {
         unreachable!()
     };
+    let had_dead = shard.has_dead();
     let Ok(notes) = running.work.turn(shard) else {
         return Err(Stop::Memory);
     };
     let _version = shard.version();
+    let has_dead = shard.has_dead();
+    let Ok(()) = note_dead(&mut state.shards, index, number, had_dead, has_dead) else {
+        return Err(Stop::Memory);
+    };
     note_turn(&mut state.history, task, notes.as_slice())
 }

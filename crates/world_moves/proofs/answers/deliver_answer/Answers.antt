@@ -16,6 +16,7 @@ use Rattle.corpus_shards.proofs.Cases.{some_of, then_ok, of_err}
 use Rattle.world_moves.proofs.DescriptionsAfter.{quiet_sent, carry_taken}
 use Rattle.world_moves.proofs.QuietCounts.{still_counts}
 use Rattle.world_moves.proofs.PagesAfter.{quiet_pages}
+use Rattle.world_moves.proofs.ReadsAfter.{reads_after}
 use Rattle.world_moves.proofs.answers.deliver_answer.Goals as goal
 
 pub unreachable-requires : goal.unreachable-requires
@@ -74,6 +75,8 @@ returns-clause-tied c =
       pages = rw happened (quiet_pages s.cluster s.corpus.now s.script.now s.history s.contexts.items c.requires.tied.pages (Answered c.in-Some.parent c.take_answer-receipt.result.0.ask) refl);
       shards = rw happened c.requires.tied.shards;
       awaits = subst AwaitsNoMark (sym happened) tt;
+      oldest = c.requires.tied.oldest;
+      reads = rw happened (reads_after c.requires.tied.oldest s.cluster s.corpus.now s.script.now s.history c.requires.tied.reads c.requires.tied.ties.lawful (Answered c.in-Some.parent c.take_answer-receipt.result.0.ask) tt);
     }))
 
 pub returns-clause-room : goal.returns-clause-room

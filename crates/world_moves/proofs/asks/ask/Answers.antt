@@ -16,6 +16,7 @@ use Rattle.world_moves.proofs.QuietCounts.{still_counts}
 use Rattle.world_moves.proofs.StepsAfter.{kept_running}
 use Rattle.corpus_shards.proofs.Cases.{some_of, then_ok}
 use Rattle.world_moves.proofs.PagesAfter.{asked_pages}
+use Rattle.world_moves.proofs.ReadsAfter.{reads_after}
 use Rattle.world_moves.proofs.asks.ask.Goals as goal
 
 pub ask-requires-clause-few : goal.ask-requires-clause-few
@@ -78,6 +79,8 @@ returns-clause-tied c =
       pages = asked_pages s.cluster s.corpus.now s.script.now s.history s.contexts.items c.requires.tied.pages c.requires.tied.ties.lawful c.args.task (last_ask c.args.task s.history + 1) c.node_for-to.result c.args.request ties.lawful.0 own;
       shards = c.requires.tied.shards;
       awaits = tt;
+      oldest = c.requires.tied.oldest;
+      reads = reads_after c.requires.tied.oldest s.cluster s.corpus.now s.script.now s.history c.requires.tied.reads c.requires.tied.ties.lawful asks refl;
     }))
 
 pub returns-clause-room : goal.returns-clause-room

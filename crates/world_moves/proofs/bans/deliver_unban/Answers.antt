@@ -10,6 +10,7 @@ use Rattle.world_moves.proofs.CutShort.{cut_only}
 use Rattle.world_moves.proofs.DescriptionsAfter.{quiet_sent, carry_taken}
 use Rattle.world_moves.proofs.QuietCounts.{still_counts}
 use Rattle.world_moves.proofs.PagesAfter.{quiet_pages}
+use Rattle.world_moves.proofs.ReadsAfter.{reads_after}
 use Rattle.world_moves.proofs.bans.deliver_unban.Goals as goal
 
 pub overflow_sub-node : goal.overflow_sub-node
@@ -46,6 +47,8 @@ returns-clause-tied c =
       pages = rw happened (quiet_pages s.cluster s.corpus.now s.script.now s.history s.contexts.items c.requires.tied.pages (BanGone c.args.node c.args.parent) refl);
       shards = rw happened c.requires.tied.shards;
       awaits = rw happened tt;
+      oldest = c.requires.tied.oldest;
+      reads = rw happened (reads_after c.requires.tied.oldest s.cluster s.corpus.now s.script.now s.history c.requires.tied.reads c.requires.tied.ties.lawful (BanGone c.args.node c.args.parent) tt);
     })
 
 pub returns-clause-full : goal.returns-clause-full

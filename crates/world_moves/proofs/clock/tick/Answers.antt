@@ -13,6 +13,7 @@ use Rattle.world_moves.proofs.ClockTies.{ticked}
 use Rattle.world_moves.proofs.DescriptionsAfter.{ticked_tells}
 use Rattle.world_moves.proofs.PagesAfter.{ticked_pages}
 use Rattle.world_moves.proofs.QuietCounts.{still_counts}
+use Rattle.world_moves.proofs.ReadsAfter.{reads_after}
 use Rattle.world_moves.proofs.clock.tick.Goals as goal
 
 -- the clock is far from its end
@@ -40,6 +41,8 @@ returns-clause-tied c =
           (λ q. c.expire.ensures.left q ∙ ap (λ m. unexpired (m + c.args.ms) (context_in s.contexts.items q)) moment);
       shards = c.requires.tied.shards;
       awaits = tt;
+      oldest = c.requires.tied.oldest;
+      reads = reads_after c.requires.tied.oldest s.cluster s.corpus.now s.script.now s.history c.requires.tied.reads c.requires.tied.ties.lawful (Tick c.args.ms) tt;
     })
 
 -- the clock is far from its end

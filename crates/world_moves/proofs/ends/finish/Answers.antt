@@ -2,8 +2,11 @@ use Rattle.std.proofs.Common.{◌∙◌, ◌-◌, ◌++◌, None, refl, ap, sym,
 use Rattle.std.specs.Prelude.{slice_set}
 use Rattle.task_table.specs.Table.{without_task}
 use Rattle.task_events.specs.declared.event.Event.TheVariants.{End}
+use Rattle.task_events.specs.Requests.{request_of}
+use Rattle.command_roots.specs.Roots.{scripted}
 use Rattle.world_moves.specs.Flights.{told_parent}
 use Rattle.world_moves.specs.Ties.{task_at}
+use Rattle.world_moves.proofs.OpensAbove.{opened_above, top_above}
 use Rattle.world_moves.proofs.KeptTasks.{at_changed, off_changed}
 use Rattle.world_moves.proofs.SameTies.{same_ties}
 use Rattle.world_moves.proofs.StepsAfter.{is_kept}
@@ -15,6 +18,7 @@ use Rattle.world_moves.proofs.NodeTables.{nobody_waits}
 use Rattle.world_moves.proofs.PagesLeft.{in_use, there, none_yet, opens_alone, fits, finished_pages}
 use Rattle.world_moves.proofs.TasksAfterLeave.{nothing_open, own_track, has_table, table_is, stands, runs}
 use Rattle.corpus_shards.proofs.Cases.{then_ok}
+use Rattle.world_moves.proofs.ReadsAfter.{RepliesFrom, reads_after}
 use Rattle.world_moves.proofs.ends.finish.Goals as goal
 
 pub unreachable-requires : goal.unreachable-requires
@@ -97,6 +101,10 @@ returns-clause-tied c =
     let high = (reach_facts s.cluster s.history c.requires.tied.ties.lawful).live_in c.args.task c.requires.live in
     let ended = after_finish s.cluster s.corpus.now s.script.now s.history _ _ _ c.requires.tied.ties c.requires.tied.shards.has.few c.args.task s.clock r c.args.reply c.requires.live c.requires.passed c.requires.unmarked was next c.requires.tied.awaits
     c.index_mut.result.now c.end_in-receipt.result _ its c.end_in-receipt.ensures.receipt (at_changed c.args.task None (task_at s.tasks) _ changed) (off_changed c.args.task None (task_at s.tasks) _ changed) in
+    let replies : RepliesFrom c.requires.tied.oldest (request_of (scripted s.script.now) c.args.task s.history) c.args.reply = record {
+      top = top_above s c.requires.tied c.args.task r c.args.reply c.requires.live c.requires.passed was next;
+      found = opened_above s c.requires.tied c.args.task r c.args.reply c.requires.live c.requires.passed was next;
+    } in
     then_ok c.append.result _ _ c.append.ensures.ok (λ happened. record {
       ties =
           same_ties s.cluster s.corpus.now s.script.now _ _ _ _ _ _ _ happened (ap (slice_set s.tables.items (c.args.task.node - 1)) row)
@@ -118,4 +126,6 @@ returns-clause-tied c =
           c.requires.tied.tells.clock_is ended.lawful.0 c.note_end.new.contexts.items c.in-Ok.ensures.as_many c.in-Ok.ensures.ended);
       shards = rw happened c.requires.tied.shards;
       awaits = rw happened tt;
+      oldest = c.requires.tied.oldest;
+      reads = rw happened (reads_after c.requires.tied.oldest s.cluster s.corpus.now s.script.now s.history c.requires.tied.reads c.requires.tied.ties.lawful (End c.args.task c.args.reply) replies);
     })

@@ -13,6 +13,7 @@ use Rattle.corpus_shards.proofs.Cases.{then_ok}
 use Rattle.world_moves.proofs.DescriptionsAfter.{quiet_sent, carry_both}
 use Rattle.world_moves.proofs.QuietCounts.{still_counts}
 use Rattle.world_moves.proofs.PagesAfter.{quiet_pages}
+use Rattle.world_moves.proofs.ReadsAfter.{reads_after}
 use Rattle.world_moves.proofs.listings.end_listing.Goals as goal
 
 pub overflow_sub-listing : goal.overflow_sub-listing
@@ -49,4 +50,6 @@ returns-clause-tied c =
       pages = rw happened (quiet_pages s.cluster s.corpus.now s.script.now s.history s.contexts.items c.requires.tied.pages (Listed n p) refl);
       shards = rw happened c.requires.tied.shards;
       awaits = rw happened tt;
+      oldest = c.requires.tied.oldest;
+      reads = rw happened (reads_after c.requires.tied.oldest s.cluster s.corpus.now s.script.now s.history c.requires.tied.reads c.requires.tied.ties.lawful (Listed n p) tt);
     }))

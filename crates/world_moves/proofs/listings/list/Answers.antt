@@ -16,6 +16,9 @@ mark-requires-clause-cancels c =
     let high = (reach_facts s.cluster s.history c.requires.tied.ties.lawful).live_in c.in-Some.task child.live in
     left_out s.cluster c.in-Some.task s.history _ _ s.bans.items s.cores.items s.listings child.unmarked high c.requires.tied.cancels
 
+pub mark-requires-clause-shards : goal.mark-requires-clause-shards
+mark-requires-clause-shards c = (c.requires.tied.oldest, c.requires.tied.shards, c.requires.tied.reads)
+
 pub mark-requires-clause-lawful : goal.mark-requires-clause-lawful
 mark-requires-clause-lawful c =
     let s = c.args.state.now in

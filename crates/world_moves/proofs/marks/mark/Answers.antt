@@ -28,6 +28,7 @@ use Rattle.world_moves.proofs.Tables.{table_of, node_has_table}
 use Rattle.world_moves.proofs.PagesAfter.{quiet_pages}
 use Rattle.command_roots.specs.Roots.{scripted}
 use Rattle.world_moves.specs.Owning.{OneAtATime}
+use Rattle.world_moves.proofs.ReadsAfter.{reads_after}
 use Rattle.world_moves.proofs.marks.mark.Goals as goal
 
 pub unreachable-requires : goal.unreachable-requires
@@ -126,6 +127,8 @@ returns-clause-tied c =
           (rows_marked s.script.now s.history s.tables.items (t.node - 1) t.number c.args.cancel c.index_mut.result.now row c.requires.tells.rows_are)
           (carry_both s.script.now s.history s.flight _ c.requires.tells.carried (acts_carry s.script.now s.history t.node done)) c.requires.tells);
       pages = rw past (quiet_pages s.cluster s.corpus.now s.script.now s.history s.contexts.items c.requires.pages (Mark t c.args.cancel) refl);
-      shards = rw past c.requires.shards;
+      shards = rw past c.requires.shards.1;
       awaits = subst AwaitsNoMark (sym past) tt;
+      oldest = c.requires.shards.0;
+      reads = rw past (reads_after c.requires.shards.0 s.cluster s.corpus.now s.script.now s.history c.requires.shards.2 c.requires.ties.lawful (Mark t c.args.cancel) tt);
     }

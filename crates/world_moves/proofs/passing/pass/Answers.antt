@@ -13,6 +13,7 @@ use Rattle.world_moves.proofs.CancelsUntouched.{noted}
 use Rattle.world_moves.proofs.DescriptionsAfter.{quiet}
 use Rattle.world_moves.proofs.PassesNow.{passed_here, others_here, page_there, page_usable, works_on, pages_after}
 use Rattle.world_moves.proofs.QuietCounts.{still_counts}
+use Rattle.world_moves.proofs.ReadsAfter.{reads_after}
 use Rattle.world_moves.proofs.passing.pass.Goals as goal
 
 pub page_work-requires : goal.page_work-requires
@@ -48,4 +49,6 @@ returns-clause-tied c =
           (λ q. c.take_page.ensures.taken q ∙ ap (λ o. after_taking s.clock t (option_map Scroll o) q (context_in s.contexts.items q)) page);
       shards = c.requires.tied.shards;
       awaits = tt;
+      oldest = c.requires.tied.oldest;
+      reads = reads_after c.requires.tied.oldest s.cluster s.corpus.now s.script.now s.history c.requires.tied.reads c.requires.tied.ties.lawful (Pass t) tt;
     })

@@ -41,6 +41,7 @@ use Rattle.world_moves.proofs.Lent.{copied_alike}
 use Rattle.world_moves.proofs.PagesAfter.{quiet_pages, put_pages}
 use Rattle.world_moves.specs.Describing.{longest_tick}
 use Rattle.world_moves.proofs.DescriptionsAfter.{longer}
+use Rattle.world_moves.proofs.ReadsAfter.{reads_after}
 use Rattle.world_moves.proofs.requests.deliver_request.Goals as goal
 
 pub child_of-requires : goal.child_of-requires
@@ -134,6 +135,8 @@ returns-in_ok-running-in-Ok-put_on-clause-tied c =
       pages = rw happened (put_pages s.cluster s.corpus.now s.script.now s.history s.contexts.items c.requires.tied.pages c.requires.tied.ties.lawful t token.parent token.ask ties.lawful.0);
       shards = rw happened c.requires.tied.shards;
       awaits = subst AwaitsNoMark (sym happened) tt;
+      oldest = c.requires.tied.oldest;
+      reads = rw happened (reads_after c.requires.tied.oldest s.cluster s.corpus.now s.script.now s.history c.requires.tied.reads c.requires.tied.ties.lawful (Put t token.parent token.ask) ties.lawful.0.takes.next);
     }))
 
 pub returns-in-Some-clause-delivered : goal.returns-in-Some-clause-delivered
@@ -171,6 +174,8 @@ returns-in-Some-clause-tied c =
       pages = rw happened (quiet_pages s.cluster s.corpus.now s.script.now s.history s.contexts.items c.requires.tied.pages (Reject to token.parent token.ask) refl);
       shards = rw happened c.requires.tied.shards;
       awaits = subst AwaitsNoMark (sym happened) tt;
+      oldest = c.requires.tied.oldest;
+      reads = rw happened (reads_after c.requires.tied.oldest s.cluster s.corpus.now s.script.now s.history c.requires.tied.reads c.requires.tied.ties.lawful (Reject to token.parent token.ask) tt);
     }))
 
 pub returns-in-Err-NumbersSpent-clause-spent : goal.returns-in-Err-NumbersSpent-clause-spent
