@@ -5,6 +5,7 @@ use Rattle.std.specs.List.{range_with_len}
 use Rattle.std.specs.BTreeSet.{BTreeSet, contains}
 use Rattle.std.specs.FinMap.{FinMap, empty, get, get-empty}
 use Rattle.task_events.specs.declared.context.Context.{Context}
+use Rattle.world_moves.specs.Reads.{ReadsFrom}
 use Rattle.world_moves.specs.Paging.{Paging, context_in}
 use Rattle.std.proofs.lemmas.List.FromFn.{length-map-range_with_len}
 use Rattle.std.proofs.lemmas.List.Elements.{All-nil}
@@ -119,3 +120,14 @@ nothing_opened cluster corpus script tables are = record {
   where
     none : FinMap task_id_cmp Context
     none = empty
+
+-- ---- what is read
+
+pub nothing_read : (cluster : Cluster) (corpus : Corpus) (script : Script) → ReadsFrom (λ index shard. 0) cluster corpus script []
+nothing_read cluster corpus script = record {
+  low = λ index shard. omega arith;
+  begun = λ t ask past live asked b. absurd (cc);
+  tops = λ p k ask top live asked told. absurd (cc);
+  contexts = λ id c there. absurd (cc);
+  pages = λ t c live shown. absurd (cc);
+}

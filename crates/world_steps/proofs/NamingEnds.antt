@@ -20,6 +20,7 @@ use Rattle.task_laws.proofs.Commands.{beginning_first, beginning_last}
 use Rattle.command_roots.specs.Roots.{scripted}
 use Rattle.node_parts.specs.declared.listing.Listing.{Listing}
 use Rattle.node_parts.specs.declared.running.Running.{Running}
+use Rattle.world_moves.specs.Reads.{Oldest, ReadsFrom}
 use Rattle.world_moves.specs.declared.flight.Sent.{Sent}
 use Rattle.world_moves.specs.Cancelling.{Cancelling}
 use Rattle.world_moves.specs.Cancels.{answer_by, is_answered, is_due, left_of, waiting_for, waits_for_end, with_answer}
@@ -27,6 +28,7 @@ use Rattle.world_moves.specs.Describing.{Describing}
 use Rattle.corpus_shards.specs.declared.Shards.{Shards}
 use Rattle.world_moves.specs.Good.{so_far}
 use Rattle.world_moves.specs.Paging.{Paging}
+use Rattle.world_moves.proofs.ReadsAfter.{reads_after}
 use Rattle.world_moves.proofs.PagesAfter.{quiet_pages}
 use Rattle.task_events.specs.declared.context.Context.{Context}
 use Rattle.world_moves.specs.Left.{HasLeft}
@@ -138,12 +140,20 @@ module _ (cluster : Cluster) (h : List Event) (c : ℕ) (wait : Bool) (naming : 
   pub pages_after_answer : (corpus : Corpus) (script : Script) (contexts : List (FinMap task_id_cmp Context)) → Paging cluster corpus script h contexts → Paging cluster corpus script (answer_by wait c ∷ h) contexts
   pages_after_answer corpus script contexts p = pages_by corpus script contexts p wait
 
-  pub shards_after_answer : (corpus : Corpus) (script : Script) (shards : Shards) → HoldsShards (so_far corpus script h) corpus script.commands cluster.shards shards → HoldsShards (so_far corpus script (answer_by wait c ∷ h)) corpus script.commands cluster.shards shards
-  shards_after_answer corpus script shards = by_kind wait
+  pub shards_after_answer : (corpus : Corpus) (script : Script) (oldest : Oldest) (shards : Shards) → HoldsShards (so_far corpus script h) corpus script.commands cluster.shards oldest shards
+      → HoldsShards (so_far corpus script (answer_by wait c ∷ h)) corpus script.commands cluster.shards oldest shards
+  shards_after_answer corpus script oldest shards = by_kind wait
     where
-      by_kind : (b : Bool) → HoldsShards (so_far corpus script h) corpus script.commands cluster.shards shards → HoldsShards (so_far corpus script (answer_by b c ∷ h)) corpus script.commands cluster.shards shards
+      by_kind : (b : Bool) → HoldsShards (so_far corpus script h) corpus script.commands cluster.shards oldest shards → HoldsShards (so_far corpus script (answer_by b c ∷ h)) corpus script.commands cluster.shards oldest shards
       by_kind true has = has
       by_kind false has = has
+
+  reads_by : (oldest : Oldest) (corpus : Corpus) (script : Script) → ReadsFrom oldest cluster corpus script h → (b : Bool) → ReadsFrom oldest cluster corpus script (answer_by b c ∷ h)
+  reads_by oldest corpus script reads true = reads_after oldest cluster corpus script h reads l (AnswerDone c) tt
+  reads_by oldest corpus script reads false = reads_after oldest cluster corpus script h reads l (AnswerPlaced c) tt
+
+  pub reads_after_answer : (oldest : Oldest) (corpus : Corpus) (script : Script) → ReadsFrom oldest cluster corpus script h → ReadsFrom oldest cluster corpus script (answer_by wait c ∷ h)
+  reads_after_answer oldest corpus script reads = reads_by oldest corpus script reads wait
 
   no_mark_by : (b : Bool) → AwaitsNoMark (answer_by b c ∷ h)
   no_mark_by true = tt

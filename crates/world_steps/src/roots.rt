@@ -26,11 +26,12 @@ use task_ids::{Headers, NewTask, TaskId};
 use task_table::PutError;
 use world_moves::append::append;
 use world_moves::pages::{clear, page_asked, take};
+use world_moves::purging::forget;
 use world_moves::starting::{keep_started, put_on, spend};
 use world_moves::state::State;
 
-/// A command begins, the next in order, and the context goes that it clears. Commands are numbered from 1.
-pub(crate) fn begin(state: &mut State<'_>, command: u32) -> Result<(), Stop>
+/// Notes that a command begins, the next in order. The context goes that it clears.
+fn note_begin(state: &mut State<'_>, command: u32) -> Result<(), Stop>
     requires tied { IsTied state.old }
     requires next { last_command state.old.history + 1 ≡ command }
     requires few { command ≤ 65536 }
@@ -46,6 +47,24 @@ pub(crate) fn begin(state: &mut State<'_>, command: u32) -> Result<(), Stop>
     append(&mut state.history, Event::Begin { command })?;
     clear(&mut state.contexts, goes);
     Ok(())
+}
+
+/// A command begins, the next in order, and the context goes that it clears. Commands are numbered from 1. Where no task is
+/// live, shards forget the rows that nothing reads any more.
+pub(crate) fn begin(state: &mut State<'_>, command: u32) -> Result<(), Stop>
+    requires tied { IsTied state.old }
+    requires next { last_command state.old.history + 1 ≡ command }
+    requires few { command ≤ 65536 }
+    ensures happened { OnOk result (state.new.history ≡ Event.Begin command ∷ state.old.history) }
+    ensures tied { OnOk result (IsTied state.new) }
+    ensures keeps { Keeps state.old state.new }
+    ensures err { OnErr result (state.new.history ≡ state.old.history) }
+    ensures full { result ≡ Err Stop.HistoryFull → length state.old.history ≡ MAX_EVENTS }
+    ensures numbers { result ≡ Err Stop.NumbersSpent → ⊥ }
+    ensures room { OnOk result (length state.new.history ≤ MAX_EVENTS) }
+{
+    forget(state);
+    note_begin(state, command)
 }
 
 /// Keeps the task of a root, and notes of which command it is and that it starts.

@@ -12,6 +12,7 @@ use Rattle.world_steps.specs.Naming.{CanName}
 use Rattle.world_steps.proofs.NamesOne.{names_none, names_one, ties_after_missing}
 use Rattle.world_steps.proofs.NamingEnds.{nothing_named}
 use Rattle.world_moves.proofs.PagesAfter.{quiet_pages}
+use Rattle.world_moves.proofs.ReadsAfter.{reads_after}
 use Rattle.world_steps.proofs.cancel_commands.cancel_one.Goals as goal
 
 pub cancel_tasks-requires-clause-can : goal.cancel_tasks-requires-clause-can
@@ -57,6 +58,8 @@ returns-clause-tied c =
       pages = rw happened (quiet_pages s.cluster s.corpus.now s.script.now s.history s.contexts.items c.requires.tied.pages (NotFound c.args.number) refl);
       shards = rw happened c.requires.tied.shards;
       awaits = rw happened tt;
+      oldest = c.requires.tied.oldest;
+      reads = rw happened (reads_after c.requires.tied.oldest s.cluster s.corpus.now s.script.now s.history c.requires.tied.reads c.requires.tied.ties.lawful (NotFound c.args.number) tt);
     }
 
 pub returns-in_err-append-clause-full : goal.returns-in_err-append-clause-full

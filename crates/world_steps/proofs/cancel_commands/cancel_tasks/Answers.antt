@@ -8,7 +8,7 @@ pub name_all-requires-clause-tied : goal.name_all-requires-clause-tied
 name_all-requires-clause-tied c =
     let s = c.args.state.now in
     let tied = c.requires.tied in
-    record { ties = tied.ties; cancels = tied.cancels; counts = counts_begin s.cluster s.history c.args.number c.requires.begun tied.ties.lawful _ tied.counts; tells = tied.tells; pages = tied.pages; shards = tied.shards; awaits = tied.awaits }
+    record { ties = tied.ties; cancels = tied.cancels; counts = counts_begin s.cluster s.history c.args.number c.requires.begun tied.ties.lawful _ tied.counts; tells = tied.tells; pages = tied.pages; shards = tied.shards; awaits = tied.awaits; oldest = tied.oldest; reads = tied.reads }
 
 pub name_all-requires-clause-naming : goal.name_all-requires-clause-naming
 name_all-requires-clause-naming c =

@@ -19,6 +19,7 @@ use Rattle.corpus_shards.proofs.Cases.{on_err}
 use Rattle.world_steps.proofs.NamedAfter.{cancel_lawful, ties_after_cancel, counts_after_cancel}
 use Rattle.world_steps.proofs.JoinsAfter.{waiter, join_counts, through_at_once, join_high, join_core, join_entry, join_open, join_noted, join_awaits}
 use Rattle.world_moves.proofs.PagesAfter.{quiet_pages}
+use Rattle.world_moves.proofs.ReadsAfter.{reads_after}
 use Rattle.world_steps.proofs.naming.join.Goals as goal
 
 pub index_mut-requires : goal.index_mut-requires
@@ -100,4 +101,6 @@ returns-clause-tied c =
       pages = rw happened (quiet_pages s.cluster s.corpus.now s.script.now s.history s.contexts.items c.requires.tied.pages (Cancel c.args.number c.args.task c.args.wait) refl);
       shards = rw happened c.requires.tied.shards;
       awaits = rw happened (join_awaits s.cluster s.history c.args.number c.args.task c.args.wait c.requires.naming c.requires.tied.ties.lawful c.requires.tied.awaits c.requires.live c.requires.fresh c.requires.marked);
+      oldest = c.requires.tied.oldest;
+      reads = rw happened (reads_after c.requires.tied.oldest s.cluster s.corpus.now s.script.now s.history c.requires.tied.reads c.requires.tied.ties.lawful (Cancel c.args.number c.args.task c.args.wait) tt);
     }

@@ -20,6 +20,7 @@ use Rattle.world_moves.proofs.TasksNamed.{left_few}
 use Rattle.corpus_shards.proofs.Cases.{on_err}
 use Rattle.world_steps.proofs.NamedAfter.{cancel_lawful, ties_after_cancel, cancels_after_cancel, counts_after_cancel, holds, mark_lawful, waits_alone, waits_as_told}
 use Rattle.world_moves.proofs.PagesAfter.{quiet_pages}
+use Rattle.world_moves.proofs.ReadsAfter.{reads_after}
 use Rattle.world_steps.proofs.naming.name_and_mark.Goals as goal
 
 -- nothing is there
@@ -93,6 +94,11 @@ pub mark-requires-clause-pages : goal.mark-requires-clause-pages
 mark-requires-clause-pages c =
     let s = c.args.state.now in
     rw c.in_ok-append.ensures.ok (quiet_pages s.cluster s.corpus.now s.script.now s.history s.contexts.items c.requires.tied.pages (Cancel c.args.number c.args.task c.args.wait) refl)
+
+pub mark-requires-clause-shards : goal.mark-requires-clause-shards
+mark-requires-clause-shards c =
+    let s = c.args.state.now in
+    rw c.in_ok-append.ensures.ok (c.requires.tied.oldest, c.requires.tied.shards, reads_after c.requires.tied.oldest s.cluster s.corpus.now s.script.now s.history c.requires.tied.reads c.requires.tied.ties.lawful (Cancel c.args.number c.args.task c.args.wait) tt)
 
 pub mark-requires-clause-lawful : goal.mark-requires-clause-lawful
 mark-requires-clause-lawful c =

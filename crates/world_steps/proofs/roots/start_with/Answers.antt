@@ -34,6 +34,7 @@ use Rattle.world_moves.proofs.PagesAfter.{quiet_pages}
 use Rattle.world_moves.proofs.PagesMoved.{rooted_pages}
 use Rattle.world_steps.proofs.Lent.{copied_alike}
 use Rattle.world_steps.proofs.PagesStart.{page_given, page_sound, page_there, take_usable, takes_free}
+use Rattle.world_moves.proofs.ReadsAfter.{reads_after}
 use Rattle.world_steps.proofs.roots.start_with.Goals as goal
 
 pub put_on-requires-clause-high : goal.put_on-requires-clause-high
@@ -98,6 +99,8 @@ returns-in_ok-keep_root-in-Ok-clause-tied c =
           c.args.command c.requires.asked (takes_free s.cluster s.corpus.now s.script.now s.history s.contexts.items pages c.requires.tied.ties.lawful s.clock c.args.command c.args.request.now c.requires.asked c.requires.usable) tied.lawful.0);
       shards = rw happened c.requires.tied.shards;
       awaits = subst AwaitsNoMark (sym happened) tt;
+      oldest = c.requires.tied.oldest;
+      reads = rw happened (reads_after c.requires.tied.oldest s.cluster s.corpus.now s.script.now s.history c.requires.tied.reads c.requires.tied.ties.lawful (Root c.args.command t) tied.lawful.0.takes.next);
     }
 
 pub returns-in-Ok-reject_root-clause-started : goal.returns-in-Ok-reject_root-clause-started
@@ -122,6 +125,8 @@ returns-in-Ok-reject_root-clause-tied c =
       pages = rw happened (quiet_pages s.cluster s.corpus.now s.script.now s.history s.contexts.items c.requires.tied.pages (RootRejected c.args.command c.args.node) refl);
       shards = rw happened c.requires.tied.shards;
       awaits = subst AwaitsNoMark (sym happened) tt;
+      oldest = c.requires.tied.oldest;
+      reads = rw happened (reads_after c.requires.tied.oldest s.cluster s.corpus.now s.script.now s.history c.requires.tied.reads c.requires.tied.ties.lawful (RootRejected c.args.command c.args.node) tt);
     }
 
 pub returns-in-Err-reject_root-clause-spent : goal.returns-in-Err-reject_root-clause-spent

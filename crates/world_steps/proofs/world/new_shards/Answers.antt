@@ -8,4 +8,4 @@ pub returns-in-Ok-clause-from_start : goal.returns-in-Ok-clause-from_start
 returns-in-Ok-clause-from_start c = λ index. c.in-Ok.ensures.known index ∙ ap (λ b. b || list_any (bytes_eq index) (dests_of c.args.script.now.commands)) (c.in_ok-shards.ensures.from_start index)
 
 pub returns-in-Ok-clause-written : goal.returns-in-Ok-clause-written
-returns-in-Ok-clause-written c = c.know_dests.ensures.written c.args.corpus.now c.args.count c.in_ok-shards.ensures.written
+returns-in-Ok-clause-written c = c.know_dests.ensures.written c.args.corpus.now c.args.count (λ _ _. 0) c.in_ok-shards.ensures.written

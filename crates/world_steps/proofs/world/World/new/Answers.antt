@@ -8,7 +8,7 @@ use Rattle.std.specs.Prelude.{unwrap_or}
 use Rattle.world_moves.specs.Left.{left_in}
 use Rattle.world_moves.specs.Listings.{listing_cmp}
 use Rattle.world_moves.specs.Ties.{task_at}
-use Rattle.world_steps.proofs.Empty.{nothing_yet, nothing_cancelled, nothing_counted, nothing_opened, nothing_told}
+use Rattle.world_steps.proofs.Empty.{nothing_yet, nothing_cancelled, nothing_counted, nothing_opened, nothing_read, nothing_told}
 use Rattle.world_steps.proofs.world.World.new.Goals as goal
 
 pub invariant_of-result : goal.invariant_of-result
@@ -22,6 +22,8 @@ invariant_of-result c = record {
     pages = rw c.new.ensures (nothing_opened c.args.cluster c.args.corpus.now c.args.script.now c.in-Ok-new_contexts.contexts.items c.in-Ok-new_contexts.ensures);
     shards = rw c.new.ensures (record { has = c.in-Ok-new_shards.ensures.written; from_start = c.in-Ok-new_shards.ensures.from_start });
     awaits = rw c.new.ensures tt;
+    oldest = λ index shard. 0;
+    reads = rw c.new.ensures (nothing_read c.args.cluster c.args.corpus.now c.args.script.now);
   };
   ready_known = rw c.new.ensures (record { tasks = c.new-7.ensures.tasks; kept = c.new-7.ensures.kept; alarms = c.new-7.ensures.alarms });
   can_run = c.requires.can;
