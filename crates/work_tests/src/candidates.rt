@@ -1,6 +1,7 @@
 //! The rows of a shard that have a value, and the living row of an id.
 
 use crate::phases::write;
+use crate::shards::purge;
 use query_match::{Pick, Scalar, Text, is_key};
 use shard_docs::Shard;
 use std::alloc::Global;
@@ -59,8 +60,22 @@ fn rows_are_found_by_a_value(rt: HostRuntime) {
 }
 
 #[test]
+fn rows_are_found_once_others_are_forgotten(rt: HostRuntime) {
+    let mut shard = shard(rt.alloc());
+    let Ok(k) = Text::from_str(rt.alloc(), "k") else {
+        assert!(rt; false);
+        return;
+    };
+    assert!(rt; purge(&mut shard, 3) == 1);
+    assert!(rt; with_number(&shard, &k, 2, 3, None) == [Some(1), Some(2)]);
+    assert!(rt; with_number(&shard, &k, 1, 3, None) == [None, None]);
+    assert!(rt; purge(&mut shard, 3) == 0);
+}
+
+#[test]
 fn the_living_row_of_an_id_is_found(rt: HostRuntime) {
-    let shard = shard(rt.alloc());
+    let mut shard = shard(rt.alloc());
+    let _forgotten = purge(&mut shard, 3);
     match shard.living(b"x") {
         Some((place, doc)) => assert!(rt; place == 2 && doc.id.get().as_str() == "x"),
         None => assert!(rt; false),

@@ -5,6 +5,8 @@
 #[cfg(test)]
 mod candidates;
 #[cfg(test)]
+mod forgetting;
+#[cfg(test)]
 mod pages;
 #[cfg(test)]
 mod phases;

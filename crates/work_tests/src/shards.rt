@@ -45,3 +45,24 @@ fn a_shard_is_read_as_of_any_version(rt: HostRuntime) {
     assert!(rt; shard.version() == 2 && shard.rows() == 2);
     assert!(rt; has_both(&shard));
 }
+
+/// Forgets what is dead at a version, or at the newest one where that is lower.
+pub(crate) fn purge(shard: &mut Shard, version: u32) -> u32 {
+    let newest = shard.version();
+    shard.purge(version.min(newest))
+}
+
+#[test]
+fn a_dead_row_is_forgotten_once(rt: HostRuntime) {
+    let mut shard = Shard::new(rt.alloc());
+    assert!(rt; write(rt.alloc(), &mut shard, r#"{"v":1}"#) == Some(Written::Created));
+    assert!(rt; write(rt.alloc(), &mut shard, r#"{"v":2}"#) == Some(Written::Updated));
+    assert!(rt; purge(&mut shard, 1) == 0 && has_both(&shard) && shard.has_dead());
+    assert!(rt; purge(&mut shard, 2) == 1 && purge(&mut shard, 2) == 0);
+    assert!(rt; !shard.has_dead());
+    assert!(rt; shard.version() == 2 && shard.rows() == 2);
+    assert!(rt; shard.row(2, 0).is_none() && number_of(shard.row(2, 1)) == Some(2));
+    assert!(rt; write(rt.alloc(), &mut shard, r#"{"v":3}"#) == Some(Written::Updated));
+    assert!(rt; number_of(shard.row(2, 1)) == Some(2) && number_of(shard.row(3, 2)) == Some(3));
+    assert!(rt; purge(&mut shard, 3) == 1 && number_of(shard.row(3, 2)) == Some(3));
+}
