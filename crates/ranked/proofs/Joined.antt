@@ -1,5 +1,5 @@
 -- What the items of a row of pieces are, and what an edit of one piece makes of them.
-use Rattle.std.proofs.Common.{◌≡◌, ℕ, zero, suc, ◌+◌, ◌-◌, ◌<◌, ◌≤◌, List, [], ◌∷◌, ◌++◌, length, get_or, set, take, drop, insert, remove, slice_get, Option, Some, None, OnSome, Result, Ok, Err, OnOk, OnErr, refl, sym, ◌∙◌, ap, subst, inl, inr, arith, add-one, append_assoc, length-append, length-take, length-drop}
+use Rattle.std.proofs.Common.{◌≡◌, ℕ, zero, suc, ◌+◌, ◌-◌, ◌<◌, ◌≤◌, List, [], ◌∷◌, ◌++◌, length, get_or, set, take, drop, insert, remove, slice_get, Option, Some, None, OnSome, Result, Ok, Err, OnOk, OnErr, refl, sym, ◌∙◌, ap, subst, inl, inr, arith, add-one, append_assoc, length-append}
 use Rattle.std.specs.Prelude.{All}
 use Rattle.std.proofs.lemmas.List.{append-nil, take_more_set, drop_more, drop_all, set_split, take-append-drop, drop-set-lt, take-set, nil_from_length, get_or_at, get_or_past, get_or_default, take_at, length-take-le}
 use Rattle.std.proofs.lemmas.Bool.{cases_lt}

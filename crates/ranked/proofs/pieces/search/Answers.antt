@@ -7,7 +7,7 @@ use Rattle.ranked.proofs.Joined.{piece_read}
 use Rattle.ranked.proofs.Searched.{ends_fall, absent_past, found_there, absent_there, items_fit}
 use Rattle.ranked.proofs.pieces.search.Given.{Over}
 use Rattle.ranked.proofs.pieces.search.Goals as goal
-use Rattle.ranked.proofs.pieces.search.Goals.{After-partition_point-at, After-search}
+use Rattle.ranked.proofs.pieces.search.Goals.{After-partition_point-at}
 
 parted : (g : Over) (c : After-partition_point-at g) → IsPartitionPoint (λ p. ends_below g.K.Ord.cmp c.args.key.now p ≡ true) (λ p. ends_below g.K.Ord.cmp c.args.key.now p ≡ false) c.args.pieces.now.items c.partition_point-at.result
 parted g c =
