@@ -1,5 +1,5 @@
 ghost use Rattle.std.specs.Prelude.{◌≡◌, ◌+◌, nat_le};
-ghost use Rattle.task_events.specs.Contexts.{is_expired, is_owned_by, version_kept};
+ghost use Rattle.task_events.specs.Contexts.{is_expired, is_owned_by, opens_context, version_kept};
 
 use crate::counts::ShardCounts;
 use crate::request::{HitKey, SearchAsk};
@@ -54,6 +54,15 @@ impl Context {
         } else {
             None
         }
+    }
+}
+
+impl SearchAsk {
+    /// Whether the search opens a context: where it has a keep-alive or an owner.
+    pub fn opens_context(&self) -> bool
+        ensures { result ≡ opens_context self.now }
+    {
+        self.scroll.is_some() || self.owner.is_some()
     }
 }
 

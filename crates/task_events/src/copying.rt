@@ -23,7 +23,8 @@ impl HitKey {
     }
 }
 
-fn copy_key(key: &Option<HitKey>) -> Result<Option<HitKey>, AllocError>
+/// An equal key, where there is one.
+pub fn copy_key(key: &Option<HitKey>) -> Result<Option<HitKey>, AllocError>
     ensures { IfOk result (λ copy. copy ≡ key.now) }
 {
     match key {

@@ -15,7 +15,7 @@ mod stop;
 mod summary;
 
 pub use context::Context;
-pub use copying::{copy_docs, copy_hits};
+pub use copying::{copy_docs, copy_hits, copy_key};
 pub use counts::ShardCounts;
 pub use event::{Event, Outcome};
 pub use events::Events;
