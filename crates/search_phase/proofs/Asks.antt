@@ -20,9 +20,6 @@ use Rattle.search_phase.proofs.Requests.{query_requests, requests_before, reques
 
 -- ---- a new ask
 
-unanswered : ℕ → Asked
-unanswered ask = record { ask = ask; answer = None }
-
 list_all-last : {X : Type 0} (p : X → Bool) (xs : List X) (x : X) → p x ≡ false → list_all p (xs ++ x ∷ []) ≡ false
 list_all-last p [] x e = rw e refl
 list_all-last p (y ∷ ys) x e = by_test (p y) (λ yes. rw yes (list_all-last p ys x e)) (λ other. rw other refl)

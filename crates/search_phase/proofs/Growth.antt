@@ -1,6 +1,6 @@
 -- What the shards of an index say at versions within their writes stays when they grow: so do honest answers, and the plain answer.
-use Rattle.std.specs.Prelude.{◌≡◌, ℕ, ◌≤◌, ◌==◌, List, [], ◌∷◌, ◌++◌, Bool, not, ◌&&◌, cond, Option, Some, None, IfSome, map, filter, filter_map, length, refl}
-use Rattle.std.specs.List.{flat_map, last_or, sum_by, AllByRecursion}
+use Rattle.std.specs.Prelude.{◌≡◌, ℕ, ◌≤◌, ◌==◌, List, [], ◌∷◌, ◌++◌, Bool, ◌&&◌, map, filter, filter_map, length, refl}
+use Rattle.std.specs.List.{flat_map}
 use Rattle.std.proofs.Common.{sym, ◌∙◌, ap, subst, arith}
 use Rattle.std.proofs.lemmas.Bool.{eqb-true}
 use Rattle.std.proofs.lemmas.List.{length-append, append-nil, append_assoc, map-append}
@@ -10,21 +10,17 @@ use Rattle.task_ids.specs.declared.corpus.Corpus.{Corpus}
 use Rattle.task_ids.specs.declared.corpus.CorpusLine.{CorpusLine}
 use Rattle.task_ids.specs.declared.doc.Doc.{Doc}
 use Rattle.task_ids.specs.Placing.{shard_of}
-use Rattle.task_events.specs.declared.reading.ShardRead.{ShardRead}
 use Rattle.task_events.specs.declared.request.HitKey.{HitKey}
 use Rattle.task_events.specs.declared.request.SearchAsk.{SearchAsk}
 use Rattle.task_events.specs.declared.request.Request.{Request}
 use Rattle.task_events.specs.declared.request.Request.TheVariants as asks
-use Rattle.task_events.specs.declared.reply.ShardCount.{ShardCount}
-use Rattle.task_events.specs.declared.reply.FailedShard.{FailedShard}
 use Rattle.task_events.specs.declared.reply.Reply.{Reply}
 use Rattle.task_events.specs.declared.reply.Reply.TheVariants.{Search, Top, Hits, AllFailed, Wrote, Cancelled, Rejected}
-use Rattle.task_events.specs.Answers.{ShardVersion, matching_keys, shard_top, hit_at, fetched, found_keys, winners, has_failed, hit_of, read_at, plain_answer}
+use Rattle.task_events.specs.Answers.{ShardVersion, matching_keys, shard_top, hit_at, fetched, found_keys, hit_of}
 use Rattle.task_events.specs.Documents.{writes_of}
-use Rattle.task_events.specs.HitOrder.{in_hit_order, is_after}
-use Rattle.task_events.specs.Readings.{Reading, shard_read, version_read}
-use Rattle.search_phase.specs.Growth.{HaveGrown, AreWithin, ShardReadsWithin, ReadsWithin, AsksWithin}
-use Rattle.search_phase.specs.Searching.{Searching, EachAnswer, IsHonest, AllHonest}
+use Rattle.task_events.specs.HitOrder.{in_hit_order}
+use Rattle.search_phase.specs.Growth.{HaveGrown, AreWithin}
+use Rattle.search_phase.specs.Searching.{IsHonest}
 use Rattle.search_phase.proofs.Growing.{matching_keys-grow, shard_top-grow, fetched-grow, hit_at-grow}
 use Rattle.search_phase.proofs.Sorting.{by_test}
 
@@ -50,10 +46,6 @@ writes_of-grow corpus more shards index shard = (
   where
     own : CorpusLine → Bool
     own line = bytes_eq index line.index && (shard_of line.doc.id shards == shard)
-
--- what follows from what holds of each answer holds of each
-pub EachAnswer-weaker : (P Q : Request → Reply → Type 0) (s : Searching) → ((request : Request) (reply : Reply) → P request reply → Q request reply) → EachAnswer P s → EachAnswer Q s
-EachAnswer-weaker P Q s f h place a request reply at wanted answered = f request reply (h place a request reply at wanted answered)
 
 module _ (earlier later : ℕ → List Doc) (grown : HaveGrown earlier later) where
   -- what more writes of a shard leave as it was stays
@@ -97,9 +89,6 @@ module _ (earlier later : ℕ → List Doc) (grown : HaveGrown earlier later) wh
   IsHonest-grow (asks.Bulk ask) reply h = tt
   IsHonest-grow (asks.BulkShard ask) reply h = tt
 
-  pub AllHonest-grow : (s : Searching) → AllHonest earlier s → AllHonest later s
-  AllHonest-grow s h = EachAnswer-weaker (IsHonest earlier) (IsHonest later) s IsHonest-grow h
-
   -- ---- the plain answer
 
   keys-grow : (ask : SearchAsk) (versions : List ShardVersion) → AreWithin earlier versions
@@ -122,51 +111,7 @@ module _ (earlier later : ℕ → List Doc) (grown : HaveGrown earlier later) wh
       (λ more. hit_at-grow index at.1 key.place (earlier key.shard) more (subst (λ shard. at.1 ≤ length (earlier shard)) (sym (eqb-true key.shard at.0 own)) within.0))))
       (λ other. rw other (hit_of-grow index versions key within.1))
 
-  -- the rows of some keys
-  pub hits_of-grow : (index : List ℕ) (versions : List ShardVersion) (keys : List HitKey) → AreWithin earlier versions
-      → filter_map (hit_of index later versions) keys ≡ filter_map (hit_of index earlier versions) keys
-  hits_of-grow index versions keys within = λ i. filter_map (λ key. hit_of-grow index versions key within i) keys
-
   -- all rows that match
   pub listed-grow : (ask : SearchAsk) (versions : List ShardVersion) → AreWithin earlier versions
       → filter_map (hit_of ask.index later versions) (found_keys ask later versions) ≡ filter_map (hit_of ask.index earlier versions) (found_keys ask earlier versions)
   listed-grow ask versions within = λ i. filter_map (λ key. hit_of-grow ask.index versions key within i) (found_keys-grow ask versions within i)
-
-  pub plain_answer-grow : (r : Reading) (answered : List ShardCount) (failed : List FailedShard) → AreWithin earlier (map read_at answered)
-      → plain_answer r later answered failed ≡ plain_answer r earlier answered failed
-  plain_answer-grow r answered failed within =
-      let versions : List ShardVersion = map read_at answered in
-      let found : found_keys r.ask later versions ≡ found_keys r.ask earlier versions = found_keys-grow r.ask versions within in
-      let won : winners r.ask.body (filter (is_after r.after) (found_keys r.ask later versions)) ≡ winners r.ask.body (filter (is_after r.after) (found_keys r.ask earlier versions)) =
-      ap (λ (keys : List HitKey). winners r.ask.body (filter (is_after r.after) keys)) found in
-      λ i. cond (length failed == length r.shards) (AllFailed failed) (Search (record {
-        context = r.context;
-        shards = answered;
-        failed = failed;
-        total = sum_by (λ (n : ShardCount). n.count) answered;
-        hits = filter_map (λ key. hit_of-grow r.ask.index versions key within i) (filter (λ key. not (has_failed failed key.shard)) (won i));
-        last = last_or None (won i);
-      }))
-
-  -- ---- what is asked for
-
-  if_within_later : (shard : ℕ) (version : Option ℕ) → IfSome version (λ version. version ≤ length (earlier shard)) → IfSome version (λ version. version ≤ length (later shard))
-  if_within_later shard None within = tt
-  if_within_later shard (Some version) within = within_later shard version within
-
-  pub AsksWithin-grow : (request : Request) → AsksWithin earlier request → AsksWithin later request
-  AsksWithin-grow (asks.Query ask) within = if_within_later ask.shard ask.version within
-  AsksWithin-grow (asks.Fetch ask) within = within_later ask.shard ask.version within
-  AsksWithin-grow (asks.Search ask) within = tt
-  AsksWithin-grow (asks.Scroll ask) within = tt
-  AsksWithin-grow (asks.Reindex ask) within = tt
-  AsksWithin-grow (asks.Slice ask) within = tt
-  AsksWithin-grow (asks.Bulk ask) within = tt
-  AsksWithin-grow (asks.BulkShard ask) within = tt
-
-  pub ReadsWithin-grow : (r : Reading) → ReadsWithin earlier r → ReadsWithin later r
-  ReadsWithin-grow r within = each_read r.shards within
-    where
-      each_read : (ats : List ShardRead) → AllByRecursion (ShardReadsWithin earlier) ats → AllByRecursion (ShardReadsWithin later) ats
-      each_read [] within = tt
-      each_read (at ∷ ats) within = (if_within_later (shard_read at) (version_read at) within.0, each_read ats within.1)

@@ -27,4 +27,3 @@ pub mod Roots
 pub mod Rows
 pub mod Sorting
 pub mod Turns
-pub mod Within

@@ -1,6 +1,6 @@
 -- What is found in lists that were filtered, mapped and cut.
 use Rattle.std.specs.Prelude.{◌≡◌, ℕ, zero, suc, ◌+◌, ◌<◌, ◌⊎◌, List, [], ◌∷◌, ◌++◌, Bool, true, false, ◌||◌, cond, Option, Some, None, is_some, option_map, map, filter, filter_map, find, zip, take, drop, length, slice_get, refl}
-use Rattle.std.proofs.Common.{sym, ◌∙◌, ap, subst, arith, inl, inr, add-zero, add-suc, zero-add}
+use Rattle.std.proofs.Common.{sym, ◌∙◌, ap, subst, arith, inl, inr, add-zero, add-suc}
 use Rattle.std.specs.List.{list_any, list_all, flat_map, AllByRecursion}
 use Rattle.std.specs.Map.{lookup}
 use Rattle.search_phase.proofs.Sorting.{by_test}
@@ -95,13 +95,6 @@ find_passes p (y ∷ ys) x e =
     (λ yes. let f : Some y ≡ Some x = rw yes at e in let g : y ≡ x = cc in sym (ap p g) ∙ yes)
     (λ no. find_passes p ys x (rw no at e))
 
-pub find_in : {X : Type 0} (p : X → Bool) (xs : List X) (x : X) → find p xs ≡ Some x → IsIn x xs
-find_in p [] x e = absurd cc
-find_in p (y ∷ ys) x e =
-    by_test (p y)
-    (λ yes. let f : Some y ≡ Some x = rw yes at e in let g : x ≡ y = cc in inl g)
-    (λ no. inr (find_in p ys x (rw no at e)))
-
 pub is_some-find : {X : Type 0} (p : X → Bool) (xs : List X) → is_some (find p xs) ≡ list_any p xs
 is_some-find p [] = refl
 is_some-find p (x ∷ xs) = by_test (p x) (λ yes. rw yes refl) (λ no. rw no (is_some-find p xs))
@@ -153,15 +146,3 @@ slice_get-take zero i xs x e = absurd cc
 slice_get-take (suc n) i [] x e = absurd cc
 slice_get-take (suc n) zero (y ∷ ys) x e = (e, omega arith)
 slice_get-take (suc n) (suc i) (y ∷ ys) x e = let r : (slice_get ys i ≡ Some x) × (i < n) = slice_get-take n i ys x e in (r.0, omega arith)
-
--- P of each element and its place, from a first place on
-abbrev pub EachFrom : {X : Type 0} → (ℕ → X → Type 0) → ℕ → List X → Type 0
-EachFrom P n [] = Unit {0}
-EachFrom P n (x ∷ xs) = P n x × EachFrom P (suc n) xs
-
-pub each_by_place : {X : Type 0} (P : ℕ → X → Type 0) (n : ℕ) (xs : List X) → ((i : ℕ) (x : X) → slice_get xs i ≡ Some x → P (i + n) x) → EachFrom P n xs
-each_by_place P n [] f = tt
-each_by_place {X} P n (x ∷ xs) f = (
-  let Q : ℕ → Type 0 = λ m. P m x in subst Q (zero-add n) (f zero x refl),
-  each_by_place P (suc n) xs (λ i y e. let Q : ℕ → Type 0 = λ m. P m y in let k : suc i + n ≡ i + suc n = omega arith in subst Q k (f (suc i) y e)),
-)

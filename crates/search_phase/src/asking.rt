@@ -8,10 +8,10 @@ ghost use Rattle.search_phase.specs.FetchPhase.{fetch_by, request_by};
 
 use crate::fetching::Fetching;
 use crate::possible::{fetch_can_have, query_can_have};
-use crate::reading::{Reading, copy_cursor, shard_read, version_read};
+use crate::reading::{Reading, shard_read, version_read};
 use shared_value::Shared;
 use std::alloc::{AllocError, Global};
-use task_events::{FetchAsk, Reply, Request, ShardAsk, ShardRead};
+use task_events::{FetchAsk, Reply, Request, ShardAsk, ShardRead, copy_key};
 
 /// The request of the query of a shard.
 fn query_request(
@@ -22,7 +22,7 @@ fn query_request(
     ensures { IfOk result (λ request. request ≡ Some (Request.Query (query_of reading.now at))) }
 {
     let ask = reading.ask();
-    let after = copy_cursor(reading.after())?;
+    let after = copy_key(reading.after())?;
     let index = ask.index.copy()?;
     let body = ask.body.copy()?;
     let query = ShardAsk {

@@ -9,7 +9,7 @@ ghost use Rattle.search_phase.specs.Searching.{reading_for, IsReading};
 
 use std::alloc::{AllocError, Global};
 use std::marker::Model;
-use task_events::{Context, HitKey, SearchAsk, ShardCount, ShardRead};
+use task_events::{Context, HitKey, SearchAsk, ShardCount, ShardRead, copy_key};
 use task_ids::{Items, TaskId};
 
 /// What is looked for, and in which shards.
@@ -59,21 +59,11 @@ pub(crate) fn version_read(at: ShardRead) -> Option<u32>
     }
 }
 
-/// An equal cursor.
-pub(crate) fn copy_cursor(after: &Option<HitKey>) -> Result<Option<HitKey>, AllocError>
-    ensures { IfOk result (λ copy. copy ≡ after.now) }
-{
-    match after {
-        Some(key) => Ok(Some(key.copy()?)),
-        None => Ok(None),
-    }
-}
-
 /// The context that a search opens, where it opens one.
 fn context_of(task: TaskId, ask: &SearchAsk) -> Option<TaskId>
     ensures { result ≡ context_of task ask.now }
 {
-    if ask.scroll.is_some() || ask.owner.is_some() {
+    if ask.opens_context() {
         Some(task)
     } else {
         None
@@ -127,7 +117,7 @@ fn page_reading(alloc: Global, context: &Context) -> Result<Reading, AllocError>
 {
     let ask = context.ask.get().copy()?;
     let shards = kept_shards(alloc, context.shards.as_slice())?;
-    let after = copy_cursor(&context.after)?;
+    let after = copy_key(&context.after)?;
     Ok(Reading {
         ask,
         shards,

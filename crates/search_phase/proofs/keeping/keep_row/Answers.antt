@@ -1,5 +1,5 @@
 -- A row that does not stand before the last key is not kept; where there is room it is.
-use Rattle.std.proofs.Common.{◌≡◌, ◌∷◌, ◌≤◌, ◌<◌, Bool, true, false, not, take, length, sym, ap, ◌∙◌, subst, arith, heap_items, refl}
+use Rattle.std.proofs.Common.{◌≡◌, ◌∷◌, true, false, take, length, sym, ap, ◌∙◌, subst, arith}
 use Rattle.std.specs.Ordering.{is_lt}
 use Rattle.task_events.specs.Answers.{hit_key}
 use Rattle.task_events.specs.HitOrder.{placed, hit_cmp, in_hit_order}

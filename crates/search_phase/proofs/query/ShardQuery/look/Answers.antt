@@ -1,5 +1,5 @@
 -- The rows of one more turn are counted, and their keys are kept among the first.
-use Rattle.std.proofs.Common.{◌≡◌, ℕ, ◌+◌, ◌-◌, ◌*◌, ◌<◌, ◌≤◌, ◌++◌, List, length, map, take, filter, Option, Some, sym, ap, ◌∙◌, subst, arith, heap_items}
+use Rattle.std.proofs.Common.{◌≡◌, ℕ, ◌+◌, ◌-◌, ◌*◌, ◌≤◌, ◌++◌, List, length, take, filter, Some, sym, ap, ◌∙◌, subst, arith, heap_items}
 use Rattle.std.specs.List.{slice_get}
 use Rattle.std.specs.Option.{option_or}
 use Rattle.task_events.specs.declared.request.HitKey.{HitKey}
