@@ -10,7 +10,6 @@ use Rattle.atomic_table.specs.Table.{step, Allows}
 use Rattle.race_board.specs.Words.{number, parent, cancel, banned, by, with_mark}
 use Rattle.race_board.specs.Board.{ban, task, In, BoardAt, BoardOk}
 use Rattle.race_board.specs.Steps.{Sat, after_note, after_ban, after_scan, after_mark, after_half, after_whole, after_lift}
-use Rattle.race_board.specs.Events.{listed}
 use Rattle.race_board.specs.StepEvents.{of_ban, of_scan, of_mark, of_unban}
 use Rattle.race_board.specs.Theorem.{Moment}
 use Rattle.race_board.specs.Turn.{Turned, Named, Rule, MayMark}

@@ -1,14 +1,13 @@
 -- The calls of the control seat, over one step.
-use Rattle.std.proofs.Common.{◌≡◌, ◌≢◌, ℕ, ◌+◌, ◌<◌, List, [], ◌∷◌, ◌++◌, length, get_or, set, sym, refl, ap, ◌∙◌, subst, arith, Option, None, Some, get_or-set_other, get_or-set_same, take, append-nil}
+use Rattle.std.proofs.Common.{◌≡◌, ◌≢◌, ℕ, ◌+◌, ◌<◌, List, ◌++◌, length, get_or, set, sym, refl, ap, ◌∙◌, subst, arith, Option, get_or-set_other, get_or-set_same, take, append-nil}
 use Rattle.std.proofs.lemmas.List.{set-set, set-get_or}
 use mathlib.Core.Logic.{dite}
 use native.Mathlib.Decide.{ℕ_discrete}
 use Rattle.race_board.specs.Words.{number, banned, by, ban_word}
 use Rattle.race_board.specs.Board.{ban, no_ban}
-use Rattle.race_board.specs.Steps.{did, noted, banning, with_ban, past, struck, missed}
+use Rattle.race_board.specs.Steps.{did, noted, banning, with_ban}
 use Rattle.race_board.specs.Calls.{Longer, Saw}
 use Rattle.race_board.specs.Lists.{with_one, last_with, Listing, Passes, SawNone}
-use Rattle.race_board.specs.declared.views.Did.{Did}
 use Rattle.race_board.specs.declared.views.Ban.{Ban}
 use Rattle.race_board.specs.declared.views.View.{View}
 use Rattle.race_board.proofs.Parts.{banned_ban, by_ban}
@@ -24,29 +23,6 @@ bans_set ws bs i b l m p q r all j = let Of : ℕ → Ban → Type 0 = λ x y. (
     (λ e. let f : get_or (set ws i x) j 0 ≡ x = ap (λ (k : ℕ). get_or (set ws i x) k 0) e ∙ get_or-set_same ws i x 0 l in let g : get_or (set bs i b) j no_ban ≡ b = ap (λ (k : ℕ). get_or (set bs i b) k no_ban) e ∙ get_or-set_same bs i b no_ban m in
     subst (λ (t : ℕ × Ban). Of t.0 t.1) (λ k. (sym f k, sym g k)) (refl, p, q, r))
     (λ e. let f = get_or-set_other ws i j x 0 e in let g = get_or-set_other bs i j b no_ban e in subst (λ (t : ℕ × Ban). Of t.0 t.1) (λ k. (sym f k, sym g k)) (all j))
-
--- the scan goes on, where only the slot of the ban's next changed
-pub bans_again : (ws : List ℕ) (bs : List Ban) (i n : ℕ) → ((j : ℕ) → (get_or ws j 0 ≡ ban_word (get_or bs j no_ban).parent (get_or bs j no_ban).cancel) × ((get_or bs j no_ban).parent < 16777216) × ((get_or bs j no_ban).cancel < 65536) × ((get_or bs j no_ban).parent ≢ 0 → (get_or bs j no_ban).cancel ≢ 0))
-    → i < length bs → (j : ℕ) → let b : Ban = get_or (set bs i (banning (get_or bs i no_ban).parent (get_or bs i no_ban).cancel n)) j no_ban in (get_or ws j 0 ≡ ban_word b.parent b.cancel) × (b.parent < 16777216) × (b.cancel < 65536) × (b.parent ≢ 0 → b.cancel ≢ 0)
-bans_again ws bs i n all l j = let o : Ban = get_or bs i no_ban in let new : Ban = banning o.parent o.cancel n in let Of : ℕ → Ban → Type 0 = λ x y. (x ≡ ban_word y.parent y.cancel) × (y.parent < 16777216) × (y.cancel < 65536) × (y.parent ≢ 0 → y.cancel ≢ 0) in
-    dite (ℕ_discrete j i)
-    (λ e. let g : get_or (set bs i new) j no_ban ≡ new = ap (λ (k : ℕ). get_or (set bs i new) k no_ban) e ∙ get_or-set_same bs i new no_ban l in
-    subst (Of (get_or ws j 0)) (sym g) (subst (λ (k : ℕ). Of (get_or ws k 0) new) (sym e) (let t : Of (get_or ws i 0) o = all i in t)))
-    (λ e. subst (Of (get_or ws j 0)) (sym (get_or-set_other bs i j new no_ban e)) (all j))
-
--- the slot has no child to mark
-pub pass_over : (v w : View) (j i : ℕ) (d : Did) → w ≡ noted (past v j i 0 0) d → Passes v w j i None
-pass_over v w j i d g = let steps : w.steps ≡ v.steps ++ d ∷ [] = ap (λ (q : View). q.steps) g in g ∙ (λ y. let r : View = record v { steps = sym steps y; bans = set v.bans j (banning (ban v j).parent (ban v j).cancel (i + 1)); about = 0; loaded = 0 } in r)
-
--- the child had ended before the exchange
-pub pass_missed : (v u w : View) (j i a seen : ℕ) (d d' : Did) → u ≡ noted (past v j i a seen) d → w ≡ noted (missed u) d' → Passes v w j i None
-pass_missed v u w j i a seen d d' g h = let steps : w.steps ≡ u.steps ++ d' ∷ [] = ap (λ (q : View). q.steps) h in
-    h ∙ ((λ y. let r : View = record u { steps = sym steps y; about = 0; loaded = 0 } in r) ∙ ap (λ (q : View). let r : View = record q { steps = w.steps; about = 0; loaded = 0 } in r) g)
-
-pub pass_mark : (v u w : View) (j i a seen n : ℕ) (d d' : Did) → u ≡ noted (past v j i a seen) d → w ≡ noted (struck u i n) d' → Passes v w j i (Some n)
-pass_mark v u w j i a seen n d d' g h = let steps : w.steps ≡ u.steps ++ d' ∷ [] = ap (λ (q : View). q.steps) h in
-    h ∙ ((λ y. let r : View = record u { steps = sym steps y; about = 0; loaded = 0; marked = u.marked ++ n ∷ []; last = set u.last i n } in r)
-    ∙ ap (λ (q : View). let r : View = record q { steps = w.steps; about = 0; loaded = 0; marked = q.marked ++ n ∷ []; last = set q.last i n } in r) g)
 
 pub listing_ban : (v u : View) (j i : ℕ) (ns : List ℕ) → j < length v.bans → Listing v u j i ns → ban u j ≡ banning (ban v j).parent (ban v j).cancel i
 listing_ban v u j i ns l on = ap (λ (q : View). ban q j) on ∙ get_or-set_same v.bans j (banning (ban v j).parent (ban v j).cancel i) no_ban l

@@ -3,7 +3,7 @@ use Rattle.std.proofs.Common.{◌≡◌, ℕ, ◌+◌, [], ◌∷◌, ◌++◌, 
 use Rattle.task_table.specs.declared.ended.MarkAnswer.{MarkAnswer}
 use Rattle.task_table.specs.declared.ended.MarkAnswer.TheVariants.{Marked, Already, NotFound}
 use Rattle.race_board.specs.Words.{number}
-use Rattle.race_board.specs.Steps.{noted, struck, missed}
+use Rattle.race_board.specs.Steps.{noted, missed}
 use Rattle.race_board.specs.Calls.{Longer, Saw, OnlySteps}
 use Rattle.race_board.specs.Lists.{Marks, MarksSeen}
 use Rattle.race_board.specs.declared.views.Size.{Size}
@@ -30,6 +30,3 @@ marks_then v u w z i n seen NotFound only before long saw is told = (
 
 pub missed_is : (v w : View) (d : Did) → v.about ≡ 0 → v.loaded ≡ 0 → w ≡ noted (missed v) d → OnlySteps v w
 missed_is v w d about loaded e = e ∙ (λ k. let r : View = record v { steps = (sym (ap (λ (q : View). q.steps) e)) k; about = (sym about) k; loaded = (sym loaded) k } in r)
-
-pub struck_is : (v w : View) (i n : ℕ) (d : Did) → v.about ≡ 0 → v.loaded ≡ 0 → w ≡ noted (struck v i n) d → w ≡ (let r : View = record v { steps = w.steps; marked = v.marked ++ n ∷ []; last = set v.last i n } in r)
-struck_is v w i n d about loaded e = e ∙ (λ k. let r : View = record v { steps = (sym (ap (λ (q : View). q.steps) e)) k; about = (sym about) k; loaded = (sym loaded) k; marked = v.marked ++ n ∷ []; last = set v.last i n } in r)

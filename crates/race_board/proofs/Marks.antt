@@ -1,21 +1,15 @@
 -- The mark in a word.
-use Rattle.std.proofs.Common.{rules, ◌∙◌, ◌≡◌, ◌≢◌, ℕ, Option, Some, None, cond, IfSome, sym, ap, subst, eq-eqb, ne_eqb}
+use Rattle.std.proofs.Common.{rules, ◌∙◌, ◌≡◌, ◌≢◌, ℕ, Option, Some, None, cond, sym, ap, eq-eqb, ne_eqb}
 use mathlib.Core.Logic.{dite}
 use native.Mathlib.Decide.{ℕ_discrete}
 use Rattle.race_board.specs.Words.{cancel}
 use Rattle.race_board.specs.Keys.{mark_in}
-use Rattle.race_board.specs.Turn.{MayMark}
 
 pub no_mark_in : (w : ℕ) → cancel w ≡ 0 → mark_in w ≡ None
 no_mark_in w e = ap (λ b. let m : Option ℕ = cond b None (Some (cancel w)) in m) (eq-eqb (cancel w) 0 e)
 
 pub some_mark_in : (w : ℕ) → cancel w ≢ 0 → mark_in w ≡ Some (cancel w)
 some_mark_in w n = ap (λ b. let m : Option ℕ = cond b None (Some (cancel w)) in m) (ne_eqb (cancel w) 0 n)
-
-pub mark_allowed : (A : ℕ → Type 0) (w : ℕ) (m : Option ℕ) → m ≡ mark_in w → MayMark A w → IfSome m A
-mark_allowed A w m e may = subst (λ (o : Option ℕ). IfSome o A) (sym e) (dite (ℕ_discrete (cancel w) 0)
-    (λ f. subst (λ (o : Option ℕ). IfSome o A) (sym (no_mark_in w f)) tt)
-    (λ f. subst (λ (o : Option ℕ). IfSome o A) (sym (some_mark_in w f)) (may f)))
 
 pub cleared_mark : (w : ℕ) → mark_in w ≡ None → cancel w ≡ 0
 cleared_mark w e = dite (ℕ_discrete (cancel w) 0) (λ f. f) (λ f. let g : Some (cancel w) ≡ None = sym (some_mark_in w f) ∙ e in grind rules)

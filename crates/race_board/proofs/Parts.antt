@@ -10,14 +10,6 @@ pub zero_cancel : cancel 0 ≡ 0
 unfolding cancel
 zero_cancel = omega arith
 
-pub number_small : (w : ℕ) → number w < 1048576
-unfolding number
-number_small w = omega arith
-
-pub parent_small : (w : ℕ) → parent w < 16777216
-unfolding parent
-parent_small w = omega arith
-
 pub banned_small : (w : ℕ) → banned w < 16777216
 unfolding banned
 banned_small w = omega arith
@@ -33,10 +25,6 @@ parent_task n p h k = omega arith
 pub cancel_task : (n p : ℕ) → n < 1048576 → p < 16777216 → cancel (task_word n p) ≡ 0
 unfolding cancel task_word
 cancel_task n p h k = omega arith
-
-pub task_some : (n p : ℕ) → n ≢ 0 → task_word n p ≢ 0
-unfolding task_word
-task_some n p h = λ e. h (omega arith)
 
 pub number_mark : (w c : ℕ) → number (with_mark w c) ≡ number w
 unfolding number with_mark
@@ -63,17 +51,9 @@ pub whole_ban : (w : ℕ) → ban_word (banned w) (by w) ≡ w
 unfolding banned by ban_word
 whole_ban w = omega arith
 
-pub whole_task : (w : ℕ) → with_mark (task_word (number w) (parent w)) (cancel w) ≡ w
-unfolding number parent cancel task_word with_mark
-whole_task w = omega arith
-
 pub ban_none : (p c : ℕ) → p ≡ 0 → c ≡ 0 → ban_word p c ≡ 0
 unfolding ban_word
 ban_none p c h k = omega arith
-
-pub ban_free : (p c : ℕ) → ban_word p c ≡ 0 → p ≡ 0
-unfolding ban_word
-ban_free p c e = omega arith
 
 pub ban_some : (p c : ℕ) → p ≢ 0 → ban_word p c ≢ 0
 unfolding ban_word
@@ -82,10 +62,6 @@ ban_some p c h = λ e. h (omega arith)
 pub zero_parent : parent 0 ≡ 0
 unfolding parent
 zero_parent = omega arith
-
-pub zero_by : by 0 ≡ 0
-unfolding by
-zero_by = omega arith
 
 pub mark_some : (w c : ℕ) → w ≢ 0 → with_mark w c ≢ 0
 unfolding with_mark
