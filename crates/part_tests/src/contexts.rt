@@ -4,7 +4,7 @@ use query_match::{Items, Query, SearchBody};
 use scroll_table::{PageError, ScrollTable};
 use shared_value::Shared;
 use std::alloc::Global;
-use task_events::{Context, SearchAsk, ShardCounts};
+use task_events::{Context, SearchAsk, ShardCount, ShardCounts};
 use task_ids::{TaskId, Text};
 
 /// A context of no shard that was used last at the moment 5.
@@ -93,4 +93,45 @@ fn a_context_is_cleared_by_its_owner_alone(rt: HostRuntime) {
     assert!(rt; open(alloc, &mut table, id, None));
     assert!(rt; !table.clear(id, Some(id)) && table.clear(id, None));
     assert!(rt; table.get(id).is_none());
+}
+
+/// A context that keeps this version of shard 3 of the index with no name, and the next one of shard 4.
+fn context_at(alloc: Global, id: TaskId, version: u32) -> Option<Context> {
+    let mut counts = Vec::new(alloc);
+    for shard in 3..5 {
+        let count = ShardCount {
+            shard,
+            version: version.saturating_add(shard - 3),
+            count: 1,
+        };
+        counts.push(count).ok()?;
+    }
+    let mut context = context(alloc, id, Some(10))?;
+    context.shards = ShardCounts::new(counts).ok()?;
+    Some(context)
+}
+
+/// Opens such a context, where none of that id is there.
+fn open_at(alloc: Global, table: &mut ScrollTable, id: TaskId, version: u32) -> bool {
+    let Some(context) = context_at(alloc, id, version) else {
+        return false;
+    };
+    table.get(context.id).is_none() && table.start(context).is_ok()
+}
+
+#[test]
+fn the_oldest_version_is_that_of_the_contexts_that_are_left(rt: HostRuntime) {
+    let alloc = rt.alloc();
+    let one = TaskId { node: 1, number: 1 };
+    let two = TaskId { node: 1, number: 2 };
+    let three = TaskId { node: 2, number: 1 };
+    let mut table = ScrollTable::new(alloc);
+    assert!(rt; table.oldest("", 3).is_none());
+    assert!(rt; open_at(alloc, &mut table, one, 8) && open_at(alloc, &mut table, two, 6));
+    assert!(rt; open_at(alloc, &mut table, three, 6));
+    assert!(rt; table.oldest("", 3) == Some(6) && table.oldest("", 4) == Some(7));
+    assert!(rt; table.oldest("", 2).is_none() && table.oldest("a", 3).is_none());
+    assert!(rt; table.clear(two, None) && table.oldest("", 3) == Some(6));
+    assert!(rt; table.clear(three, None) && table.oldest("", 3) == Some(8));
+    assert!(rt; table.expire(15) == 1 && table.oldest("", 3).is_none());
 }

@@ -1,8 +1,11 @@
 mod Answered
 mod Cleared
 mod Kept
+mod KeptOrder
+mod Least
 mod NoneDue
 mod Owned
 mod Places
 mod Ranked
 mod Timed
+mod Versioned

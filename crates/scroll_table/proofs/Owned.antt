@@ -16,7 +16,7 @@ use Rattle.scroll_table.specs.declared.owners.Owners.{Owners}
 use Rattle.scroll_table.specs.Owners.{owns, is_pair, is_of, AreOwnersOf}
 use Rattle.scroll_table.proofs.Places.{same_at}
 
-one_number : (x y : ℕ) → is_eq (nat_cmp x y) ≡ (x == y)
+pub one_number : (x y : ℕ) → is_eq (nat_cmp x y) ≡ (x == y)
 one_number x y = by_case (nat_cmp x y) (ranked x y (nat_cmp x y) refl)
   where
     by_case : (r : Ordering) → MatchOrdering r (x < y) (x ≡ y) (y < x) → is_eq r ≡ (x == y)

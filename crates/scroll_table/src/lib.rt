@@ -9,6 +9,7 @@ mod ends;
 mod moments;
 mod owners;
 mod table;
+mod versions;
 
 pub use context::PageError;
 pub use table::ScrollTable;

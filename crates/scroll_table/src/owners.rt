@@ -14,7 +14,7 @@ use std::ops::Bound;
 use task_ids::TaskId;
 
 /// The least id.
-const FIRST: TaskId = TaskId { node: 1, number: 1 };
+pub(crate) const FIRST: TaskId = TaskId { node: 1, number: 1 };
 
 /// A context that belongs to an owner. They are ordered by owner, then by context.
 #[derive(Clone, Copy, PartialEq, Eq, PartialOrd, Ord)]

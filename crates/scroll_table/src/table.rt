@@ -1,8 +1,7 @@
-ghost use Rattle.std.specs.Prelude.{◌≡◌, ◌↔◌, ◌+◌, ◌≤◌, None, Some, Ok, Err, true, false, IsSome, IsSomeAnd, OnOk, OnErr, option_copied, filter, filter_map, min, map, length, not, if◌then◌else◌};
+ghost use Rattle.std.specs.Prelude.{◌≡◌, ◌↔◌, ◌+◌, ◌≤◌, None, Some, Ok, Err, true, false, IsSome, IsSomeAnd, OnOk, OnErr, option_copied, length, if◌then◌else◌};
 ghost use Rattle.std.specs.BTreeMap as tree;
-ghost use Rattle.std.specs.BTreeMap.{is_at, IsOrdered};
+ghost use Rattle.std.specs.BTreeMap.{is_at};
 ghost use Rattle.std.specs.FinMap as finite;
-ghost use Rattle.std.specs.List.{reduce};
 ghost use Rattle.task_ids.specs.TaskIdOrder.{task_id_cmp};
 ghost use Rattle.task_ids.specs.declared.task_id.TaskId.{TaskId};
 ghost use Rattle.task_events.specs.declared.context.Context.{Context};
@@ -10,12 +9,14 @@ ghost use Rattle.scroll_table.specs.declared.context.PageError.{PageError};
 ghost use Rattle.scroll_table.specs.Ends as ends;
 ghost use Rattle.scroll_table.specs.Ends.{AreEndsOf};
 ghost use Rattle.scroll_table.specs.Owners.{AreOwnersOf};
-ghost use Rattle.task_events.specs.Contexts.{with_use, given_back, can_clear, is_expired, unexpired, without_owned, version_kept};
+ghost use Rattle.scroll_table.specs.Versions.{AreVersionsOf};
+ghost use Rattle.task_events.specs.Contexts.{with_use, given_back, can_clear, is_expired, unexpired, without_owned};
 ghost use Rattle.scroll_table.specs.Contexts.{answer_for, lent, oldest_of};
 
 use crate::context::{PageError, answer, end_of};
 use crate::ends::Ends;
 use crate::owners::Owners;
+use crate::versions::Versions;
 use std::alloc::{AllocError, Global};
 use std::collections::BTreeMap;
 use std::marker::Model;
@@ -30,6 +31,8 @@ pub struct ScrollTable {
     ends: Ends,
     /// Those that belong to a task.
     owners: Owners,
+    /// What they keep of shards.
+    versions: Versions,
 }
 
 impl Model for ScrollTable {
@@ -44,10 +47,11 @@ impl Model for ScrollTable {
 
     ghost use Rattle.scroll_table.specs.Ends.{AreEndsOf};
     ghost use Rattle.scroll_table.specs.Owners.{AreOwnersOf};
+    ghost use Rattle.scroll_table.specs.Versions.{AreVersionsOf};
 
     ghost view = { λ a. finite.from_entries a.contexts.entries };
 
-    ghost invariant = { λ a. AreEndsOf a.ends a.contexts × AreOwnersOf a.owners a.contexts };
+    ghost invariant = { λ a. AreEndsOf a.ends a.contexts × AreOwnersOf a.owners a.contexts × AreVersionsOf a.versions a.contexts };
 }
 
 impl ScrollTable {
@@ -59,6 +63,7 @@ impl ScrollTable {
             contexts: BTreeMap::new(alloc),
             ends: Ends::new(alloc),
             owners: Owners::new(alloc),
+            versions: Versions::new(alloc),
         }
     }
 
@@ -75,8 +80,8 @@ impl ScrollTable {
             self.ends.remove(&id);
             return Err(AllocError);
         };
-        match self.contexts.insert(id, context) {
-            Ok(_) => Ok(()),
+        match put_in(&mut self.contexts, &mut self.versions, id, context) {
+            Ok(()) => Ok(()),
             Err(_) => {
                 self.owners.remove(owner, id);
                 self.ends.remove(&id);
@@ -141,21 +146,35 @@ impl ScrollTable {
         ensures can { result ≡ can_clear by (finite.get self.old id) }
         ensures cleared { self.new ≡ (if result then finite.remove self.old id else self.old) }
     {
-        clear_one(&mut self.contexts, &mut self.ends, &mut self.owners, id, by)
+        clear_one(
+            &mut self.contexts,
+            &mut self.ends,
+            &mut self.owners,
+            &mut self.versions,
+            id,
+            by,
+        )
     }
 
     /// Takes each context away that belongs to this task, unless a task uses it. It looks at no other, and takes no memory.
     pub fn clear_owned(&mut self, owner: TaskId)
         ensures { (id : TaskId) → finite.get self.new id ≡ without_owned owner (finite.get self.old id) }
     {
-        clear_each(&mut self.contexts, &mut self.ends, &mut self.owners, owner);
+        clear_each(
+            &mut self.contexts,
+            &mut self.ends,
+            &mut self.owners,
+            &mut self.versions,
+            owner,
+        );
     }
 
-    /// The least version that a context keeps of a shard of an index, where one keeps one. It goes over all contexts.
+    /// The least version that a context keeps of a shard of an index, where one keeps one. It looks at no
+    /// context.
     pub fn oldest(&self, index: &str, shard: u32) -> Option<u32>
         ensures { result ≡ oldest_of index.now shard self.now }
     {
-        oldest_kept(&self.contexts, index, shard)
+        self.versions.oldest(index, shard)
     }
 
     /// Takes away each context that was not used for its keep-alive, unless a task uses it, and says how many these are. It looks at no
@@ -165,8 +184,38 @@ impl ScrollTable {
         ensures count { finite.len self.new + result ≡ finite.len self.old }
     {
         let before = self.contexts.len();
-        take_expired(&mut self.contexts, &mut self.ends, &mut self.owners, now);
+        take_expired(
+            &mut self.contexts,
+            &mut self.ends,
+            &mut self.owners,
+            &mut self.versions,
+            now,
+        );
         (before - self.contexts.len()) as u64
+    }
+}
+
+/// One more context, and what it keeps. Where memory runs out nothing has changed.
+fn put_in(
+    contexts: &mut BTreeMap<TaskId, Context>,
+    versions: &mut Versions,
+    id: TaskId,
+    context: Context,
+) -> Result<(), AllocError>
+    requires fresh { tree.get task_id_cmp contexts.old id ≡ None }
+    requires versions { AreVersionsOf versions.old contexts.old }
+    ensures versions { AreVersionsOf versions.new contexts.new }
+    ensures ok { OnOk result ((q : TaskId) → tree.get task_id_cmp contexts.new q
+        ≡ (if is_at (task_id_cmp id) q then Some context else tree.get task_id_cmp contexts.old q)) }
+    ensures err { OnErr result (contexts.new.entries ≡ contexts.old.entries) }
+{
+    versions.add(id, &context)?;
+    match contexts.insert(id, context) {
+        Ok(_) => Ok(()),
+        Err(refused) => {
+            versions.remove(id, &refused.value.1);
+            Err(AllocError)
+        }
     }
 }
 
@@ -228,16 +277,24 @@ fn may_clear(contexts: &BTreeMap<TaskId, Context>, id: &TaskId, by: Option<TaskI
     }
 }
 
-/// Takes a context away, also from those of its owner.
-fn take_out(contexts: &mut BTreeMap<TaskId, Context>, owners: &mut Owners, id: &TaskId)
-    requires { AreOwnersOf owners.old contexts.old }
+/// Takes a context away, also from those of its owner, and what it keeps.
+fn take_out(
+    contexts: &mut BTreeMap<TaskId, Context>,
+    owners: &mut Owners,
+    versions: &mut Versions,
+    id: &TaskId,
+)
+    requires owners { AreOwnersOf owners.old contexts.old }
+    requires versions { AreVersionsOf versions.old contexts.old }
     ensures owners { AreOwnersOf owners.new contexts.new }
+    ensures versions { AreVersionsOf versions.new contexts.new }
     ensures gone { (q : TaskId) → tree.get task_id_cmp contexts.new q
         ≡ (if is_at (task_id_cmp id.now) q then None else tree.get task_id_cmp contexts.old q) }
     ensures fewer { length contexts.new.entries ≤ length contexts.old.entries }
 {
     if let Some(context) = contexts.remove(id) {
         owners.remove(context.owner, *id);
+        versions.remove(*id, &context);
     }
 }
 
@@ -247,13 +304,16 @@ fn clear_one(
     contexts: &mut BTreeMap<TaskId, Context>,
     ends: &mut Ends,
     owners: &mut Owners,
+    versions: &mut Versions,
     id: TaskId,
     by: Option<TaskId>,
 ) -> bool
     requires ends { AreEndsOf ends.old contexts.old }
     requires owners { AreOwnersOf owners.old contexts.old }
+    requires versions { AreVersionsOf versions.old contexts.old }
     ensures ends { AreEndsOf ends.new contexts.new }
     ensures owners { AreOwnersOf owners.new contexts.new }
+    ensures versions { AreVersionsOf versions.new contexts.new }
     ensures can { result ≡ can_clear by (tree.get task_id_cmp contexts.old id) }
     ensures gone { result ≡ true → (q : TaskId) → tree.get task_id_cmp contexts.new q
         ≡ (if is_at (task_id_cmp id) q then None else tree.get task_id_cmp contexts.old q) }
@@ -262,7 +322,7 @@ fn clear_one(
     if !may_clear(contexts, &id, by) {
         return false;
     }
-    take_out(contexts, owners, &id);
+    take_out(contexts, owners, versions, &id);
     ends.remove(&id);
     true
 }
@@ -272,18 +332,21 @@ fn clear_each(
     contexts: &mut BTreeMap<TaskId, Context>,
     ends: &mut Ends,
     owners: &mut Owners,
+    versions: &mut Versions,
     owner: TaskId,
 )
     requires ends { AreEndsOf ends.old contexts.old }
     requires owners { AreOwnersOf owners.old contexts.old }
+    requires versions { AreVersionsOf versions.old contexts.old }
     ensures ends { AreEndsOf ends.new contexts.new }
     ensures owners { AreOwnersOf owners.new contexts.new }
+    ensures versions { AreVersionsOf versions.new contexts.new }
     ensures left { (id : TaskId) → tree.get task_id_cmp contexts.new id
         ≡ without_owned owner (tree.get task_id_cmp contexts.old id) }
 {
     let mut after = None;
     while let Some(id) = owners.next(owner, after) {
-        clear_one(contexts, ends, owners, id, Some(owner));
+        clear_one(contexts, ends, owners, versions, id, Some(owner));
         after = Some(id);
     }
 }
@@ -293,29 +356,20 @@ fn take_expired(
     contexts: &mut BTreeMap<TaskId, Context>,
     ends: &mut Ends,
     owners: &mut Owners,
+    versions: &mut Versions,
     now: u64,
 )
     requires ends { AreEndsOf ends.old contexts.old }
     requires owners { AreOwnersOf owners.old contexts.old }
+    requires versions { AreVersionsOf versions.old contexts.old }
     ensures ends { AreEndsOf ends.new contexts.new }
     ensures owners { AreOwnersOf owners.new contexts.new }
+    ensures versions { AreVersionsOf versions.new contexts.new }
     ensures left { (id : TaskId) → tree.get task_id_cmp contexts.new id
         ≡ unexpired now (tree.get task_id_cmp contexts.old id) }
     ensures fewer { length contexts.new.entries ≤ length contexts.old.entries }
 {
     while let Some(id) = ends.take_due(now) {
-        take_out(contexts, owners, &id);
+        take_out(contexts, owners, versions, &id);
     }
-}
-
-/// The least version that one of the contexts keeps.
-fn oldest_kept(contexts: &BTreeMap<TaskId, Context>, index: &str, shard: u32) -> Option<u32>
-    ensures least { result
-        ≡ reduce min (filter_map (version_kept index.now shard) (map (λ e. e.1) contexts.now.entries)) }
-    ensures ordered { IsOrdered task_id_cmp contexts.now }
-{
-    contexts
-        .values()
-        .filter_map(|context| context.version_of(index, shard))
-        .min()
 }

@@ -9,7 +9,7 @@ ghost use Rattle.world_moves.specs.Ties.{IsTied};
 use crate::state::State;
 use scroll_table::ScrollTable;
 
-/// The least version that the contexts of any node keep of a shard, where one keeps one. It goes over all contexts.
+/// The least version that the contexts of any node keep of a shard, where one keeps one. It asks each node once.
 fn oldest_kept(contexts: &[ScrollTable], index: &str, shard: u32) -> Option<u32>
     ensures { result ≡ oldest_in index.now shard contexts.now }
 {

@@ -13,6 +13,7 @@ loop-id-preserved c =
     record {
       ends = c.clear_one.ensures.ends;
       owners = c.clear_one.ensures.owners;
+      versions = c.clear_one.ensures.versions;
       left = λ q. same_left owner old new c.in-Some.id changed q ∙ c.loop-id.invariant.left q;
       passed = up_to_one owner old new c.in-Some.id changed c.loop-id.owners c.loop-id.after c.loop-id.invariant.owners c.loop-id.invariant.passed c.in-Some.ensures.skipped;
     }

@@ -8,6 +8,7 @@ use Rattle.task_events.specs.Contexts.{given_back}
 use Rattle.scroll_table.specs.Ends.{kept_at}
 use Rattle.scroll_table.proofs.Owned.{owner_stays}
 use Rattle.scroll_table.proofs.Timed.{one_changed, set_there}
+use Rattle.scroll_table.proofs.Versioned.{version_stays}
 use Rattle.scroll_table.proofs.Answered.{one_there}
 use Rattle.scroll_table.proofs.table.ScrollTable.give_back.Goals as goal
 
@@ -31,6 +32,7 @@ invariant_of-self c =
             (λ q. kept q ∙ ap (λ end. cond (is_at (task_id_cmp id) q) (Some end) (kept_at ends q)) (c.note_return-end.ensures.end context stands));
       },
       owner_stays c.self.inside.owners c.self.inside.contexts c.note_return-end.new.contexts id c.self.invariant.1 context (given_back c.args.after c.args.now context) stands refl changed,
+      version_stays c.self.inside.versions c.self.inside.contexts c.note_return-end.new.contexts id c.self.invariant.2 context (given_back c.args.after c.args.now context) stands refl refl changed,
     )
 
 pub returns : goal.returns

@@ -6,6 +6,7 @@ use Rattle.scroll_table.specs.Ends.{kept_at}
 use Rattle.scroll_table.proofs.Answered.{there_to_use}
 use Rattle.scroll_table.proofs.Owned.{owner_stays}
 use Rattle.scroll_table.proofs.Timed.{one_changed, set_there}
+use Rattle.scroll_table.proofs.Versioned.{version_stays}
 use Rattle.scroll_table.proofs.table.ScrollTable.page.Goals as goal
 
 pub invariant_of-self : goal.invariant_of-self
@@ -22,6 +23,7 @@ invariant_of-self c =
             (set_there c.self.inside.contexts id context None (kept_at c.self.inside.ends) (kept_at c.set.new.self) stands c.self.invariant.0.each c.set.ensures.set);
       },
       owner_stays c.self.inside.owners c.self.inside.contexts c.note_use.new.contexts id c.self.invariant.1 context (with_use c.args.now c.args.keep c.args.user context) stands refl changed,
+      version_stays c.self.inside.versions c.self.inside.contexts c.note_use.new.contexts id c.self.invariant.2 context (with_use c.args.now c.args.keep c.args.user context) stands refl refl changed,
     )
 
 pub returns-clause-used : goal.returns-clause-used
