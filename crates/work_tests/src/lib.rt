@@ -1,4 +1,4 @@
-//! Tests of single calls: of shards, of the work of queries, fetches, pages and reindexes, and of the reading of scripts.
+//! Tests of single calls: of shards, and of the work of queries, fetches, pages, reindexes and their slices.
 //! They stand in a crate of their own, since a crate with tests is proved twice.
 #![tactic(auto)]
 
@@ -10,12 +10,6 @@ mod forgetting;
 mod pages;
 #[cfg(test)]
 mod phases;
-#[cfg(test)]
-mod reindexes;
-#[cfg(test)]
-mod roots;
-#[cfg(test)]
-mod scripts;
 #[cfg(test)]
 mod shards;
 #[cfg(test)]
