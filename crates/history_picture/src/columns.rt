@@ -195,25 +195,30 @@ impl Columns {
         let mut lanes = Vec::new(*self.columns.allocator());
         let mut left = left;
         for lane in 0..=nodes {
-            let mut right = left + LANE_PAD;
-            for kind in KINDS {
-                let gap = if kind == Kind::Command {
-                    COMMAND_GAP
-                } else {
-                    gap
-                };
-                right = self.place_kind(lane, kind, right, halves.of_kind(kind) + gap / 2);
-            }
-            let least = if lane == 0 {
-                LEAST_COMMANDS
-            } else {
-                LEAST_LANE
-            };
-            right = (right + LANE_PAD).max(left + least);
+            let right = self.place_lane(lane, left, halves, gap);
             lanes.push(Lane { left, right })?;
             left = right + LANE_GAP;
         }
         Ok(lanes)
+    }
+
+    /// Places the columns of a lane from here on, and gives the lane's right edge.
+    fn place_lane(&mut self, lane: u32, left: Px, halves: &Halves, gap: Px) -> Px {
+        let mut right = left + LANE_PAD;
+        for kind in KINDS {
+            let gap = if kind == Kind::Command {
+                COMMAND_GAP
+            } else {
+                gap
+            };
+            right = self.place_kind(lane, kind, right, halves.of_kind(kind) + gap / 2);
+        }
+        let least = if lane == 0 {
+            LEAST_COMMANDS
+        } else {
+            LEAST_LANE
+        };
+        (right + LANE_PAD).max(left + least)
     }
 
     /// Places the columns of one kind of a lane from here on, each of which is twice this half wide, and gives their right edge.

@@ -23,56 +23,62 @@ pub fn picture(
     layout: &Layout,
 ) -> Result<String, AllocError> {
     let mut out = String::new(alloc);
+    push_picture(texts, trace, layout, &mut out)?;
+    Ok(out)
+}
+
+fn push_picture(
+    texts: &[Value],
+    trace: &Trace,
+    layout: &Layout,
+    out: &mut String,
+) -> Result<(), AllocError> {
     let flying = trace.arrows.iter().any(|arrow| arrow.to.is_none());
     let last = layout.bottom() + if flying { ROW } else { Px(0) };
-    push_head(trace, layout, last, &mut out)?;
-    push_lanes(layout, last, &mut out)?;
-    push_rows(texts, layout, &mut out)?;
+    push_head(trace, layout, last, out)?;
+    push_lanes(layout, last, out)?;
+    push_rows(texts, layout, out)?;
     if flying {
-        let y = middle_of(trace.rows) + Px(4);
-        writeln!(
-            out,
-            r#"<text class="word" x="{TEXT_LEFT}" y="{y}">in flight</text>"#
-        )?;
+        push_flying(trace.rows, out)?;
     }
-    push_lines(trace, layout, &mut out)?;
-    push_bars(trace, layout, &mut out)?;
+    push_history(trace, layout, out)?;
+    push_legend(layout, last + Px(8), out)?;
+    out.push_str("</svg>\n")
+}
+
+/// The word before the arrows of the messages in flight.
+fn push_flying(rows: usize, out: &mut String) -> Result<(), AllocError> {
+    let y = middle_of(rows) + Px(4);
+    writeln!(
+        out,
+        r#"<text class="word" x="{TEXT_LEFT}" y="{y}">in flight</text>"#
+    )
+}
+
+/// The bars over the lines, the lines faintly once more, and on them the names and signs.
+fn push_history(trace: &Trace, layout: &Layout, out: &mut String) -> Result<(), AllocError> {
+    push_lines(trace, layout, out)?;
+    push_bars(trace, layout, out)?;
     out.push_str("<g class=\"behind\">\n")?;
-    push_lines(trace, layout, &mut out)?;
+    push_lines(trace, layout, out)?;
     out.push_str("</g>\n")?;
-    push_names(trace, layout, &mut out)?;
-    push_signs(trace, layout, &mut out)?;
-    push_legend(layout, last + Px(8), &mut out)?;
-    out.push_str("</svg>\n")?;
-    Ok(out)
+    push_names(trace, layout, out)?;
+    push_signs(trace, layout, out)
 }
 
 /// The head, with the styles and what is used more than once, and the page.
 fn push_head(trace: &Trace, layout: &Layout, last: Px, out: &mut String) -> Result<(), AllocError> {
     let width = layout.width;
     let height = last + legend_height();
-    let events = trace.rows;
-    let nodes = trace.nodes;
-    let plural = if nodes == 1 { "" } else { "s" };
     writeln!(
         out,
         r#"<svg xmlns="http://www.w3.org/2000/svg" width="{width}" height="{height}" viewBox="0 0 {width} {height}" role="img">"#
     )?;
-    writeln!(
-        out,
-        "<title>A history of {events} events on {nodes} node{plural}</title>"
-    )?;
+    push_title(trace.rows, trace.nodes, out)?;
     out.push_str(STYLE)?;
     out.push_str("<defs>\n")?;
     for name in MESSAGES {
-        writeln!(
-            out,
-            r#"<marker id="{name}-tip" markerUnits="userSpaceOnUse" markerWidth="10" markerHeight="10" refX="9" refY="5" orient="auto"><path class="{name}-tip" d="M0 .6L9.6 5L0 9.4Z"/></marker>"#
-        )?;
-        writeln!(
-            out,
-            r#"<marker id="{name}-open" markerUnits="userSpaceOnUse" markerWidth="12" markerHeight="12" refX="10" refY="6" orient="auto"><path class="open {name}-open" d="M1 1L11 6L1 11Z"/></marker>"#
-        )?;
+        push_tips(name, out)?;
     }
     out.push_str(SIGNS)?;
     out.push_str("</defs>\n")?;
@@ -81,6 +87,26 @@ fn push_head(trace: &Trace, layout: &Layout, last: Px, out: &mut String) -> Resu
         r#"<rect class="page" x=".5" y=".5" width="{}" height="{}" rx="6"/>"#,
         width - Px(1),
         height - Px(1)
+    )
+}
+
+fn push_title(events: usize, nodes: u32, out: &mut String) -> Result<(), AllocError> {
+    let plural = if nodes == 1 { "" } else { "s" };
+    writeln!(
+        out,
+        "<title>A history of {events} events on {nodes} node{plural}</title>"
+    )
+}
+
+/// The tips of the arrows of a kind of messages: of those that are delivered, and of those in flight.
+fn push_tips(name: &str, out: &mut String) -> Result<(), AllocError> {
+    writeln!(
+        out,
+        r#"<marker id="{name}-tip" markerUnits="userSpaceOnUse" markerWidth="10" markerHeight="10" refX="9" refY="5" orient="auto"><path class="{name}-tip" d="M0 .6L9.6 5L0 9.4Z"/></marker>"#
+    )?;
+    writeln!(
+        out,
+        r#"<marker id="{name}-open" markerUnits="userSpaceOnUse" markerWidth="12" markerHeight="12" refX="10" refY="6" orient="auto"><path class="open {name}-open" d="M1 1L11 6L1 11Z"/></marker>"#
     )
 }
 
@@ -116,21 +142,32 @@ fn push_rows(texts: &[Value], layout: &Layout, out: &mut String) -> Result<(), A
     let width = layout.width - Px(12);
     let mut row = 0_usize;
     for text in texts {
-        let y = middle_of(row) + Px(4);
         if row % 2 == 1 {
-            let top = TOP + ROW * row;
-            write!(
-                out,
-                r#"<rect class="stripe" x="6" y="{top}" width="{width}" height="{ROW}"/>"#
-            )?;
+            push_stripe(row, width, out)?;
         }
+        push_row(text, row, out)?;
         row = row.saturating_add(1);
-        write!(
-            out,
-            r#"<text class="place" x="34" y="{y}">{row}</text><text x="{TEXT_LEFT}" y="{y}">"#
-        )?;
-        push_shown(text.as_str().unwrap_or(""), out)?;
-        out.push_str("</text>\n")?;
     }
     Ok(())
+}
+
+/// What stands behind every second row.
+fn push_stripe(row: usize, width: Px, out: &mut String) -> Result<(), AllocError> {
+    let top = TOP + ROW * row;
+    write!(
+        out,
+        r#"<rect class="stripe" x="6" y="{top}" width="{width}" height="{ROW}"/>"#
+    )
+}
+
+/// The text of an event, after its place, from 1.
+fn push_row(text: &Value, row: usize, out: &mut String) -> Result<(), AllocError> {
+    let y = middle_of(row) + Px(4);
+    let place = row.saturating_add(1);
+    write!(
+        out,
+        r#"<text class="place" x="34" y="{y}">{place}</text><text x="{TEXT_LEFT}" y="{y}">"#
+    )?;
+    push_shown(text.as_str().unwrap_or(""), out)?;
+    out.push_str("</text>\n")
 }

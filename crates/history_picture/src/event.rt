@@ -137,27 +137,9 @@ impl Event {
 /// The events whose texts begin with the number of a command.
 fn of_command(name: &str, rest: &str) -> Option<Event> {
     match name {
-        "root" => {
-            let (command, task) = rest.split_once(' ')?;
-            Some(Event::Root {
-                command: number(command)?,
-                task: task_id(task)?,
-            })
-        }
-        "root-rejected" => {
-            let (command, place) = rest.split_once(' ')?;
-            Some(Event::RootRejected {
-                command: number(command)?,
-                node: node(place)?,
-            })
-        }
-        "cancel" => {
-            let (cancel, task) = rest.split_once(' ')?;
-            Some(Event::Cancel {
-                cancel: number(cancel)?,
-                task: task_id(task.strip_suffix(" wait").unwrap_or(task))?,
-            })
-        }
+        "root" => of_root(rest),
+        "root-rejected" => of_rejected_root(rest),
+        "cancel" => of_cancel(rest),
         "not-found" => Some(Event::NotFound {
             cancel: number(rest)?,
         }),
@@ -172,62 +154,99 @@ fn of_command(name: &str, rest: &str) -> Option<Event> {
     }
 }
 
+fn of_root(rest: &str) -> Option<Event> {
+    let (command, task) = rest.split_once(' ')?;
+    let command = number(command)?;
+    let task = task_id(task)?;
+    Some(Event::Root { command, task })
+}
+
+fn of_rejected_root(rest: &str) -> Option<Event> {
+    let (command, place) = rest.split_once(' ')?;
+    let command = number(command)?;
+    let node = node(place)?;
+    Some(Event::RootRejected { command, node })
+}
+
+fn of_cancel(rest: &str) -> Option<Event> {
+    let (cancel, task) = rest.split_once(' ')?;
+    let cancel = number(cancel)?;
+    let task = task_id(task.strip_suffix(" wait").unwrap_or(task))?;
+    Some(Event::Cancel { cancel, task })
+}
+
 /// The events of bans.
 fn of_ban(name: &str, rest: &str) -> Option<Event> {
     let (first, second) = rest.split_once(' ')?;
     match name {
-        "ban" => {
-            let (parent, cancel) = second.split_once(' ')?;
-            number(cancel)?;
-            Some(Event::BanPut {
-                node: node(first)?,
-                parent: task_id(parent)?,
-            })
+        "ban" => of_ban_put(first, second),
+        "listed" => {
+            let (node, parent) = node_and_task(first, second)?;
+            Some(Event::Listed { node, parent })
         }
-        "listed" => Some(Event::Listed {
-            node: node(first)?,
-            parent: task_id(second)?,
-        }),
-        "unban" => Some(Event::BanGone {
-            node: node(first)?,
-            parent: task_id(second)?,
-        }),
-        "acked" => Some(Event::Acked {
-            parent: task_id(first)?,
-            from: node(second)?,
-        }),
+        "unban" => {
+            let (node, parent) = node_and_task(first, second)?;
+            Some(Event::BanGone { node, parent })
+        }
+        "acked" => {
+            let (from, parent) = node_and_task(second, first)?;
+            Some(Event::Acked { parent, from })
+        }
         _ => None,
     }
+}
+
+fn of_ban_put(place: &str, rest: &str) -> Option<Event> {
+    let (parent, cancel) = rest.split_once(' ')?;
+    number(cancel)?;
+    let (node, parent) = node_and_task(place, parent)?;
+    Some(Event::BanPut { node, parent })
+}
+
+/// A node and a task, of the words that name them.
+fn node_and_task(place: &str, task: &str) -> Option<(u32, TaskId)> {
+    Some((node(place)?, task_id(task)?))
+}
+
+/// A task and a number, of the words that name them.
+fn task_and_number(task: &str, digits: &str) -> Option<(TaskId, u32)> {
+    Some((task_id(task)?, number(digits)?))
 }
 
 /// The events of asks, requests and answers.
 fn of_ask(name: &str, rest: &str) -> Option<Event> {
     let (first, others) = rest.split_once(' ')?;
-    if name == "answered" {
-        return Some(Event::Answered {
-            parent: task_id(first)?,
-            ask: number(others)?,
-        });
-    }
-    let (second, third) = others.split_once(' ')?;
     match name {
-        "ask" => Some(Event::Ask {
-            parent: task_id(first)?,
-            ask: number(second)?,
-            to: node(third)?,
-        }),
-        "put" => Some(Event::Put {
-            task: task_id(first)?,
-            parent: task_id(second)?,
-            ask: number(third)?,
-        }),
-        "reject" => Some(Event::Reject {
-            node: node(first)?,
-            parent: task_id(second)?,
-            ask: number(third)?,
-        }),
+        "answered" => {
+            let (parent, ask) = task_and_number(first, others)?;
+            Some(Event::Answered { parent, ask })
+        }
+        "ask" => of_new_ask(first, others),
+        "put" => of_put(first, others),
+        "reject" => of_reject(first, others),
         _ => None,
     }
+}
+
+fn of_new_ask(parent: &str, rest: &str) -> Option<Event> {
+    let (ask, to) = rest.split_once(' ')?;
+    let (parent, ask) = task_and_number(parent, ask)?;
+    let to = node(to)?;
+    Some(Event::Ask { parent, ask, to })
+}
+
+fn of_put(task: &str, rest: &str) -> Option<Event> {
+    let (parent, ask) = rest.split_once(' ')?;
+    let task = task_id(task)?;
+    let (parent, ask) = task_and_number(parent, ask)?;
+    Some(Event::Put { task, parent, ask })
+}
+
+fn of_reject(place: &str, rest: &str) -> Option<Event> {
+    let (parent, ask) = rest.split_once(' ')?;
+    let node = node(place)?;
+    let (parent, ask) = task_and_number(parent, ask)?;
+    Some(Event::Reject { node, parent, ask })
 }
 
 /// The events of a task's own steps, its mark and its end.
@@ -240,20 +259,21 @@ fn of_task(name: &str, rest: &str) -> Option<Event> {
     match name {
         "pass" if first == rest => Some(Event::Pass { task }),
         "work" if first == rest => Some(Event::Work { task }),
-        "mark" => {
-            number(others)?;
-            Some(Event::Mark { task })
+        "mark" if number(others).is_some() => Some(Event::Mark { task }),
+        "refuse" if begins_with_number(others) => Some(Event::Refuse { task }),
+        "end" => {
+            let how = end_of(others)?;
+            Some(Event::End { task, how })
         }
-        "refuse" => {
-            let (cancel, _) = others.split_once(' ')?;
-            number(cancel)?;
-            Some(Event::Refuse { task })
-        }
-        "end" => Some(Event::End {
-            task,
-            how: end_of(others)?,
-        }),
         _ => None,
+    }
+}
+
+/// Whether a text is a number, a space and whatever follows.
+fn begins_with_number(text: &str) -> bool {
+    match text.split_once(' ') {
+        Some((first, _)) => number(first).is_some(),
+        None => false,
     }
 }
 

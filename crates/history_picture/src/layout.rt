@@ -64,23 +64,12 @@ impl Layout {
     pub fn of(alloc: Global, trace: &Trace, cells: usize) -> Result<Layout, AllocError> {
         let mut columns = Columns::new(alloc);
         let mut of_bars = Vec::new(alloc);
-        for bar in trace.bars.iter() {
-            of_bars.push(columns.take(bar, trace.rows)?)?;
-        }
+        take_columns(trace, &mut columns, &mut of_bars)?;
         let halves = Halves::of(trace.bars.as_slice());
         let left = TEXT_LEFT + text_width(cells) + EDGE;
-        let narrow = columns.place(trace.nodes, left, &halves, LEAST_GAP)?;
-        let spare = PAGE - EDGE - right_edge(narrow.as_slice());
-        let gap = (LEAST_GAP + spare / columns.of_nodes()).min(MOST_GAP);
-        let lanes = columns.place(trace.nodes, left, &halves, gap)?;
+        let lanes = wide_lanes(&mut columns, trace.nodes, left, &halves)?;
         let mut places = Vec::new(alloc);
-        for (bar, column) in trace.bars.iter().zip(of_bars.iter()) {
-            places.push(Place {
-                middle: columns.middle(*column),
-                half: halves.of_thing(&bar.thing),
-                end: bar.end,
-            })?;
-        }
+        push_places(trace, of_bars.as_slice(), &columns, &halves, &mut places)?;
         let right = right_edge(lanes.as_slice());
         Ok(Layout {
             lanes,
@@ -126,6 +115,49 @@ impl Layout {
     pub fn bottom(&self) -> Px {
         TOP + ROW * self.rows
     }
+}
+
+/// Appends the column of each bar.
+fn take_columns(
+    trace: &Trace,
+    columns: &mut Columns,
+    of_bars: &mut Vec<usize>,
+) -> Result<(), AllocError> {
+    for bar in trace.bars.iter() {
+        of_bars.push(columns.take(bar, trace.rows)?)?;
+    }
+    Ok(())
+}
+
+/// Places the lanes from here on, with the gaps between columns for which the page has room.
+fn wide_lanes(
+    columns: &mut Columns,
+    nodes: u32,
+    left: Px,
+    halves: &Halves,
+) -> Result<Vec<Lane>, AllocError> {
+    let narrow = columns.place(nodes, left, halves, LEAST_GAP)?;
+    let spare = PAGE - EDGE - right_edge(narrow.as_slice());
+    let gap = (LEAST_GAP + spare / columns.of_nodes()).min(MOST_GAP);
+    columns.place(nodes, left, halves, gap)
+}
+
+/// Appends the place of each bar, of its column.
+fn push_places(
+    trace: &Trace,
+    of_bars: &[usize],
+    columns: &Columns,
+    halves: &Halves,
+    places: &mut Vec<Place>,
+) -> Result<(), AllocError> {
+    for (bar, column) in trace.bars.iter().zip(of_bars) {
+        places.push(Place {
+            middle: columns.middle(*column),
+            half: halves.of_thing(&bar.thing),
+            end: bar.end,
+        })?;
+    }
+    Ok(())
 }
 
 /// The middle of a row.

@@ -88,7 +88,7 @@ pub fn legend_height() -> Px {
 pub fn push_legend(layout: &Layout, top: Px, out: &mut String) -> Result<(), AllocError> {
     let step = (layout.width.min(Px(1000)) - LEFT) / COLUMNS;
     let mut place = 0_usize;
-    for (sample, meaning) in LEGEND {
+    for (sample, meaning) in LEGEND.iter() {
         let x = LEFT + step * (place % COLUMNS);
         let y = top + LINE * (place / COLUMNS) + LINE / 2;
         writeln!(

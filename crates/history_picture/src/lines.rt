@@ -19,18 +19,33 @@ pub struct HistoryLine {
 /// The newest history of printed lines. Empty lines are passed over.
 pub fn newest_history(alloc: Global, bytes: &[u8]) -> Result<HistoryLine, Fault> {
     let mut newest = None;
+    take_lines(alloc, bytes, &mut newest)?;
+    newest.ok_or(Fault::NoHistory)
+}
+
+fn take_lines(alloc: Global, bytes: &[u8], newest: &mut Option<HistoryLine>) -> Result<(), Fault> {
     let mut line = 0_usize;
     for text in bytes.split(|byte| *byte == b'\n') {
         line = line.saturating_add(1);
-        if text.is_empty() {
-            continue;
-        }
-        let value = line_value(alloc, text, line)?;
-        if is_history(&value) {
-            newest = Some(HistoryLine { line, value });
+        if !text.is_empty() {
+            take_line(alloc, text, line, newest)?;
         }
     }
-    newest.ok_or(Fault::NoHistory)
+    Ok(())
+}
+
+/// Takes a printed line in the place of what was newest, if it has a history.
+fn take_line(
+    alloc: Global,
+    text: &[u8],
+    line: usize,
+    newest: &mut Option<HistoryLine>,
+) -> Result<(), Fault> {
+    let value = line_value(alloc, text, line)?;
+    if is_history(&value) {
+        *newest = Some(HistoryLine { line, value });
+    }
+    Ok(())
 }
 
 /// The JSON value of a line.

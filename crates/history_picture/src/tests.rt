@@ -80,20 +80,29 @@ fn a_message_goes_from_the_event_that_sent_it_to_the_one_that_delivered_it(rt: H
     assert!(rt; shows(rt.alloc(), LINE, way));
 }
 
-/// How drawing ends over input in pieces, with a read and a write that fail at these calls (0 is none), and how many bytes are
-/// written.
+/// How drawing ends over input in pieces, with reads and writes that fail at these calls, and how many bytes are written.
+fn ends_over(
+    alloc: Global,
+    input: Vec<u8>,
+    failing_reads: Vec<u64>,
+    failing_writes: Vec<u64>,
+) -> (Result<(), Fault>, usize) {
+    let mut source = MemSource::new(input, 7, failing_reads);
+    let mut sink = MemSink::new(alloc, 100, failing_writes);
+    let end = draw_all(alloc, &mut source, &mut sink);
+    (end, sink.bytes().len())
+}
+
+/// The same over a line, with a read and a write that fail (0 is none).
 fn ends(
     alloc: Global,
     failing_read: u64,
     failing_write: u64,
 ) -> Option<(Result<(), Fault>, usize)> {
     let input = Vec::from_slice(alloc, LINE.as_bytes()).ok()?;
-    let failing_read = Vec::from_slice(alloc, &[failing_read]).ok()?;
-    let failing_write = Vec::from_slice(alloc, &[failing_write]).ok()?;
-    let mut source = MemSource::new(input, 7, failing_read);
-    let mut sink = MemSink::new(alloc, 100, failing_write);
-    let end = draw_all(alloc, &mut source, &mut sink);
-    Some((end, sink.bytes().len()))
+    let reads = Vec::from_slice(alloc, &[failing_read]).ok()?;
+    let writes = Vec::from_slice(alloc, &[failing_write]).ok()?;
+    Some(ends_over(alloc, input, reads, writes))
 }
 
 #[test]
@@ -104,33 +113,29 @@ fn a_failing_read_writes_nothing_and_a_failing_write_leaves_what_came_before(rt:
 }
 
 /// Whether a fault has this exit status and tells this text.
-fn tells(alloc: Global, fault: &Fault, code: u8, text: &str) -> bool {
-    fault.exit_code() == code
-        && fault
-            .to_string(alloc)
-            .is_ok_and(|told| told.as_str() == text)
+fn tells(alloc: Global, fault: Fault, code: u8, text: &str) -> bool {
+    match fault.to_string(alloc) {
+        Ok(told) => fault.exit_code() == code && told.as_str() == text,
+        Err(_) => false,
+    }
+}
+
+fn many() -> Fault {
+    Fault::TooManyEvents {
+        line: 3,
+        events: 2345,
+    }
 }
 
 #[test]
 fn each_fault_has_its_status_and_text(rt: HostRuntime) {
     let alloc = rt.alloc();
-    let many = Fault::TooManyEvents {
-        line: 3,
-        events: 2345,
-    };
     let advice =
         "picture: line 3: 2345 events are more than 2000; ask for the history earlier in the script, or run a shorter one";
-    assert!(rt;
-        tells(
-            alloc,
-            &Fault::Usage,
-            1,
-            "usage: picture <LINES >PICTURE.svg"
-        )
-    );
-    assert!(rt; tells(alloc, &Fault::TooLong, 2, "picture: input is too long"));
-    assert!(rt; tells(alloc, &many, 2, advice));
-    assert!(rt; tells(alloc, &Fault::ReadFault, 3, "picture: read failed"));
-    assert!(rt; tells(alloc, &Fault::WriteFault, 4, "picture: write failed"));
-    assert!(rt; tells(alloc, &Fault::Memory, 5, "picture: out of memory"));
+    assert!(rt; tells(alloc, Fault::Usage, 1, "usage: picture <LINES >PICTURE.svg"));
+    assert!(rt; tells(alloc, Fault::TooLong, 2, "picture: input is too long"));
+    assert!(rt; tells(alloc, many(), 2, advice));
+    assert!(rt; tells(alloc, Fault::ReadFault, 3, "picture: read failed"));
+    assert!(rt; tells(alloc, Fault::WriteFault, 4, "picture: write failed"));
+    assert!(rt; tells(alloc, Fault::Memory, 5, "picture: out of memory"));
 }

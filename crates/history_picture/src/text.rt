@@ -22,21 +22,30 @@ pub fn shown_cells(text: &str) -> usize {
 
 /// Appends a text, and an ellipsis in place of what there is no room for. The whole text then stands behind it.
 pub fn push_shown(text: &str, out: &mut String) -> Result<(), AllocError> {
-    let mut cells = 0_usize;
-    let mut shown = String::new(*out.allocator());
-    for c in text.chars() {
-        cells = cells.saturating_add(cells_of(c));
-        if cells > MAX_CELLS {
+    match cut_of(text) {
+        None => push_escaped(text, MAX_CELLS, out),
+        Some(most) => {
             out.push_str("<title>")?;
             push_escaped(text, MAX_WHOLE, out)?;
             out.push_str("</title>")?;
-            shown.pop();
-            shown.push('…')?;
-            break;
+            push_escaped(text, most, out)?;
+            out.push('…')
         }
-        shown.push(c)?;
     }
-    push_escaped(shown.as_str(), MAX_CELLS, out)
+}
+
+/// How many characters of a text stand before an ellipsis, if there is no room for all.
+fn cut_of(text: &str) -> Option<usize> {
+    let mut cells = 0_usize;
+    let mut fitting = 0_usize;
+    for c in text.chars() {
+        cells = cells.saturating_add(cells_of(c));
+        if cells > MAX_CELLS {
+            return Some(fitting.saturating_sub(1));
+        }
+        fitting = fitting.saturating_add(1);
+    }
+    None
 }
 
 /// Appends the first characters of a text, at most so many, as XML has them.
