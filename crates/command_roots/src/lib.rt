@@ -14,7 +14,7 @@ use script_lang::Command;
 use shared_value::Shared;
 use std::alloc::{AllocError, Global};
 use task_events::SearchAsk;
-use task_ids::{DocSource, Headers, Text};
+use task_ids::{Body, Headers, Text};
 
 /// Whether a body could not be read for want of memory. Otherwise the fault is one of the body.
 fn lacks_memory(fault: &BodyError) -> bool
@@ -24,11 +24,7 @@ fn lacks_memory(fault: &BodyError) -> bool
 }
 
 /// The body of a search, unless it has a fault. With scrolls it shows the first hits, at least one. It fails only for want of memory.
-pub fn body_of(
-    alloc: Global,
-    body: &DocSource,
-    scrolls: bool,
-) -> Result<Option<SearchBody>, AllocError>
+pub fn body_of(alloc: Global, body: &Body, scrolls: bool) -> Result<Option<SearchBody>, AllocError>
     ensures { IfOk result (λ found. found ≡ body_or_none (body_at scrolls (if scrolls then 1 else 0) body.now)) }
 {
     match read_body(alloc, body.as_value(), scrolls, u32::from(scrolls)) {

@@ -12,10 +12,10 @@ use script_lang::Command;
 use shared_value::Shared;
 use std::alloc::{AllocError, Global};
 use task_events::ReindexAsk;
-use task_ids::{DocSource, Text};
+use task_ids::{Body, Text};
 
 /// The body of a reindex, unless it has a fault. It fails only for want of memory.
-pub fn reindex_body(alloc: Global, body: &DocSource) -> Result<Option<ReindexBody>, AllocError>
+pub fn reindex_body(alloc: Global, body: &Body) -> Result<Option<ReindexBody>, AllocError>
     ensures value { IfOk result (λ found. found ≡ result_ok (reindex_at body.now)) }
     ensures batch { IfOk result (λ found. IfSome found (λ read. (1 ≤ read.batch) × (read.batch ≤ 10000))) }
 {

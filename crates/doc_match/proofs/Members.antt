@@ -1,5 +1,5 @@
 -- What lies at a field without a dot is what is at the key of that name, since keys differ.
-use Rattle.std.proofs.Common.{◌≡◌, ℕ, zero, suc, Bool, true, false, cond, not, ◌||◌, ◌==◌, List, [], ◌∷◌, ◌++◌, drop, length, Option, Some, None, option_map, option_copied, String, string_bytes, Global, Bor, refl, sym, ap, subst, ◌∙◌, ◌≢◌, ◌+◌, lit<}
+use Rattle.std.proofs.Common.{◌≡◌, ℕ, zero, suc, Bool, true, false, cond, not, ◌||◌, ◌==◌, List, [], ◌∷◌, ◌++◌, drop, length, is_some, Option, Some, None, option_map, option_copied, String, string_bytes, Global, Bor, refl, sym, ap, subst, ◌∙◌, ◌≢◌, ◌+◌, lit<}
 use Rattle.std.specs.List.{list_any, starts_with}
 use Rattle.std.specs.List.Sorted.{IsStrictlySortedBy}
 use Rattle.std.specs.List.{AllByRecursion}
@@ -18,8 +18,10 @@ use Rattle.std.proofs.lemmas.Map.Text.{is_eq-slice_cmp}
 use Rattle.std.proofs.lemmas.Str.Pattern.{starts_text, strip_prefix_char}
 use Rattle.std.proofs.lemmas.Slice.Eq.{bytes_eq-Decides}
 use Rattle.serde_json.specs.declared.value.Value.{Value}
-use Rattle.serde_json.specs.Data.{Data}
+use Rattle.serde_json.specs.Data.{Data, null, boolean, number, string, array, object, Members, no_members, member}
+use Rattle.serde_json.specs.Find.{as_object, get}
 use Rattle.serde_json.specs.View.{view, members_view}
+use Rattle.task_ids.specs.Source.{values_among, values_at}
 use Rattle.query_match.specs.Values.{after_dot, after_key, same_bytes, held_at, held_behind, is_key}
 
 -- ---- a name without a dot has no part behind a dot
@@ -80,6 +82,27 @@ module _ (name : List ℕ) where
       ap (λ b. option_to_list (option_map view (cond b (Some e.1) (at_name entries)))) same
       ∙ one_more (same_bytes name bytes) e.1 (at_name entries) (held_at name (members_view entries)) later apart
       ∙ ap (λ o. cond (same_bytes name bytes) (view e.1 ∷ []) (option_map_or (λ rest. held_behind rest (view e.1)) o []) ++ held_at name (members_view entries)) (sym (no_rest bytes name (no_dot _ plain)))
+
+-- ---- the same in a document
+
+plain_at : (name : List ℕ) (ms : Members) → is_key name ≡ true → held_at name ms ≡ values_among name ms
+plain_at name no_members plain = refl
+plain_at name (member k d ms) plain =
+    ap (λ o. cond (same_bytes name k) (d ∷ []) (option_map_or (λ rest. held_behind rest d) o []) ++ held_at name ms) (no_rest k name (no_dot _ plain))
+    ∙ ap (λ b. cond b (d ∷ []) [] ++ held_at name ms) (sym (is_eq-slice_cmp name k))
+    ∙ ap (λ l. cond (is_eq (slice_cmp nat_cmp name k)) (d ∷ []) [] ++ l) (plain_at name ms plain)
+
+plain_in : (name : List ℕ) (d : Data) → is_key name ≡ true → is_some (as_object d) ≡ true → held_behind name d ≡ values_at name d
+plain_in name null plain h = absurd cc
+plain_in name (boolean b) plain h = absurd cc
+plain_in name (number n) plain h = absurd cc
+plain_in name (string s) plain h = absurd cc
+plain_in name (array ds) plain h = absurd cc
+plain_in name (object ms) plain h = plain_at name ms plain
+
+pub lies_in : (name : List ℕ) (d : Data) (r : Option (Bor Value)) → is_key name ≡ true → is_some (as_object d) ≡ true → option_map (λ (v : Bor Value). view v.now) r ≡ get name d
+    → values_at name d ≡ option_to_list (get name d) → option_to_list (option_map (λ (v : Bor Value). view v.now) r) ≡ held_behind name d
+lies_in name d r plain is found alone = ap option_to_list found ∙ sym alone ∙ sym (plain_in name d plain is)
 
 -- ---- the rest of a name behind a key and a dot
 

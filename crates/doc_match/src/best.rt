@@ -1,15 +1,17 @@
 //! The least or the greatest value of a field.
 
-ghost use Rattle.std.specs.Prelude.{◌≡◌, fold, option_map};
+ghost use Rattle.std.specs.Prelude.{◌≡◌, None, fold, option_map};
 ghost use Rattle.std.specs.List.{flat_map};
 ghost use Rattle.serde_json.specs.View.{view, items_view, members_view};
 ghost use Rattle.query_match.specs.Found.{found_view};
-ghost use Rattle.query_match.specs.Sorting.{goes_before, better};
-ghost use Rattle.query_match.specs.Values.{values_in, values_in_each, held_at, held_by_key, held_behind, held_behind_each};
+ghost use Rattle.task_ids.specs.Source.{members_in};
+ghost use Rattle.query_match.specs.Sorting.{goes_before, better, best_of};
+ghost use Rattle.query_match.specs.Values.{field_values, values_in, values_in_each, held_at, held_by_key, held_behind, held_behind_each};
 
-use crate::field::{after_key, member};
+use crate::field::{after_key, member, value_at};
 use query_match::{Found, is_key, value_in};
 use serde_json::{Map, Value};
+use task_ids::{DocSource, Member};
 
 fn goes_before(descending: bool, value: &Found<'_>, other: &Found<'_>) -> bool
     ensures { result ≡ goes_before descending (found_view value.now) (found_view other.now) }
@@ -126,7 +128,7 @@ fn best_by_key<'v>(
 
 /// The best of the values of a field, in an object or in each of a list of them, and of the best before.
 #[cycle(best_held)]
-pub(crate) fn best_behind<'v>(
+fn best_behind<'v>(
     descending: bool,
     field: &str,
     best: Option<Found<'v>>,
@@ -157,6 +159,41 @@ fn best_behind_each<'v>(
     let mut best = best;
     for item in items {
         best = best_behind(descending, field, best, item);
+    }
+    best
+}
+
+/// The best of the values of a field of a document. A field without a dot is one look-up.
+pub(crate) fn best_value<'v>(
+    descending: bool,
+    field: &str,
+    source: &'v DocSource,
+) -> Option<Found<'v>>
+    ensures { option_map found_view result ≡ best_of descending (field_values field.now source.entry.now) }
+{
+    if is_key(field) {
+        return match value_at(source, field) {
+            Some(value) => best_in(descending, None, value),
+            None => None,
+        };
+    }
+    best_in_members(descending, field, source.members())
+}
+
+/// The same, found by a walk over all keys.
+fn best_in_members<'v>(descending: bool, field: &str, members: &'v [Member]) -> Option<Found<'v>>
+    ensures { option_map found_view result
+        ≡ fold (better descending) None (flat_map values_in (held_at field.now (members_in members.entry.now))) }
+{
+    let mut best = None;
+    for member in members {
+        best = best_by_key(
+            descending,
+            field,
+            best,
+            member.key.get().as_str(),
+            &member.value,
+        );
     }
     best
 }

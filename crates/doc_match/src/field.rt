@@ -3,9 +3,10 @@
 ghost use Rattle.std.specs.Prelude.{◌≡◌, true, option_map};
 ghost use Rattle.std.specs.Option.{option_to_list};
 ghost use Rattle.serde_json.specs.View.{view, members_view};
-ghost use Rattle.query_match.specs.Values.{after_key, held_at, is_key};
+ghost use Rattle.query_match.specs.Values.{after_key, held_at, held_behind, is_key};
 
 use serde_json::{Map, Value};
+use task_ids::DocSource;
 
 /// What lies at a field without a dot, where something does.
 pub(crate) fn member<'v>(members: &'v Map<String, Value>, field: &str) -> Option<&'v Value>
@@ -17,6 +18,14 @@ pub(crate) fn member<'v>(members: &'v Map<String, Value>, field: &str) -> Option
         return None;
     }
     members.get(field)
+}
+
+/// What lies at a field without a dot of a document, where something does.
+pub(crate) fn value_at<'v>(source: &'v DocSource, field: &str) -> Option<&'v Value>
+    requires { is_key field.now ≡ true }
+    ensures { option_to_list (option_map (λ v. view v.now) result) ≡ held_behind field.now source.now }
+{
+    source.get(field)
 }
 
 /// The rest of a field's name that begins with the key and a dot.

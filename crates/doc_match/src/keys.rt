@@ -1,16 +1,15 @@
 //! The keys of documents for a sort.
 
 ghost use Rattle.std.specs.Prelude.{◌≡◌, option_map, IfOk};
-ghost use Rattle.serde_json.specs.View.{view};
 ghost use Rattle.query_match.specs.Found.{found_view};
 ghost use Rattle.query_match.specs.Values.{field_values};
 ghost use Rattle.query_match.specs.Sorting.{best_of, part_of, part_at, part_cmp, key_of, key_cmp};
 
-use crate::best::best_behind;
+use crate::best::best_value;
 use query_match::{Found, Items, KeyPart, SortBy, SortKey};
-use serde_json::Value;
 use std::alloc::{AllocError, Global};
 use std::cmp::Ordering;
+use task_ids::DocSource;
 
 fn part_of(alloc: Global, descending: bool, best: Option<Found<'_>>) -> Result<KeyPart, AllocError>
     ensures { IfOk result (λ part. part ≡ part_of descending (option_map found_view best.entry)) }
@@ -29,15 +28,15 @@ fn part_of(alloc: Global, descending: bool, best: Option<Found<'_>>) -> Result<K
 }
 
 /// The value of a document that an entry of a sort goes by.
-fn best_by<'v>(by: &SortBy, source: &'v Value) -> Option<Found<'v>>
+fn best_by<'v>(by: &SortBy, source: &'v DocSource) -> Option<Found<'v>>
     ensures { option_map found_view result
-        ≡ best_of by.now.descending (field_values by.now.field (view source.entry.now)) }
+        ≡ best_of by.now.descending (field_values by.now.field source.entry.now) }
 {
-    best_behind(by.descending, by.field.as_str(), None, source)
+    best_value(by.descending, by.field.as_str(), source)
 }
 
-fn key_part(alloc: Global, by: &SortBy, source: &Value) -> Result<KeyPart, AllocError>
-    ensures { IfOk result (λ part. part ≡ part_at (view source.now) by.now) }
+fn key_part(alloc: Global, by: &SortBy, source: &DocSource) -> Result<KeyPart, AllocError>
+    ensures { IfOk result (λ part. part ≡ part_at source.now by.now) }
 {
     part_of(alloc, by.descending, best_by(by, source))
 }
@@ -45,8 +44,8 @@ fn key_part(alloc: Global, by: &SortBy, source: &Value) -> Result<KeyPart, Alloc
 /// The key of a document for a sort.
 ///
 /// A number with a fraction or an exponent is no value. It fails only for want of memory.
-pub fn sort_key(alloc: Global, sort: &[SortBy], source: &Value) -> Result<SortKey, AllocError>
-    ensures { IfOk result (λ key. key ≡ key_of sort.now (view source.now)) }
+pub fn sort_key(alloc: Global, sort: &[SortBy], source: &DocSource) -> Result<SortKey, AllocError>
+    ensures { IfOk result (λ key. key ≡ key_of sort.now source.now) }
 {
     let mut parts = Vec::with_capacity(alloc, sort.len())?;
     for by in sort {
@@ -71,8 +70,8 @@ fn compare_best(descending: bool, best: Option<Found<'_>>, part: &KeyPart) -> Or
 }
 
 /// How the part of a document for an entry of a sort stands to another part.
-fn compare_part(by: &SortBy, source: &Value, part: &KeyPart) -> Ordering
-    ensures { result ≡ part_cmp (part_at (view source.now) by.now) part.now }
+fn compare_part(by: &SortBy, source: &DocSource, part: &KeyPart) -> Ordering
+    ensures { result ≡ part_cmp (part_at source.now by.now) part.now }
 {
     compare_best(by.descending, best_by(by, source), part)
 }
@@ -81,8 +80,8 @@ fn compare_part(by: &SortBy, source: &Value, part: &KeyPart) -> Ordering
 ///
 /// It takes no memory, and looks at no further field once a part differs. A number with a fraction or an exponent is no
 /// value. A key of fewer parts stands before those that begin with the same parts.
-pub fn compare_key(sort: &[SortBy], source: &Value, key: &SortKey) -> Ordering
-    ensures { result ≡ key_cmp (key_of sort.now (view source.now)) key.now }
+pub fn compare_key(sort: &[SortBy], source: &DocSource, key: &SortKey) -> Ordering
+    ensures { result ≡ key_cmp (key_of sort.now source.now) key.now }
 {
     let mut rest = key.as_slice();
     for by in sort {

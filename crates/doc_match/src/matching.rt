@@ -4,13 +4,15 @@ ghost use Rattle.std.specs.Prelude.{◌≡◌, nat_le};
 ghost use Rattle.std.specs.List.{list_any};
 ghost use Rattle.serde_json.specs.View.{view, items_view, members_view};
 ghost use Rattle.query_match.specs.Matching.{holds, matches, all_match, none_matches, match_count};
+ghost use Rattle.task_ids.specs.Source.{members_in};
 ghost use Rattle.query_match.specs.Values.{same_bytes, held_at, held_by_key, held_behind, held_behind_each};
 ghost use Rattle.query_match.specs.View.{query_view, queries_view};
 
-use crate::field::{after_key, member};
+use crate::field::{after_key, member, value_at};
 use crate::field_test::holds;
 use query_match::{Node, Query, Test, Text, is_key};
 use serde_json::{Map, Value};
+use task_ids::{DocSource, Member};
 
 /// Something that lies at the field of an object passes the test. A field without a dot is one look-up.
 #[cycle(held)]
@@ -76,6 +78,31 @@ fn holds_behind_one(test: &Test, field: &str, items: &[Value]) -> bool
     false
 }
 
+/// Something that lies at the field of a document passes the test. A field without a dot is one look-up.
+fn holds_in(test: &Test, field: &str, source: &DocSource) -> bool
+    ensures { result ≡ list_any (holds test.now) (held_behind field.now source.now) }
+{
+    if is_key(field) {
+        return match value_at(source, field) {
+            Some(value) => holds(test, value),
+            None => false,
+        };
+    }
+    holds_in_members(test, field, source.members())
+}
+
+/// The same, found by a walk over all keys.
+fn holds_in_members(test: &Test, field: &str, members: &[Member]) -> bool
+    ensures { result ≡ list_any (holds test.now) (held_at field.now (members_in members.now)) }
+{
+    for member in members {
+        if holds_by_key(test, field, member.key.get().as_str(), &member.value) {
+            return true;
+        }
+    }
+    false
+}
+
 fn is_one_of(id: &[u8], ids: &[Text]) -> bool
     ensures { result ≡ list_any (same_bytes id.now) ids.now }
 {
@@ -83,13 +110,13 @@ fn is_one_of(id: &[u8], ids: &[Text]) -> bool
 }
 
 #[cycle(matching)]
-fn node_matches(node: &Node, id: &[u8], source: &Value) -> bool
-    ensures { result ≡ matches (query_view node.now) id.now (view source.now) }
+fn node_matches(node: &Node, id: &[u8], source: &DocSource) -> bool
+    ensures { result ≡ matches (query_view node.now) id.now source.now }
 {
     match node {
         Node::All => true,
         Node::Nothing => false,
-        Node::Field(field, test) => holds_behind(test, field.as_str(), source),
+        Node::Field(field, test) => holds_in(test, field.as_str(), source),
         Node::Ids(ids) => is_one_of(id, ids.as_slice()),
         Node::Bool {
             must,
@@ -107,8 +134,8 @@ fn node_matches(node: &Node, id: &[u8], source: &Value) -> bool
 }
 
 #[cycle(matching)]
-fn all_match(nodes: &[Node], id: &[u8], source: &Value) -> bool
-    ensures { result ≡ all_match (queries_view nodes.now) id.now (view source.now) }
+fn all_match(nodes: &[Node], id: &[u8], source: &DocSource) -> bool
+    ensures { result ≡ all_match (queries_view nodes.now) id.now source.now }
 {
     for node in nodes {
         if !node_matches(node, id, source) {
@@ -119,8 +146,8 @@ fn all_match(nodes: &[Node], id: &[u8], source: &Value) -> bool
 }
 
 #[cycle(matching)]
-fn none_matches(nodes: &[Node], id: &[u8], source: &Value) -> bool
-    ensures { result ≡ none_matches (queries_view nodes.now) id.now (view source.now) }
+fn none_matches(nodes: &[Node], id: &[u8], source: &DocSource) -> bool
+    ensures { result ≡ none_matches (queries_view nodes.now) id.now source.now }
 {
     for node in nodes {
         if node_matches(node, id, source) {
@@ -132,8 +159,8 @@ fn none_matches(nodes: &[Node], id: &[u8], source: &Value) -> bool
 
 /// At least so many of the queries match.
 #[cycle(matching)]
-fn enough_match(nodes: &[Node], least: u32, id: &[u8], source: &Value) -> bool
-    ensures { result ≡ nat_le least (match_count (queries_view nodes.now) id.now (view source.now)) }
+fn enough_match(nodes: &[Node], least: u32, id: &[u8], source: &DocSource) -> bool
+    ensures { result ≡ nat_le least (match_count (queries_view nodes.now) id.now source.now) }
 {
     let mut missing = least;
     for node in nodes {
@@ -149,9 +176,9 @@ fn enough_match(nodes: &[Node], least: u32, id: &[u8], source: &Value) -> bool
 
 /// Whether the document of this id and source matches.
 ///
-/// It takes no memory, and looks once into the source for each field without a dot that the query names; for one with dots it walks the keys. A number with a fraction or an exponent is no value. A source is an object; of a list the objects in it would count.
-pub fn matches(query: &Query, id: &[u8], source: &Value) -> bool
-    ensures { result ≡ matches query.now id.now (view source.now) }
+/// It takes no memory, and looks once into the source for each field without a dot that the query names; for one with dots it walks the keys. A number with a fraction or an exponent is no value.
+pub fn matches(query: &Query, id: &[u8], source: &DocSource) -> bool
+    ensures { result ≡ matches query.now id.now source.now }
 {
     node_matches(query.node(), id, source)
 }

@@ -5,12 +5,13 @@ ghost use Rattle.std.specs.List.{list_any};
 ghost use Rattle.serde_json.specs.View.{view, items_view};
 ghost use Rattle.query_match.specs.Matching.{holds, passes};
 ghost use Rattle.query_match.specs.declared.query.Test.TheVariants.{Equals};
-ghost use Rattle.query_match.specs.Values.{is_key, held_behind, held_behind_each, values_in, values_in_each};
+ghost use Rattle.query_match.specs.Values.{is_key, held_behind, values_in, values_in_each};
 
-use crate::field::member;
+use crate::field::value_at;
 use crate::field_test::are_equal;
 use query_match::{Pick, Scalar, value_in};
 use serde_json::Value;
+use task_ids::DocSource;
 
 /// A value of this is the wanted one, lists flattened.
 #[cycle(equal)]
@@ -40,30 +41,12 @@ fn one_equals(wanted: &Scalar, items: &[Value]) -> bool
 
 /// Whether a document has the picked value at its field, of which the name has no dot. It takes no memory, and looks
 /// once into the source.
-#[cycle(picked)]
-pub fn has_picked(pick: Pick<'_>, source: &Value) -> bool
+pub fn has_picked(pick: Pick<'_>, source: &DocSource) -> bool
     requires { is_key pick.field.now ≡ true }
-    ensures { result ≡ list_any (holds (Equals pick.entry.value.now)) (held_behind pick.entry.field.now (view source.now)) }
+    ensures { result ≡ list_any (holds (Equals pick.entry.value.now)) (held_behind pick.entry.field.now source.now) }
 {
-    match source {
-        Value::Object(members) => match member(members, pick.field.as_str()) {
-            Some(value) => some_equals(pick.value, value),
-            None => false,
-        },
-        Value::Array(items) => one_has_picked(pick, items.as_slice()),
-        _ => false,
+    match value_at(source, pick.field.as_str()) {
+        Some(value) => some_equals(pick.value, value),
+        None => false,
     }
-}
-
-#[cycle(picked)]
-fn one_has_picked(pick: Pick<'_>, items: &[Value]) -> bool
-    requires { is_key pick.field.now ≡ true }
-    ensures { result ≡ list_any (holds (Equals pick.entry.value.now)) (held_behind_each pick.entry.field.now (items_view items.now)) }
-{
-    for item in items {
-        if has_picked(pick, item) {
-            return true;
-        }
-    }
-    false
 }

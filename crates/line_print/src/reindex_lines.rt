@@ -21,13 +21,13 @@ use script_lang::Command;
 use serde_json::{Map, Value};
 use std::alloc::{AllocError, Global};
 use task_events::{Counts, Event, Events, Reply};
-use task_ids::DocSource;
+use task_ids::Body;
 
 /// Why a reindex has no task, by the events of its turn, if it has none.
 fn refusal(
     alloc: Global,
     run: &Run,
-    body: &DocSource,
+    body: &Body,
     turn: &Events<'_>,
 ) -> Result<Option<Value>, AllocError>
     requires { IsReady run.now }
@@ -123,7 +123,7 @@ pub(crate) fn reindex_line(
     out: &mut Vec<u8>,
     run: &Run,
     command: u32,
-    body: &DocSource,
+    body: &Body,
 ) -> Result<(), AllocError>
     requires ready { IsReady run.now }
     requires command { command ≤ length run.now.script.now }

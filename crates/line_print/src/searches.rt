@@ -21,7 +21,7 @@ use script_lang::Command;
 use serde_json::Value;
 use std::alloc::{AllocError, Global};
 use task_events::{Event, Events, Reply};
-use task_ids::{DocSource, TaskId};
+use task_ids::{Body, TaskId};
 
 fn root_in(event: &Event) -> Option<TaskId>
     ensures { result ≡ root_in event.now }
@@ -66,7 +66,7 @@ pub(crate) fn full_node(turn: &Events<'_>) -> Option<u32>
 }
 
 /// The fault of a search's body as JSON, if it has one. With scrolls it must show the first hits, at least one.
-fn body_refusal(alloc: Global, scrolls: bool, body: &DocSource) -> Result<Option<Value>, AllocError>
+fn body_refusal(alloc: Global, scrolls: bool, body: &Body) -> Result<Option<Value>, AllocError>
     ensures { IfOk result (λ error. option_map view error ≡ option_map body_error (fault_in (body_at scrolls (if scrolls then 1 else 0) body.now))) }
 {
     match read_body(alloc, body.as_value(), scrolls, u32::from(scrolls)) {
@@ -106,7 +106,7 @@ pub(crate) fn refusal(
     alloc: Global,
     index: &str,
     scrolls: bool,
-    body: &DocSource,
+    body: &Body,
     known: bool,
     turn: &Events<'_>,
 ) -> Result<Option<Value>, AllocError>
@@ -208,7 +208,7 @@ pub(crate) fn search_line(
     command: u32,
     index: &str,
     scrolls: bool,
-    body: &DocSource,
+    body: &Body,
 ) -> Result<(), AllocError>
     requires ready { IsReady run.now }
     requires command { command ≤ length run.now.script.now }

@@ -1,5 +1,5 @@
 use shared_value::Shared;
-use task_ids::{DocSource, Items, TaskId, Text};
+use task_ids::{Body, Items, TaskId, Text};
 use tasks_api::{Filter, GroupBy};
 
 /// How a script runs: step by step in one order that it may choose, or on threads.
@@ -43,7 +43,7 @@ pub enum Command {
         /// The keep-alive of the context that it opens, from 1 to 86,400,000 ms, if it is written.
         scroll: Option<u64>,
         /// The query and what else a search has, which may have faults. It is empty where it is not written.
-        body: DocSource,
+        body: Body,
         /// The text by which a client knows what it started, if it is written. Each task that the search asks for carries it on.
         opaque_id: Option<Shared<Text>>,
     },
@@ -66,7 +66,7 @@ pub enum Command {
         /// The node that it starts on, from 1, which is what stands where it is not written.
         node: u32,
         /// What is read and where it is written, which may have faults and name unknown indices.
-        body: DocSource,
+        body: Body,
         /// Into how many slices the documents are cut, from 1 to 32, and 1 where it is not written.
         slices: u32,
         /// How many documents a second are written at most, from 1 to 1,000,000. There is no such bound where -1 or nothing is written.

@@ -1,7 +1,6 @@
 //! The script of an input: its commands, read exactly or refused at the first bad line.
 #![tactic(auto)]
 
-mod bodies;
 mod cancels;
 mod command;
 mod commands;

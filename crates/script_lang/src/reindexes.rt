@@ -10,7 +10,6 @@ ghost use Rattle.script_lang.specs.Commands as spec;
 ghost use Rattle.script_lang.specs.Fields.{seen};
 ghost use Rattle.script_lang.specs.Seen.{reindex_seen};
 
-use crate::bodies::source_from;
 use crate::command::Command;
 use crate::error::CommandError;
 use crate::fields::{
@@ -19,7 +18,7 @@ use crate::fields::{
 use crate::texts::shared_from;
 use serde_json::Value;
 use std::alloc::Global;
-use task_ids::Cause;
+use task_ids::{Body, Cause};
 
 /// The fields of a reindex.
 const REINDEX_FIELDS: [&str; 5] = ["body", "node", "slices", "requests_per_second", "opaque_id"];
@@ -67,7 +66,7 @@ pub(crate) fn reindex_in(alloc: Global, nodes: u32, value: &Value) -> Result<Com
     let parts = reindex_parts(nodes, value)?;
     Ok(Command::Reindex {
         node: parts.node,
-        body: source_from(alloc, parts.body.clone()?)?,
+        body: Body::new(parts.body.clone()?),
         slices: parts.slices,
         rate: parts.rate,
         opaque_id: shared_from(alloc, parts.opaque_id)?,

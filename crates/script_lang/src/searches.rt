@@ -11,7 +11,6 @@ ghost use Rattle.script_lang.specs.Commands as spec;
 ghost use Rattle.script_lang.specs.Fields.{seen, body_or_empty};
 ghost use Rattle.script_lang.specs.Seen.{search_seen};
 
-use crate::bodies::source_from;
 use crate::command::Command;
 use crate::error::CommandError;
 use crate::fields::{
@@ -20,7 +19,7 @@ use crate::fields::{
 use crate::texts::{shared_from, text_from};
 use serde_json::{Map, Value};
 use std::alloc::Global;
-use task_ids::{Cause, DocSource};
+use task_ids::{Body, Cause};
 
 /// The fields of a search.
 const SEARCH_FIELDS: [&str; 5] = ["index", "node", "scroll", "body", "opaque_id"];
@@ -36,15 +35,14 @@ struct SearchParts<'v> {
 }
 
 /// The body of a search, an empty object where there is none.
-fn body_from(alloc: Global, value: Option<&Value>) -> Result<DocSource, CommandError>
+fn body_from(alloc: Global, value: Option<&Value>) -> Result<Body, CommandError>
     requires { IsSource (body_or_empty (option_map (λ v. view v.now) value)) }
     ensures { Reads (λ b. b) result (Ok (body_or_empty (option_map (λ v. view v.now) value.entry))) }
 {
-    let body = match value {
-        Some(body) => body.clone()?,
-        None => Value::Object(Map::new(alloc)),
-    };
-    source_from(alloc, body)
+    match value {
+        Some(body) => Ok(Body::new(body.clone()?)),
+        None => Ok(Body::new(Value::Object(Map::new(alloc)))),
+    }
 }
 
 /// What a search on a cluster of so many nodes says.

@@ -25,7 +25,7 @@ pub(crate) fn is_found(ask: &ShardAsk, doc: &Doc) -> bool
     ensures { result ≡ is_found ask.now.body ask.now.slice doc.now }
 {
     let id = doc.id.get().as_str().as_bytes();
-    matches(&ask.body.get().query, id, doc.source.as_value()) && is_in_slice(ask.slice, id)
+    matches(&ask.body.get().query, id, &doc.source) && is_in_slice(ask.slice, id)
 }
 
 /// Whether each row that a query looks at matches, so that no document tells more.
@@ -40,7 +40,7 @@ pub(crate) fn compare_row(ask: &ShardAsk, place: u32, doc: &Doc, key: &HitKey) -
     ensures { result ≡ hit_cmp (hit_key ask.now.body ask.now.shard (place, doc.now)) key.now }
 {
     let sort = ask.body.get().sort.as_slice();
-    compare_key(sort, doc.source.as_value(), &key.sort)
+    compare_key(sort, &doc.source, &key.sort)
         .then(ask.shard.cmp(&key.shard))
         .then(place.cmp(&key.place))
 }
@@ -64,7 +64,7 @@ pub(crate) fn key_of_row(
 ) -> Result<HitKey, AllocError>
     ensures { IfOk result (λ key. key ≡ hit_key ask.now.body ask.now.shard (place, doc.now)) }
 {
-    let sort = sort_key(alloc, ask.body.get().sort.as_slice(), doc.source.as_value())?;
+    let sort = sort_key(alloc, ask.body.get().sort.as_slice(), &doc.source)?;
     Ok(HitKey {
         sort,
         shard: ask.shard,

@@ -13,7 +13,7 @@ use crate::lines::split_line;
 use crate::seen::Seen;
 use shared_value::Shared;
 use std::alloc::{AllocError, Global};
-use task_ids::{Cause, Corpus, CorpusLine, Doc, Items, Text};
+use task_ids::{Cause, Corpus, CorpusLine, Doc, Items, Keys, Text};
 
 /// The line between the documents and the script.
 const DASHES: &str = "--";
@@ -55,6 +55,7 @@ fn shared_id(alloc: Global, id: Text) -> Result<Shared<Text>, AllocError>
 fn document_of(
     alloc: Global,
     seen: &mut Seen,
+    keys: &mut Keys,
     number: u32,
     action: BulkAction,
     source: &[u8],
@@ -67,7 +68,7 @@ fn document_of(
     if action.kind == BulkKind::Create && !is_new {
         return Err(CorpusError::at(number, Cause::Conflict));
     }
-    let source = source_of_line(alloc, number + 1, source)?;
+    let source = source_of_line(alloc, number + 1, source, keys)?;
     let BulkAction { index, id, .. } = action;
     let id = shared_id(alloc, id)?;
     let doc = Doc { id, source };
@@ -79,6 +80,7 @@ fn document_of(
 fn document_at<'a>(
     alloc: Global,
     seen: &mut Seen,
+    keys: &mut Keys,
     number: u32,
     line: &[u8],
     after: &'a [u8],
@@ -91,7 +93,7 @@ fn document_at<'a>(
 {
     let action = action_of_line(alloc, number, line)?;
     let (source, left) = source_after(number, after)?;
-    let document = document_of(alloc, seen, number, action, source)?;
+    let document = document_of(alloc, seen, keys, number, action, source)?;
     Ok((document, left))
 }
 
@@ -101,6 +103,7 @@ fn read_documents(
     alloc: Global,
     found: &mut Items<CorpusLine>,
     seen: &mut Seen,
+    keys: &mut Keys,
     bytes: &[u8],
 ) -> Result<(usize, u32), CorpusError>
     requires short { length bytes.now ≤ 67108864 }
@@ -120,7 +123,7 @@ fn read_documents(
         if line == DASHES.as_bytes() {
             return Ok((bytes.len() - after.len(), number + 1));
         }
-        let (document, left) = document_at(alloc, seen, number, line, after)?;
+        let (document, left) = document_at(alloc, seen, keys, number, line, after)?;
         found.push(document)?;
         number += 2;
         rest = left;
@@ -140,7 +143,8 @@ fn read_all_documents(
     ensures within { IfOk result (λ place. place.0 ≤ length bytes.now) }
 {
     let mut seen = Seen::new(alloc);
-    read_documents(alloc, found, &mut seen, bytes)
+    let mut keys = Keys::new(alloc);
+    read_documents(alloc, found, &mut seen, &mut keys, bytes)
 }
 
 /// Reads the documents of an input, up to the line `--` or the end. The input has at most 67,108,864 bytes.

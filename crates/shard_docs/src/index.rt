@@ -1,18 +1,20 @@
 ghost use Rattle.std.specs.Prelude.{◌≡◌, ◌⊎◌, ℕ, List, [], true, false, ◌&&◌, filter, OnOk, OnErr};
 ghost use Rattle.std.specs.List.{list_any};
 ghost use Rattle.std.specs.List.Sorted.{IsNonDecreasing};
-ghost use Rattle.serde_json.specs.View.{view, items_view, members_view};
+ghost use Rattle.serde_json.specs.View.{view, items_view};
+ghost use Rattle.task_ids.specs.Source.{members_in};
 ghost use Rattle.query_match.specs.Matching.{holds, passes};
-ghost use Rattle.query_match.specs.Values.{is_key, same_bytes, value_eq, held_at, held_by_key, held_behind, held_behind_each, values_in_each};
+ghost use Rattle.query_match.specs.Values.{is_key, same_bytes, value_eq, held_at, held_by_key, held_behind, values_in_each};
 ghost use Rattle.query_match.specs.declared.query.Test.TheVariants.{Equals};
 ghost use Rattle.query_match.specs.declared.scalar.Scalar as scalars;
 ghost use Rattle.shard_docs.specs.Candidates.{is_above};
 ghost use Rattle.shard_docs.specs.Places.{places_at, places_of, with_place, MayAdd, HasAdded, KeepsUnless};
 
 use query_match::{Scalar, is_key, value_in};
-use serde_json::{Map, Value};
+use serde_json::Value;
 use std::alloc::{AllocError, Global};
 use std::collections::{BTreeMap, HashMap};
+use task_ids::{DocSource, Member};
 
 /// The places of the rows that have a value at a field, by field and value: ascending, each once. A field is a key
 /// without a dot, and of a list each value counts, at any depth. Places may be left of a row for which memory ran out, and
@@ -158,47 +160,28 @@ impl Index {
         self.add_values(key, value, place)
     }
 
-    fn add_members(&mut self, members: &Map<String, Value>, place: u32) -> Result<(), AllocError>
+    fn add_members(&mut self, members: &[Member], place: u32) -> Result<(), AllocError>
         ensures added { OnOk result ((f : List ℕ) (v : scalars.Scalar) → is_key f ≡ true
-            → list_any (holds (Equals v)) (held_at f (members_view members.now.entries)) ≡ true
+            → list_any (holds (Equals v)) (held_at f (members_in members.now)) ≡ true
             → HasAdded place f v self.old self.new) }
         ensures others { MayAdd place self.old self.new }
-        ensures kept { KeepsUnless (λ f v. list_any (holds (Equals v)) (held_at f (members_view members.now.entries))) self.old self.new }
+        ensures kept { KeepsUnless (λ f v. list_any (holds (Equals v)) (held_at f (members_in members.now))) self.old self.new }
     {
-        for (key, value) in members.iter() {
-            self.add_member(key.as_str(), value, place)?;
+        for member in members {
+            self.add_member(member.key.get().as_str(), &member.value, place)?;
         }
         Ok(())
     }
 
     /// Adds a place to those of each value of a document at each of its fields. Where memory runs out the place may
     /// stand at some of them.
-    #[cycle(sources)]
-    pub(crate) fn add(&mut self, source: &Value, place: u32) -> Result<(), AllocError>
+    pub(crate) fn add(&mut self, source: &DocSource, place: u32) -> Result<(), AllocError>
         ensures added { OnOk result ((f : List ℕ) (v : scalars.Scalar) → is_key f ≡ true
-            → list_any (holds (Equals v)) (held_behind f (view source.now)) ≡ true
+            → list_any (holds (Equals v)) (held_behind f source.now) ≡ true
             → HasAdded place f v self.old self.new) }
         ensures others { MayAdd place self.old self.new }
-        ensures kept { KeepsUnless (λ f v. list_any (holds (Equals v)) (held_behind f (view source.now))) self.old self.new }
+        ensures kept { KeepsUnless (λ f v. list_any (holds (Equals v)) (held_behind f source.now)) self.old self.new }
     {
-        match source {
-            Value::Object(members) => self.add_members(members, place),
-            Value::Array(items) => self.add_sources(items.as_slice(), place),
-            _ => Ok(()),
-        }
-    }
-
-    #[cycle(sources)]
-    fn add_sources(&mut self, items: &[Value], place: u32) -> Result<(), AllocError>
-        ensures added { OnOk result ((f : List ℕ) (v : scalars.Scalar) → is_key f ≡ true
-            → list_any (holds (Equals v)) (held_behind_each f (items_view items.now)) ≡ true
-            → HasAdded place f v self.old self.new) }
-        ensures others { MayAdd place self.old self.new }
-        ensures kept { KeepsUnless (λ f v. list_any (holds (Equals v)) (held_behind_each f (items_view items.now))) self.old self.new }
-    {
-        for item in items {
-            self.add(item, place)?;
-        }
-        Ok(())
+        self.add_members(source.members(), place)
     }
 }

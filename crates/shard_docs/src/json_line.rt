@@ -9,7 +9,7 @@ ghost use Rattle.shard_docs.specs.Json.{json_of, whole_json_of, source_of};
 use crate::fault::CorpusError;
 use serde_json::Value;
 use std::alloc::Global;
-use task_ids::{Cause, DocSource, NotSource, is_whole};
+use task_ids::{Cause, DocSource, Keys, NotSource, is_whole};
 
 /// How many bytes a line has at most, without its end.
 const MAX_LINE: usize = 1_048_576;
@@ -51,17 +51,18 @@ pub fn whole_value_of_line(alloc: Global, number: u32, line: &[u8]) -> Result<Va
     }
 }
 
-/// The source of a document, on a line of this number.
+/// The source of a document, on a line of this number. It shares its keys with those that are known.
 #[tactic(auto, unfolding(crate::specs::Json::whole_json_of, crate::specs::Json::source_of))]
 pub(crate) fn source_of_line(
     alloc: Global,
     number: u32,
     line: &[u8],
+    keys: &mut Keys,
 ) -> Result<DocSource, CorpusError>
     ensures { Gives (λ source. source) result (on_line number (source_of line.now)) }
 {
     let value = value_of_line(alloc, number, line)?;
-    match DocSource::new(alloc, value) {
+    match DocSource::new(alloc, value, keys) {
         Ok(source) => Ok(source),
         Err(NotSource::NotWhole) => Err(CorpusError::at(number, Cause::NotWhole)),
         Err(NotSource::NotObject) => Err(CorpusError::at(number, Cause::NotObject)),

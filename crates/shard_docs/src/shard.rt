@@ -97,7 +97,7 @@ impl Shard {
         // until the row of the new places stands
         let was_spoiled = self.spoiled;
         self.spoiled = true;
-        self.index.add(doc.source.as_value(), place as u32)?;
+        self.index.add(&doc.source, place as u32)?;
         let id = String::from_str(*self.rows.allocator(), doc.id.get().as_str())?;
         self.rows.reserve()?;
         self.deaths.reserve(1)?;
@@ -287,7 +287,7 @@ impl Shard {
         ensures { result ≡ is_candidate (option_map picked pick.entry) version self.now place }
     {
         match (self.row(version, place), pick) {
-            (Some(doc), Some(pick)) => has_picked(pick, doc.source.as_value()),
+            (Some(doc), Some(pick)) => has_picked(pick, &doc.source),
             (Some(_), None) => true,
             (None, _) => false,
         }
@@ -316,7 +316,7 @@ fn index_of(rows: &Rows) -> Result<Index, AllocError>
 {
     let mut index = Index::new(*rows.allocator());
     for row in rows.kept() {
-        index.add(row.doc.source.as_value(), row.place)?;
+        index.add(&row.doc.source, row.place)?;
     }
     Ok(index)
 }

@@ -1,4 +1,5 @@
 pub mod LastStar
+pub mod Members
 pub mod OneValue
 pub mod Patterns
 pub mod SameId

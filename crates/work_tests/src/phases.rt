@@ -10,7 +10,7 @@ use shard_docs::Shard;
 use shared_value::Shared;
 use std::alloc::{AllocError, Global};
 use task_events::{FetchAsk, Hit, HitKey, ShardAsk, ShardTop, SlicePick};
-use task_ids::{Doc, DocSource, Items, Text};
+use task_ids::{Doc, DocSource, Items, Keys, Text};
 
 /// Documents with an id and a source a line. The first `a` is written again.
 const DOCS: &str = r#"a {"n":3}
@@ -24,10 +24,17 @@ pub(crate) fn text(alloc: Global, text: &str) -> Result<Text, AllocError> {
     Ok(Text::new(String::from_str(alloc, text)?))
 }
 
+/// The source of a document that this text is.
+pub(crate) fn source_of(alloc: Global, json: &str) -> Option<DocSource> {
+    let value = Value::from_str(alloc, json).ok()?;
+    let mut keys = Keys::new(alloc);
+    DocSource::new(alloc, value, &mut keys).ok()
+}
+
 pub(crate) fn write(alloc: Global, shard: &mut Shard, line: &str) -> Option<()> {
     let (id, source) = line.split_once(" ")?;
     let id = Shared::new(alloc, text(alloc, id).ok()?).ok()?;
-    let source = DocSource::new(alloc, Value::from_str(alloc, source).ok()?).ok()?;
+    let source = source_of(alloc, source)?;
     shard.write(Doc { id, source }).ok()?;
     Some(())
 }

@@ -1,10 +1,10 @@
 //! Where documents lie, and a shard as of its versions.
 
-use serde_json::Value;
+use crate::phases::source_of;
 use shard_docs::{Shard, Written, hash_id, node_of, shard_of, slice_of};
 use shared_value::Shared;
 use std::alloc::Global;
-use task_ids::{Doc, DocSource, Text};
+use task_ids::{Doc, Text};
 
 #[test]
 fn hashes_place_documents(rt: HostRuntime) {
@@ -17,14 +17,13 @@ fn hashes_place_documents(rt: HostRuntime) {
 /// Writes a document of the id `x` with this source.
 fn write(alloc: Global, shard: &mut Shard, source: &str) -> Option<Written> {
     let id = Shared::new(alloc, Text::new(String::from_str(alloc, "x").ok()?)).ok()?;
-    let value = Value::from_str(alloc, source).ok()?;
-    let source = DocSource::new(alloc, value).ok()?;
+    let source = source_of(alloc, source)?;
     shard.write(Doc { id, source }).ok()
 }
 
 /// The number of the document in a row.
 fn number_of(row: Option<&Doc>) -> Option<u64> {
-    row?.source.as_value().get("v")?.as_u64()
+    row?.source.get("v")?.as_u64()
 }
 
 /// Whether the two versions of the document are read each as of its own.

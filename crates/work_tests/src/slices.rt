@@ -2,14 +2,13 @@
 
 ghost use Rattle.std.specs.Prelude.{◌<◌, ◌≤◌, ◌^◌};
 
-use crate::phases::text;
+use crate::phases::{source_of, text};
 use query_match::Query;
 use reindex::{ReindexRoot, Slice};
-use serde_json::Value;
 use shared_value::Shared;
 use std::alloc::Global;
 use task_events::{Counts, Do, Hit, ReindexAsk, Reply, Request, SearchReply, SliceAsk};
-use task_ids::{Doc, DocSource, Items, TaskId};
+use task_ids::{Doc, Items, TaskId};
 
 fn task(number: u32) -> TaskId
     requires { (1 ≤ number) × (number ≤ 1048575) }
@@ -36,7 +35,7 @@ fn ask_for(alloc: Global, slices: u32) -> Option<ReindexAsk>
 
 fn hit(alloc: Global) -> Option<Hit> {
     let id = Shared::new(alloc, text(alloc, "x").ok()?).ok()?;
-    let source = DocSource::new(alloc, Value::from_str(alloc, "{}").ok()?).ok()?;
+    let source = source_of(alloc, "{}")?;
     let index = Shared::new(alloc, text(alloc, "a").ok()?).ok()?;
     Some(Hit {
         index,

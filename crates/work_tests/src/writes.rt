@@ -1,19 +1,18 @@
 //! The documents of a batch, written to a shard.
 
+use crate::phases::source_of;
 use reindex::BulkShardWork;
-use serde_json::Value;
 use shard_docs::Shard;
 use shared_value::Shared;
 use std::alloc::Global;
 use task_events::{BulkShardAsk, Do, WriteNote};
-use task_ids::{Doc, DocSource, Items, Text};
+use task_ids::{Doc, Items, Text};
 
 /// A document of this id, with the number in its source.
 fn doc(alloc: Global, id: &str, number: u32) -> Option<Doc> {
     let id = Shared::new(alloc, Text::new(String::from_str(alloc, id).ok()?)).ok()?;
     let source = format!(in alloc; "{{\"n\":{number}}}").ok()?;
-    let value = Value::from_str(alloc, source.as_str()).ok()?;
-    let source = DocSource::new(alloc, value).ok()?;
+    let source = source_of(alloc, source.as_str())?;
     Some(Doc { id, source })
 }
 

@@ -31,7 +31,7 @@ use command_roots::{body_of, reindex_ask, reindex_body, search_ask};
 use node_parts::listing::Listing;
 use script_lang::{CancelTarget, Command};
 use task_events::{Event, Request, Stop};
-use task_ids::{DocSource, TaskId, Text};
+use task_ids::{Body, TaskId, Text};
 use task_laws::drained_bans;
 use world_moves::clock::tick;
 use world_moves::state::State;
@@ -44,7 +44,7 @@ fn search(
     index: &Text,
     node: u32,
     scroll: Option<u64>,
-    body: &DocSource,
+    body: &Body,
 ) -> Result<(), Stop>
     requires tied { IsTied state.old }
     requires known { HasReady state.old ready.old }
@@ -87,7 +87,7 @@ fn reindex(
     ready: &mut Ready,
     number: u32,
     node: u32,
-    body: &DocSource,
+    body: &Body,
     slices: u32,
     rate: Option<u32>,
 ) -> Result<(), Stop>

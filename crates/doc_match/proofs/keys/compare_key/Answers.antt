@@ -5,7 +5,6 @@ use Rattle.std.specs.declared.cmp.Ordering.TheVariants.{Less, Equal, Greater}
 use Rattle.std.specs.Ordering.{is_ne, ordering_then}
 use Rattle.std.proofs.lemmas.List.{drop_more}
 use Rattle.serde_json.specs.Data.{Data}
-use Rattle.serde_json.specs.View.{view}
 use Rattle.query_match.specs.declared.sort.SortBy.{SortBy}
 use Rattle.query_match.specs.declared.sort.KeyPart.{KeyPart}
 use Rattle.query_match.specs.Sorting.{part_at, part_cmp, key_of, key_cmp}
@@ -31,7 +30,7 @@ one_pair source sort i by rest part later order l is split compared =
 
 pub returns-then-is_ne : goal.returns-then-is_ne
 returns-then-is_ne c =
-    let source = view c.args.source.now in
+    let source = c.args.source.now in
     let sort = c.args.sort.now in
     let order = c.compare_part-order.result in
     let later = key_cmp (key_of (drop (c.loop-by.by-index + 1) sort) source) c.in-Some.later.now in
@@ -41,7 +40,7 @@ returns-then-is_ne c =
 
 pub loop-by-preserved : goal.loop-by-preserved
 loop-by-preserved c =
-    let source = view c.args.source.now in
+    let source = c.args.source.now in
     let sort = c.args.sort.now in
     let order = c.compare_part-order.result in
     let later = key_cmp (key_of (drop (c.loop-by.by-index + 1) sort) source) c.in-Some.later.now in

@@ -1,7 +1,6 @@
 use Rattle.std.proofs.Common.{◌≡◌, take, map}
-use Rattle.serde_json.specs.View.{view}
 use Rattle.query_match.specs.Sorting.{part_at}
 use Rattle.doc_match.proofs.keys.sort_key.Given as goal
 
 abbrev pub invariant-loop-by : goal.invariant-loop-by
-invariant-loop-by l = l.parts.items ≡ map (part_at (view l.source)) (take l.by-index l.sort)
+invariant-loop-by l = l.parts.items ≡ map (part_at l.source) (take l.by-index l.sort)

@@ -1,37 +1,17 @@
-use Rattle.std.proofs.Common.{◌≡◌, ◌+◌, ◌<◌, ◌∷◌, ◌++◌, [], List, length, set, arith, get_or, string_bytes, ◌∙◌, sym, ap, subst, Some, None, Bor, cond, true, ℕ, is_some, length-set}
+use Rattle.std.proofs.Common.{◌≡◌, ◌+◌, ◌<◌, ◌∷◌, ◌++◌, [], length, set, arith, get_or, string_bytes, ◌∙◌, sym, ap, subst, Some, None, cond, true, ℕ, is_some, length-set}
 use Rattle.std.proofs.lemmas.List.{length-map, length_push}
 use Rattle.std.proofs.lemmas.Option.{get_or_from_slice_get}
-use Rattle.std.specs.List.{list_any, slice_get}
+use Rattle.std.specs.List.{slice_get}
 use Rattle.std.specs.Prelude.{IfSome}
 use Rattle.std.specs.HashMap.{Updates}
 use Rattle.std.specs.String.{string_eq}
-use Rattle.serde_json.specs.View.{view}
-use Rattle.serde_json.specs.declared.value.Value.{Value}
-use Rattle.task_ids.specs.declared.doc.Doc.{Doc}
-use Rattle.query_match.specs.Matching.{holds}
-use Rattle.query_match.specs.Values.{held_behind, is_key}
-use Rattle.query_match.specs.declared.query.Test.TheVariants.{Equals}
-use Rattle.query_match.specs.declared.scalar.Scalar.{Scalar}
-use Rattle.shard_docs.specs.Places.{HasAdded, KeepsUnless, has_value_at}
 use Rattle.shard_docs.specs.SeenRows.{SeenRow, new_row}
 use Rattle.shard_docs.specs.Tables.{IsTables}
-use Rattle.shard_docs.specs.declared.index.Index.{Index}
 use Rattle.shard_docs.specs.declared.shard.Written.TheVariants.{Created, Updated}
-use Rattle.shard_docs.proofs.Indexed.{HasAll, with_row, get_before}
+use Rattle.shard_docs.proofs.Indexed.{with_row, get_before}
 use Rattle.shard_docs.proofs.ShardParts.{alike, prepared, written, replaced, with_next}
 use Rattle.shard_docs.proofs.TableLemmas.{created, updated, docs_same, docs_of, found_place, place_within, alive_is_written, same_tables, living_row_is}
 use Rattle.shard_docs.proofs.shard.Shard.write.Goals as goal
-
--- the index has each value of the document
-added_all : (place : ℕ) (old new : Index) (value : Bor Value) (doc : Doc)
-    → ((f : List ℕ) (v : Scalar) → is_key f ≡ true → list_any (holds (Equals v)) (held_behind f (view value.now)) ≡ true → HasAdded place f v old new)
-    → view value.now ≡ doc.source → HasAll place doc.source old new
-added_all place old new value doc added same f v key has = added f v key (subst (λ d. list_any (holds (Equals v)) (held_behind f d) ≡ true) (sym same) has)
-
--- and of others none
-kept_others : (old new : Index) (value : Bor Value) (doc : Doc) → KeepsUnless (λ f v. list_any (holds (Equals v)) (held_behind f (view value.now))) old new → view value.now ≡ doc.source
-    → KeepsUnless (λ f v. has_value_at f v doc) old new
-kept_others old new value doc kept same f v none = kept f v (ap (λ d. list_any (holds (Equals v)) (held_behind f d)) same ∙ none)
 
 pub invariant_of-self : goal.invariant_of-self
 invariant_of-self c =
@@ -69,10 +49,9 @@ invariant_of-self-in_default-replaced c =
     let oldest : c.push.new.self.oldest ≡ c.self.inside.rows.oldest = c.push.ensures.oldest ∙ c.reserve.ensures.oldest in
     let writes : Updates string_eq c.self.inside.living c.insert.new.self c.in_ok-id.id (Some (length rows)) =
     subst (λ (n : ℕ). Updates string_eq c.self.inside.living c.insert.new.self c.in_ok-id.id (Some n)) counted c.in-Ok.ensures.updates in
-    let same = c.as_value.ensures in
     let places =
     written c.self.inside.rows c.args.doc room c.len-place.result c.self.inside.living c.self.inside.index c.add.new.self c.self.inside.spoiled counted c.add.ensures.others
-    (added_all c.len-place.result c.self.inside.index c.add.new.self c.as_value.result c.args.doc c.in_ok-add.ensures.added same) (kept_others c.self.inside.index c.add.new.self c.as_value.result c.args.doc c.add.ensures.kept same)
+    c.in_ok-add.ensures.added c.add.ensures.kept
     c.self.invariant.2 c.self.invariant.3 in
     let tables = created rows c.self.inside.living c.insert.new.self c.args.doc c.in_ok-id.id c.self.invariant.0 named writes (omega arith) none in
     alike (with_row c.self.inside.rows c.args.doc room) c.push.new.self c.insert.new.self c.add.new.self c.self.inside.spoiled (sym with_new) oldest
@@ -135,10 +114,9 @@ invariant_of-self-2 c =
     let oldest : c.kill.new.self.oldest ≡ c.self.inside.rows.oldest = c.kill.ensures.oldest ∙ c.push.ensures.oldest ∙ c.reserve.ensures.oldest in
     let writes : Updates string_eq c.self.inside.living c.insert.new.self c.in_ok-id.id (Some (length rows)) =
     subst (λ (n : ℕ). Updates string_eq c.self.inside.living c.insert.new.self c.in_ok-id.id (Some n)) counted c.in-Ok.ensures.updates in
-    let same = c.as_value.ensures in
     let places =
     written c.self.inside.rows c.args.doc room c.len-place.result c.self.inside.living c.self.inside.index c.add.new.self c.self.inside.spoiled counted c.add.ensures.others
-    (added_all c.len-place.result c.self.inside.index c.add.new.self c.as_value.result c.args.doc c.in_ok-add.ensures.added same) (kept_others c.self.inside.index c.add.new.self c.as_value.result c.args.doc c.add.ensures.kept same)
+    c.in_ok-add.ensures.added c.add.ensures.kept
     c.self.invariant.2 c.self.invariant.3 in
     let low = c.self.invariant.1 in
     let both = replaced s c.kill.new.self c.in-Some.replaced version living.0 c.add.new.self c.self.inside.spoiled there living.2 (omega arith) now oldest places.0 places.1 in

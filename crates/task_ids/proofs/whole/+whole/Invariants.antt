@@ -1,7 +1,7 @@
 use Rattle.std.proofs.Common.{◌≡◌, drop}
 use Rattle.serde_json.specs.View.{items_view, members_view}
 use Rattle.serde_json.specs.Written.{items_have_float, members_have_float}
-use Rattle.task_ids.proofs.doc.+whole.Given as goal
+use Rattle.task_ids.proofs.whole.+whole.Given as goal
 
 -- what is left decides
 abbrev pub invariant-are_whole-loop-item : goal.invariant-are_whole-loop-item
