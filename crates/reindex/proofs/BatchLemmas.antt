@@ -5,7 +5,6 @@ use Rattle.std.proofs.lemmas.List.Sums.{length-filter, count_by-le-length}
 use Rattle.task_ids.specs.declared.doc.Doc.{Doc}
 use Rattle.task_events.specs.declared.request.BulkAsk.{BulkAsk}
 use Rattle.task_events.specs.Tasks.{no_counts}
-use Rattle.reindex.specs.Counts.{AreBelow}
 use Rattle.reindex.specs.Bulks.{Bulking, is_open, without, bulk_takes, bulk_with_answer}
 use Rattle.reindex.specs.BulkFields.{AreUpTo, IsBulk, answered}
 use Rattle.reindex.proofs.Answers.{told_low}
@@ -76,7 +75,3 @@ pub bulk_sound_answered : (b : Bulking) (capacity ask : ℕ) (reply : Reply) →
 bulk_sound_answered b capacity ask reply is_bulk takes =
     let more = answered_more b ask reply is_bulk.asked takes is_bulk.bounded in
     record { few = is_bulk.few; in_order = is_bulk.in_order; asked = omega (arith, more.0); room = is_bulk.room; bounded = more.1 }
-
--- there is room for the sum
-pub bulk_below : (b : Bulking) (capacity : ℕ) → IsBulk b capacity → AreBelow (2 ^ 62) b.counts
-bulk_below b capacity is_bulk = record { total = omega arith; created = omega arith; updated = omega arith; batches = omega arith; failures = omega arith }

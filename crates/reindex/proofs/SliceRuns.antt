@@ -139,9 +139,6 @@ settled_in ask asked came Over earlier at = settled_by asked at.some earlier ∙
 pub slice_settled : {t : TaskId} {ask : ReindexAsk} {slice shards : ℕ} {asked : List Asked} {came : List ℕ} {s : Slicing} → IsSliceAt t ask slice shards asked came s → are_answered asked ≡ not (is_open s.phase)
 slice_settled {ask = ask} {asked = asked} {came = came} {s = s} h = settled_in ask asked came s.phase h.earlier h.phase_is
 
-pub slice_few : {t : TaskId} {ask : ReindexAsk} {slice shards : ℕ} {asked : List Asked} {came : List ℕ} {s : Slicing} → IsSliceAt t ask slice shards asked came s → length asked ≤ most_asks
-slice_few h = h.few
-
 pub slice_counted : {t : TaskId} {ask : ReindexAsk} {slice shards : ℕ} {asked : List Asked} {came : List ℕ} {s : Slicing} → IsSliceAt t ask slice shards asked came s → slice_counts asked ≡ s.counts
 slice_counted h = sym h.counts_are
 

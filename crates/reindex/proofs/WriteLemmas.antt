@@ -36,9 +36,6 @@ pub record HasWritten (index : List ℕ) (shard : ℕ) (before left : List Doc) 
   pub rest_is : rest ≡ drop many left
   pub notes_is : notes ≡ notes_of index shard before (take many left)
 
-pub writes_none : (index : List ℕ) (shard : ℕ) (before left : List Doc) → HasWritten index shard before left 0 before left []
-writes_none index shard before left = record { after_is = sym (append-nil before); rest_is = refl; notes_is = refl }
-
 pub writes_next : (index : List ℕ) (shard : ℕ) (before left : List Doc) (many : ℕ) (after rest later : List Doc) (notes : List WriteNote) (doc : Doc) → HasWritten index shard before left many after rest notes → rest ≡ doc ∷ later
     → HasWritten index shard before left (many + 1) (after ++ doc ∷ []) later (notes ++ note_of index shard after doc ∷ [])
 writes_next index shard before left many after rest later notes doc h more =

@@ -1,5 +1,5 @@
 -- A reindex does the work of its one slice itself, or asks for its slices.
-use Rattle.std.specs.Prelude.{◌≡◌, ◌≢◌, ℕ, List, Bool, length, not}
+use Rattle.std.specs.Prelude.{◌≡◌, ◌≢◌, ℕ, List, Bool, length}
 use Rattle.task_ids.specs.declared.task_id.TaskId.{TaskId}
 use Rattle.task_events.specs.declared.request.ReindexAsk.{ReindexAsk}
 use Rattle.task_events.specs.declared.reply.Counts.{Counts}
@@ -8,10 +8,9 @@ use Rattle.task_events.specs.declared.step.Asked.{Asked}
 use Rattle.task_events.specs.declared.step.Do.{Do}
 use Rattle.reindex.specs.declared.root.ReindexRoot.{ReindexRoot}
 use Rattle.reindex.specs.declared.root.ReindexRoot.TheVariants.{Alone, Cut}
-use Rattle.reindex.specs.OpenAsks.{is_settled}
 use Rattle.reindex.specs.RootFields.{IsCut}
 use Rattle.reindex.specs.SliceFields.{IsSlice}
-use Rattle.reindex.specs.Slices.{IsNewSlice, is_open, slice_next, slice_may_ask, slice_with_ask, slice_takes, slice_with_answer}
+use Rattle.reindex.specs.Slices.{IsNewSlice, slice_next, slice_may_ask, slice_with_ask, slice_takes, slice_with_answer}
 use Rattle.reindex.specs.SliceRuns.{IsSliceAt}
 use Rattle.reindex.specs.Roots.{IsNewCut, cut_next, cut_may_ask, cut_with_ask, cut_takes, cut_with_answer, IsCutAt}
 
@@ -46,11 +45,6 @@ root_with_answer (Cut c) ask reply now = Cut (cut_with_answer c ask reply)
 abbrev pub root_counts : ReindexRoot → Counts
 root_counts (Alone s) = s.counts
 root_counts (Cut c) = c.counts
-
--- it waits for an answer
-abbrev pub root_is_open : ReindexRoot → Bool
-root_is_open (Alone s) = is_open s.phase
-root_is_open (Cut c) = not (is_settled c.open_asks)
 
 -- what holds of the fields of a reindex
 abbrev pub IsRoot : ReindexRoot → Type 0

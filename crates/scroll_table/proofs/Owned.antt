@@ -61,15 +61,6 @@ module _ (a : Owners) (old new : BTreeMap TaskId Context) (id : TaskId) (are : A
           ∙ sym (ap (λ t. is_of o (cond t (Some d) (get task_id_cmp old q))) e)
       by_case false e = sym (ap (λ t. is_of o (cond t (Some d) (get task_id_cmp old q))) e)
 
-  -- none was there
-  pub owners_same : get task_id_cmp old id ≡ None → ((q : TaskId) → get task_id_cmp new q ≡ cond (is_at (task_id_cmp id) q) None (get task_id_cmp old q)) → AreOwnersOf a new
-  owners_same none changed o q = are o q ∙ by_case (is_at (task_id_cmp id) q) refl ∙ sym (ap (is_of o) (changed q))
-    where
-      by_case : (t : Bool) → is_at (task_id_cmp id) q ≡ t → is_of o (get task_id_cmp old q) ≡ is_of o (cond (is_at (task_id_cmp id) q) None (get task_id_cmp old q))
-      by_case true e =
-          ap (λ k. is_of o (get task_id_cmp old k)) (sym (same_at id q e)) ∙ ap (is_of o) none ∙ sym (ap (λ t. is_of o (cond t None (get task_id_cmp old q))) e)
-      by_case false e = sym (ap (λ t. is_of o (cond t None (get task_id_cmp old q))) e)
-
   module _ (b : Owners) where
     -- one more
     pub owner_added : (c : Context) → get task_id_cmp old id ≡ None → ((q : TaskId) → get task_id_cmp new q ≡ cond (is_at (task_id_cmp id) q) (Some c) (get task_id_cmp old q))

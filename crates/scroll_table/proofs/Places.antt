@@ -3,12 +3,11 @@ use Rattle.std.proofs.Common.{◌≡◌, ◌≢◌, ℕ, zero, suc, ◌+◌, ◌
 use Rattle.std.specs.Ordering.{is_eq}
 use Rattle.std.specs.Cmp.{eq_by_cmp_equiv}
 use Rattle.std.specs.BTreeMap.{BTreeMap, get, is_at}
-use Rattle.std.proofs.lemmas.Bool.{both_ways, cases_eq, cases_lt}
+use Rattle.std.proofs.lemmas.Bool.{both_ways, cases_eq}
 use Rattle.std.proofs.lemmas.Option.{slice_get_within, slice_get-get_or}
 use Rattle.task_ids.specs.declared.task_id.TaskId.{TaskId}
 use Rattle.task_ids.specs.TaskIdOrder.{task_id_cmp}
 use Rattle.task_ids.proofs.TaskIdKeys.{exact_ids, ids_total}
-use Rattle.scroll_table.specs.Moments.{is_due}
 
 -- ---- tasks that are one
 
@@ -257,16 +256,6 @@ pub moved_moments : (places from last place : ℕ) (old new : ℕ → Option ℕ
 moved_moments places from last place old new e = subst (λ n. (k : ℕ) → k < places → new k ≡ cond (k == n) None (cond (k == place) (old n) (old k))) e
 
 -- ---- a moment that has come
-
-pub due_within : (places now : ℕ) (moments : ℕ → Option ℕ) (taken place : ℕ) → ((k : ℕ) → taken ≤ k → k < places → moments k ≡ None) → place < places → is_due now (moments place) ≡ true → place < taken
-due_within places now moments taken place spare within due = go (cases_lt place taken)
-  where
-    go : (place < taken) ⊎ (taken ≤ place) → place < taken
-    go (inl low) = low
-    go (inr high) = no_moment (sym (ap (is_due now) (spare place high within)) ∙ due)
-      where
-        no_moment : false ≡ true → place < taken
-        no_moment e = absurd (cc)
 
 pub no_place : {X : Type 0} (f : ℕ → X) (o : Option ℕ) → option_map f o ≡ None → o ≡ None
 no_place f None e = refl

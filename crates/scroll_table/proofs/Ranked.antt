@@ -29,10 +29,6 @@ in_two x y u v low high = nat_cmp_is (x * 2 ^ 20 + u) (y * 2 ^ 20 + v) (ordering
 pub by_rank : (a b : TaskId) → task_id_cmp a b ≡ nat_cmp (rank a) (rank b)
 by_rank a b = in_two a.node b.node a.number b.number (omega arith) (omega arith)
 
--- the least id has the least rank
-pub rank_above : (a : TaskId) → 2 ^ 20 + 1 ≤ rank a
-rank_above a = omega arith
-
 -- ids of one rank are one
 pub same_rank : (a b : TaskId) → rank a ≡ rank b → a ≡ b
 same_rank a b e = same_id a b (omega arith) (omega arith)
@@ -64,22 +60,6 @@ not_after a b e = by_case (nat_cmp (rank a.owner) (rank b.owner)) (ranked (rank 
         → (rank a.owner ≤ rank b.owner) × (rank b.owner ≤ rank a.owner → rank a.id ≤ rank b.id)
     by_case Less h e = (omega arith, λ back. absurd (omega arith))
     by_case Equal h e = (omega arith, λ back. up_to (rank a.id) (rank b.id) e)
-    by_case Greater h e = absurd (cc)
-
--- the same where it stands before the second
-pub before : (a b : Owned) → owned_cmp a b ≡ Less → (rank a.owner ≤ rank b.owner) × (rank b.owner ≤ rank a.owner → rank a.id < rank b.id)
-before a b e = by_case (nat_cmp (rank a.owner) (rank b.owner)) (ranked (rank a.owner) (rank b.owner) (nat_cmp (rank a.owner) (rank b.owner)) refl)
-    (rw (by_rank a.owner b.owner, by_rank a.id b.id) at e)
-  where
-    less : (x y : ℕ) (r : Ordering) → MatchOrdering r (x < y) (x ≡ y) (y < x) → r ≡ Less → x < y
-    less x y Less h e = h
-    less x y Equal h e = absurd (cc)
-    less x y Greater h e = absurd (cc)
-
-    by_case : (r : Ordering) → MatchOrdering r (rank a.owner < rank b.owner) (rank a.owner ≡ rank b.owner) (rank b.owner < rank a.owner) → ordering_then r (nat_cmp (rank a.id) (rank b.id)) ≡ Less
-        → (rank a.owner ≤ rank b.owner) × (rank b.owner ≤ rank a.owner → rank a.id < rank b.id)
-    by_case Less h e = (omega arith, λ back. absurd (omega arith))
-    by_case Equal h e = (omega arith, λ back. less (rank a.id) (rank b.id) (nat_cmp (rank a.id) (rank b.id)) (ranked (rank a.id) (rank b.id) (nat_cmp (rank a.id) (rank b.id)) refl) e)
     by_case Greater h e = absurd (cc)
 
 -- ---- tests

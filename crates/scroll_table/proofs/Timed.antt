@@ -1,5 +1,5 @@
 -- The ends that are kept are those of the contexts, also after a change of one of them.
-use Rattle.std.proofs.Common.{◌≡◌, ℕ, ◌+◌, ◌^◌, ◌<◌, Bool, true, false, not, ◌&&◌, cond, Option, None, Some, option_map, nat_lt, nat_le, IsSomeAnd, refl, sym, ap, arith, ◌∙◌}
+use Rattle.std.proofs.Common.{◌≡◌, ℕ, ◌+◌, ◌^◌, ◌<◌, Bool, true, false, not, ◌&&◌, cond, Option, None, Some, option_map, nat_lt, nat_le, refl, sym, ap, arith, ◌∙◌}
 use Rattle.std.specs.BTreeMap.{BTreeMap, get, is_at}
 use Rattle.std.proofs.lemmas.Bool.{lt-leb, ltb-false}
 use Rattle.task_ids.specs.TaskIdOrder.{task_id_cmp}
@@ -49,17 +49,6 @@ set_there old id c end was is there each set q = set q ∙ go (is_at (task_id_cm
     go false e = refl
 
 -- ---- what has expired is taken away
-
-pub taken_out : (now : ℕ) (old new : BTreeMap TaskId Context) (id : TaskId) → now < 2 ^ 64 → IsSomeAnd (option_map end_of (get task_id_cmp old id)) (λ end. is_due now end ≡ true) → ((q : TaskId) → get task_id_cmp new q ≡ cond (is_at (task_id_cmp id) q) None (get task_id_cmp old q)) → (q : TaskId) → unexpired now (get task_id_cmp new q) ≡ unexpired now (get task_id_cmp old q)
-taken_out now old new id shown due gone q = ap (unexpired now) (gone q) ∙ go (is_at (task_id_cmp id) q) refl
-  where
-    over : (o : Option Context) → IsSomeAnd (option_map end_of o) (λ end. is_due now end ≡ true) → None ≡ unexpired now o
-    over None none = absurd none
-    over (Some c) is = sym (ap (λ b. cond b None (Some c)) (sym (due_end now c shown) ∙ is))
-
-    go : (b : Bool) → is_at (task_id_cmp id) q ≡ b → unexpired now (cond b None (get task_id_cmp old q)) ≡ unexpired now (get task_id_cmp old q)
-    go true e = over (get task_id_cmp old id) due ∙ ap (λ t. unexpired now (get task_id_cmp old t)) (same_at id q e)
-    go false e = refl
 
 pub none_left : (now : ℕ) (o : Option Context) → now < 2 ^ 64 → ((end : Option ℕ) → option_map end_of o ≡ Some end → is_due now end ≡ false) → unexpired now o ≡ o
 none_left now None shown none = refl

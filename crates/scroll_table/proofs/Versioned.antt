@@ -45,20 +45,6 @@ pub some_of : {X : Type 0} (o : Option X) (x : X) → o ≡ Some x → IsSome o
 some_of None x e = absurd (cc)
 some_of (Some y) x e = refl
 
--- none was there, so none is taken
-pub none_taken : (old : Versions) (index : List ℕ) (kept : Kept) → get_by_text old.by_index index ≡ None → (i : List ℕ) (k : Kept) → keeps old i k ≡ cond (is_row index kept i k) false (keeps old i k)
-none_taken old index kept none i k = go (bytes_eq index i) refl
-  where
-    left : (t : Bool) → false ≡ cond t false false
-    left true = refl
-    left false = refl
-
-    go : (t : Bool) → bytes_eq index i ≡ t → keeps old i k ≡ cond (t && is_at (kept_cmp kept) k) false (keeps old i k)
-    go true e =
-        let empty : keeps old i k ≡ false = ap (λ j. keeps old j k) (sym ((bytes_eq-Decides index i).0 e)) ∙ ap (λ o. has_kept o k) none in
-        empty ∙ left (is_at (kept_cmp kept) k) ∙ ap (cond (is_at (kept_cmp kept) k) false) (sym empty)
-    go false e = refl
-
 -- ---- the rows of a context
 
 -- a shard is among these at this version
@@ -104,15 +90,6 @@ one_shard_more b id index items counts j d same within was is now so_far written
     ∙ one_more_test (bytes_eq index i) (is_at (task_id_cmp id) k.id) (shown (take j items) k) (n.shard == k.shard) (n.version == k.version) b (was i k)
     ∙ ap (λ t. cond (is_at (task_id_cmp id) k.id && (bytes_eq index i && t)) b (was i k)) (sym (list_any_more (λ m. (m.shard == k.shard) && (m.version == k.version)) items j d within))
     ∙ ap (λ those. cond (among id index (take (j + 1) those) i k) b (was i k)) same
-
--- no row of no shard
-pub no_shard : (b : Bool) (id : TaskId) (index : List ℕ) (counts : List ShardCount) (was : List ℕ → Kept → Bool) (i : List ℕ) (k : Kept) → was i k ≡ cond (among id index (take 0 counts) i k) b (was i k)
-no_shard b id index counts was i k = go (is_at (task_id_cmp id) k.id) (bytes_eq index i)
-  where
-    go : (d a : Bool) → was i k ≡ cond (d && (a && false)) b (was i k)
-    go true true = refl
-    go true false = refl
-    go false a = refl
 
 -- ---- each shard stands once, so a context keeps one version of it
 

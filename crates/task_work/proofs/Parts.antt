@@ -1,12 +1,11 @@
 -- A turn that broke off.
-use Rattle.std.proofs.Common.{◌≡◌, ℕ, zero, suc, ◌+◌, ◌≤◌, List, [], ◌∷◌, ◌++◌, take, refl, sym, ap, ◌∙◌, append-nil, arith, Result, Ok, Err}
+use Rattle.std.proofs.Common.{◌≡◌, ℕ, zero, suc, ◌+◌, ◌≤◌, List, [], ◌∷◌, ◌++◌, take, refl, sym, ap, ◌∙◌, arith, Result, Ok, Err}
 use Rattle.std.specs.Prelude.{OnErr}
 use Rattle.task_ids.specs.declared.doc.Doc.{Doc}
 use Rattle.task_events.specs.Looking.{rows_per_turn}
 use Rattle.reindex.specs.Writing.{Writing, StopsShort}
-use Rattle.task_work.specs.declared.work.Work.{Work}
 use Rattle.task_work.specs.declared.work.Work.TheVariants.{BulkShard}
-use Rattle.task_work.specs.Works.{BrokeOff, HasLost, docs_next}
+use Rattle.task_work.specs.Works.{BrokeOff}
 
 pub on_err-weaker : {T E : Type 0} (r : Result T E) (P Q : Type 0) → (P → Q) → OnErr r P → OnErr r Q
 on_err-weaker (Ok x) P Q f p = tt
@@ -24,7 +23,3 @@ part_broke_off w v writes now h = record {
   now_is = h.writes.after_is ∙ ap (λ docs. writes ++ docs) (sym (take_take h.writes.written rows_per_turn w.left h.writes.within));
   work_is = (h.writes.written + h.writes.lost, h.others ∙ ap (λ left. record w { left = left }) h.writes.rest_is);
 }
-
--- work that writes nothing is as before
-pub none_broke_off : (before after : Work) (writes now : List Doc) → docs_next before ≡ [] → HasLost before after → now ≡ writes → BrokeOff before after writes now
-none_broke_off before after writes now none same there = record { written = 0; now_is = there ∙ sym (append-nil writes); work_is = same }

@@ -22,7 +22,7 @@ use Rattle.reindex.specs.Writing.{next_docs, with_notes}
 use Rattle.task_work.specs.declared.work.Work.{Work}
 use Rattle.task_work.specs.declared.work.Work.TheVariants.{Search, Query, Fetch, Scroll, Reindex, Slice, Bulk, BulkShard}
 use Rattle.task_work.specs.Reads.{WorkReadsFrom}
-use Rattle.task_work.specs.Works.{IsWorkOn, found_top, found_hits, next_of, with_turn, query_after, fetch_after, work_notes, place_of, docs_next}
+use Rattle.task_work.specs.Works.{IsWorkOn, found_top, found_hits, with_turn, query_after, fetch_after, work_notes, place_of, docs_next}
 
 -- the notes of documents that are written
 notes_same : (from : ℕ) (index : List ℕ) (shard : ℕ) (docs own shown : List Doc) → ShowsFrom from own shown → from ≤ length own → notes_of index shard shown docs ≡ notes_of index shard own docs
@@ -120,16 +120,6 @@ module _ (from : ℕ) (own shown : List Doc) (shows : ShowsFrom from own shown) 
     fetched_same turns = ap (λ hits. record { ask = f.ask; turns = turns; hits = if is_done turns (length f.ask.places) then [] else hits }) (hits_at (take (turns * rows_per_turn) f.ask.places))
 
   -- ---- any work
-
-  pub next_shown : (work : Work) → WorkReadsFrom from work → (now : ℕ) → next_of work shown now ≡ next_of work own now
-  next_shown (Search s) reads now = refl
-  next_shown (Query q top) reads now = step_same q reads
-  next_shown (Fetch f hits) reads now = fetch_same f reads
-  next_shown (Scroll s) reads now = refl
-  next_shown (Reindex r) reads now = refl
-  next_shown (Slice s) reads now = refl
-  next_shown (Bulk b) reads now = refl
-  next_shown (BulkShard w) reads now = refl
 
   pub works_on_shown : (work : Work) → WorkReadsFrom from work → IsWorkOn work own → IsWorkOn work shown
   works_on_shown (Search s) reads on = on

@@ -1,5 +1,5 @@
 -- What task lists show after an event: of the tasks that were live before it, what they showed.
-use Rattle.std.proofs.Common.{◌≡◌, ◌≤◌, ℕ, ◌+◌, ◌*◌, Bool, true, false, cond, not, List, [], ◌∷◌, ◌++◌, length, map, get_or, Option, Some, None, refl, sym, ap, subst, ◌∙◌, arith, ◌<◌, ◌^◌}
+use Rattle.std.proofs.Common.{◌≡◌, ◌≤◌, ℕ, ◌+◌, ◌*◌, Bool, true, false, cond, not, List, [], ◌∷◌, ◌++◌, length, get_or, Option, Some, None, refl, sym, ap, subst, ◌∙◌, arith, ◌<◌, ◌^◌}
 use Rattle.std.specs.Prelude.{slice_get, slice_set, remove}
 use Rattle.std.specs.List.{AllByRecursion}
 use Rattle.std.proofs.lemmas.List.Elements.{All-filter, All-map}
@@ -123,11 +123,6 @@ module _ (script : Script) (h : List Event) where
     quiet_sent e queue s carried d = described_with e tables queue s d.rows_are carried d
 
 -- ---- messages
-
--- notices carry nothing
-pub notices_carry : (script : Script) (h : List Event) (notices : List Notice) → AllByRecursion (Carries script h) (map sent.Notice notices)
-notices_carry script h [] = tt
-notices_carry script h (n ∷ ns) = (tt, notices_carry script h ns)
 
 pub carry_both : (script : Script) (h : List Event) (ms more : List Sent) → AllByRecursion (Carries script h) ms → AllByRecursion (Carries script h) more → AllByRecursion (Carries script h) (ms ++ more)
 carry_both script h [] more a b = b

@@ -52,12 +52,6 @@ both : (b c : Bool) → (b && c) ≡ true → c ≡ true
 both true c e = e
 both false c e = absurd (cc)
 
--- what a shard answers
-abbrev pub IsOfShard : Reply → Type 0
-IsOfShard (Top top) = Unit {0}
-IsOfShard (Hits hits) = Unit {0}
-IsOfShard _ = ⊥
-
 pub record TakesNone (takes : ℕ → Reply → Bool) : Type 0 where
   pub top : (k : ℕ) (top : ShardTop) → takes k (Top top) ≡ true → ⊥
   pub hits : (k : ℕ) → takes k (Hits []) ≡ true → ⊥

@@ -43,10 +43,6 @@ module _ (cluster : Cluster) (corpus : Corpus) (script : Script) (h : List Event
   growing (Write index shard outcome id) other place = writes_of-grow (so_far corpus script h) (line_of index (next_doc (scripted script) h)) cluster.shards other place
   growing _ other place = ([], sym (append-nil (written cluster (so_far corpus script h) other place)))
 
-  -- a live task that has passed and shows a page uses its context
-  abbrev pub Uses : List Event → TaskId → ScrollAsk → Type 0
-  Uses past t ask = (c : Context) × (context_at (scripted script) ask.id past ≡ Some c) × (c.busy ≡ Some t)
-
   -- such a task was one before
   abbrev pub WereShown : Event → Type 0
   WereShown e = (t : TaskId) (ask : ScrollAsk) → is_live t (e ∷ h) ≡ true → is_new t (e ∷ h) ≡ false → request_of (scripted script) t (e ∷ h) ≡ Some (asks.Scroll ask)

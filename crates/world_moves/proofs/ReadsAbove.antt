@@ -236,10 +236,6 @@ module _ (cluster : Cluster) (corpus : Corpus) (script : Script) (h : List Event
 
 -- so it is in a state that is tied
 module _ (s : State) (tied : IsTied s) (t : TaskId) (live : is_live t s.history ≡ true) where
-  -- with what it was asked for
-  pub asked_reads : (q : Request) → request_of (scripted s.script.now) t s.history ≡ Some q → RequestReadsFrom tied.oldest q
-  asked_reads = request_above s.cluster s.corpus.now s.script.now s.history (task_at s.tasks) s.tables.items s.flight tied.ties tied.oldest tied.reads t live
-
   -- and with its work
   pub work_reads : is_new t s.history ≡ false → (r : Running) → task_at s.tasks t ≡ Some r → (index : List ℕ) (shard : ℕ) → place_of r.work ≡ Some (index, shard) → WorkReadsFrom (tied.oldest index shard) r.work
   work_reads passed r here index shard = work_above s.cluster s.corpus.now s.script.now s.history (task_at s.tasks) s.tables.items s.flight tied.ties tied.oldest tied.reads t live index shard passed r here

@@ -30,10 +30,6 @@ pub notes_same : {X : Type 0} (f : List Event → X) → ((index : List ℕ) (sh
 notes_same f each [] g = refl
 notes_same f each (note ∷ notes) g = notes_same f each notes (write_of note ∷ g) ∙ each note.index note.shard _ note.id g
 
--- the turn that is going on
-pub turn_same : (notes : List WriteNote) (g : List Event) → turn_of (with_notes notes g) ≡ turn_of g
-turn_same = notes_same turn_of (λ index shard outcome id g. refl)
-
 pub notes_lawful : (cluster : Cluster) (t : TaskId) (notes : List WriteNote) (g : List Event) → turn_of g ≡ Some t → Lawful cluster g → Lawful cluster (with_notes notes g)
 notes_lawful cluster t [] g turn lawful = lawful
 notes_lawful cluster t (note ∷ notes) g turn lawful = notes_lawful cluster t notes (write_of note ∷ g) turn ((λ e. let f : Some t ≡ None = sym turn ∙ e in cc), lawful, in_turn g turn)

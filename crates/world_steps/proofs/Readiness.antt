@@ -1,5 +1,5 @@
 -- Which tasks act, and for which moments others wait, once some events are noted.
-use Rattle.std.proofs.Common.{◌≡◌, ◌≢◌, ◌⊎◌, ◌<◌, ◌≤◌, inl, inr, ℕ, zero, suc, ◌+◌, ◌-◌, Bool, true, false, cond, ◌||◌, List, [], ◌∷◌, ◌++◌, length, take, drop, Option, Some, None, refl, sym, ap, ◌∙◌, arith}
+use Rattle.std.proofs.Common.{◌≡◌, ◌≢◌, ◌⊎◌, ◌≤◌, inl, inr, ℕ, zero, suc, ◌+◌, ◌-◌, Bool, true, false, cond, ◌||◌, List, [], ◌∷◌, ◌++◌, length, take, drop, Option, Some, None, refl, sym, ap, ◌∙◌, arith}
 use Rattle.std.specs.Prelude.{◌==◌, nat_le}
 use Rattle.std.specs.BTreeSet.{contains}
 use Rattle.std.specs.List.{list_any}
@@ -212,21 +212,6 @@ one_rung s old new t moment there come known taken noted kept = record {
     alarms_so q (inr (differs, apart)) =
         let as_before = taken q ∙ ap (λ b. cond b None (alarm_at old.alarms q)) differs in
         known.alarms q ∙ sym (ap (λ o. cond (has_come s.clock o) None o) as_before)
-
--- where none has come it is known of all
-pub all_rung : (s : State) (ready : Ready) → HasAlarmed s ready → ((q : TaskId) (moment : ℕ) → alarm_at ready.alarms q ≡ Some moment → s.clock < moment) → HasReady s ready
-all_rung s ready known later = record {
-  tasks = λ q. known.tasks q (none q);
-  kept = known.kept;
-  alarms = λ q. sym (known.alarms q ∙ ap (λ b. cond b None (alarm_at ready.alarms q)) (none q));
-}
-  where
-    by_moment : (q : TaskId) (o : Option ℕ) → alarm_at ready.alarms q ≡ o → has_come s.clock o ≡ false
-    by_moment q None e = refl
-    by_moment q (Some moment) e = let after = later q moment e in grind (arith, nat_tests)
-
-    none : (q : TaskId) → has_come s.clock (alarm_at ready.alarms q) ≡ false
-    none q = by_moment q (alarm_at ready.alarms q) refl
 
 -- ---- one task is noted
 

@@ -1,6 +1,6 @@
 -- A task that shows a page uses its context from its start to its end, and the context stays as it was at the start.
-use Rattle.std.proofs.Common.{◌≡◌, ◌≢◌, ◌⊎◌, ℕ, ◌+◌, Bool, true, false, cond, List, [], ◌∷◌, Option, Some, None, refl, sym, ap, subst, ◌∙◌, inl, inr, arith}
-use Rattle.std.specs.Prelude.{IsSomeAnd, ⊤, ◌&&◌, is_some}
+use Rattle.std.proofs.Common.{◌≡◌, ◌≢◌, ◌⊎◌, ℕ, ◌+◌, Bool, true, false, cond, List, [], ◌∷◌, Option, Some, None, refl, sym, ap, subst, ◌∙◌, inl, inr}
+use Rattle.std.specs.Prelude.{◌&&◌, is_some}
 use Rattle.task_ids.specs.declared.cluster.Cluster.{Cluster}
 use Rattle.task_ids.specs.declared.task_id.TaskId.{TaskId}
 use Rattle.task_events.specs.declared.context.Context.{Context}
@@ -11,12 +11,11 @@ use Rattle.task_events.specs.declared.reply.Reply.TheVariants.{Search, Top, Hits
 use Rattle.task_events.specs.declared.request.Request.{Request}
 use Rattle.task_events.specs.declared.request.Request.TheVariants as asks
 use Rattle.task_events.specs.declared.request.ScrollAsk.{ScrollAsk}
-use Rattle.task_events.specs.Asks.{request_of_ask}
 use Rattle.task_events.specs.Clock.{clock}
 use Rattle.task_events.specs.Contexts.{is_busy, is_owned_by, with_use, after_begin, after_taking, after_end, unexpired, without_owned, context_at, page_of}
 use Rattle.task_events.specs.Lawful.{Lawful}
 use Rattle.task_events.specs.Requests.{Scripted, request_of}
-use Rattle.task_events.specs.Same.{same_task, same_pair}
+use Rattle.task_events.specs.Same.{same_task}
 use Rattle.task_events.specs.Tasks.{is_live, is_new, has_ended}
 use Rattle.task_laws.proofs.Asks.{ask_facts}
 use Rattle.task_laws.proofs.Same.{same_task_tells}
@@ -73,10 +72,6 @@ pub record IsInUse (said : Scripted) (t : TaskId) (ask : ScrollAsk) (h : List Ev
   pub same : IsAsBefore start context
 
 module _ (said : Scripted) (t : TaskId) (ask : ScrollAsk) where
-  -- it is used by another
-  abbrev Other : TaskId → Type 0
-  Other u = same_task t u ≡ false
-
   -- a root that starts elsewhere takes another context
   root_stays : (now : ℕ) (u : TaskId) (look : TaskId → Option Context) (c : Context) → look ask.id ≡ Some c → c.busy ≡ Some t → (q : Option Request) → FindsFree look q → after_taking now u q ask.id (Some c) ≡ Some c
   root_stays now u look c at busy None free = refl
