@@ -92,7 +92,7 @@ plain_at name (member k d ms) plain =
     ∙ ap (λ b. cond b (d ∷ []) [] ++ held_at name ms) (sym (is_eq-slice_cmp name k))
     ∙ ap (λ l. cond (is_eq (slice_cmp nat_cmp name k)) (d ∷ []) [] ++ l) (plain_at name ms plain)
 
-plain_in : (name : List ℕ) (d : Data) → is_key name ≡ true → is_some (as_object d) ≡ true → held_behind name d ≡ values_at name d
+pub plain_in : (name : List ℕ) (d : Data) → is_key name ≡ true → is_some (as_object d) ≡ true → held_behind name d ≡ values_at name d
 plain_in name null plain h = absurd cc
 plain_in name (boolean b) plain h = absurd cc
 plain_in name (number n) plain h = absurd cc

@@ -1,6 +1,7 @@
 //! The keys of documents for a sort.
 
-ghost use Rattle.std.specs.Prelude.{◌≡◌, option_map, IfOk};
+ghost use Rattle.std.specs.Prelude.{◌≡◌, ◌∷◌, [], option_map, IfOk};
+ghost use Rattle.serde_json.specs.Data.{Data};
 ghost use Rattle.query_match.specs.Found.{found_view};
 ghost use Rattle.query_match.specs.Values.{field_values};
 ghost use Rattle.query_match.specs.Sorting.{best_of, part_of, part_at, part_cmp, key_of, key_cmp};
@@ -74,6 +75,14 @@ fn compare_part(by: &SortBy, source: &DocSource, part: &KeyPart) -> Ordering
     ensures { result ≡ part_cmp (part_at source.now by.now) part.now }
 {
     compare_best(by.descending, best_by(by, source), part)
+}
+
+/// How the part of a document for an entry of a sort stands to another part, where this is the one value that the document
+/// has at the field. The document is not looked into.
+pub fn compare_value(by: &SortBy, value: Found<'_>, part: &KeyPart) -> Ordering
+    ensures { (source : Data) → field_values by.now.field source ≡ found_view value.entry ∷ [] → result ≡ part_cmp (part_at source by.now) part.now }
+{
+    compare_best(by.descending, Some(value), part)
 }
 
 /// How the key of a document for a sort stands to another key.

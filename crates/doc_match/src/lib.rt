@@ -8,6 +8,6 @@ mod keys;
 mod matching;
 mod picked;
 
-pub use keys::{compare_key, sort_key};
+pub use keys::{compare_key, compare_value, sort_key};
 pub use matching::matches;
 pub use picked::has_picked;

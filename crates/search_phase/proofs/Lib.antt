@@ -12,6 +12,7 @@ pub mod HitKeys
 pub mod Kept
 pub mod Lookups
 pub mod NextRows
+pub mod Numbers
 pub mod Ordered
 pub mod Parts
 pub mod Picking

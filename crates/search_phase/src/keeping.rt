@@ -4,6 +4,7 @@ ghost use Rattle.std.specs.Prelude.{◌≡◌, ◌+◌, ◌<◌, ◌≤◌, ◌�
 ghost use Rattle.std.specs.BinaryHeap.{IsHeap, heap_items, heap_len, heap_capacity};
 ghost use Rattle.task_events.specs.Answers.{hit_key};
 ghost use Rattle.task_events.specs.HitOrder.{hit_cmp, in_hit_order, is_after};
+ghost use Rattle.search_phase.specs.LookedAt.{IsFirstNumber};
 
 use crate::looking::{compare_row, key_of_row};
 use std::alloc::{AllocError, Global};
@@ -84,8 +85,9 @@ pub(crate) fn keep_all(
     Ok(())
 }
 
-/// Keeps the key of a row among at most so many that stand first. It is made only where it is kept. It fails only for want
-/// of memory, and then the keys are used no more.
+/// Keeps the key of a row among at most so many that stand first. It is made only where it is kept, and the document is
+/// looked into only where the number at the first field of the sort does not tell whether it is. It fails only for want of
+/// memory, and then the keys are used no more.
 pub(crate) fn keep_row(
     alloc: Global,
     first: &mut BinaryHeap<HitKey>,
@@ -93,9 +95,11 @@ pub(crate) fn keep_row(
     ask: &ShardAsk,
     place: u32,
     doc: &Doc,
+    number: Option<i64>,
 ) -> Result<(), AllocError>
     requires ordered { IsHeap hit_cmp (heap_items first.old) }
     requires few { heap_len first.old ≤ most }
+    requires number { IsFirstNumber ask.now.body.sort doc.now number }
     ensures still_ordered { OnOk result (IsHeap hit_cmp (heap_items first.new)) }
     ensures still_few { OnOk result (heap_len first.new ≤ most) }
     ensures keys { OnOk result (in_hit_order (heap_items first.new)
@@ -105,7 +109,7 @@ pub(crate) fn keep_row(
         let Some(last) = first.peek() else {
             return Ok(());
         };
-        if !compare_row(ask, place, doc, last).is_lt() {
+        if !compare_row(ask, place, doc, number, last).is_lt() {
             return Ok(());
         }
         let key = key_of_row(alloc, ask, place, doc)?;

@@ -1,16 +1,19 @@
 //! The query phase of a search in one shard.
 
-ghost use Rattle.std.specs.Prelude.{◌≡◌, ◌+◌, ◌≤◌, ◌<◌, ◌*◌, ◌^◌, ◌∷◌, [], ◌++◌, List, true, false, map, filter, take, length, IfOk, OnOk, OnErr};
+ghost use Rattle.std.specs.Prelude.{◌≡◌, ◌+◌, ◌≤◌, ◌<◌, ◌*◌, ◌^◌, ◌∷◌, [], ◌++◌, List, true, false, map, filter, take, length, slice_get, IfOk, IfSome, OnOk, OnErr};
 ghost use Rattle.std.specs.BinaryHeap.{IsHeap, heap_items};
 ghost use Rattle.task_ids.specs.declared.doc.Doc.{Doc};
 ghost use Rattle.task_events.specs.Answers.{is_found, window};
 ghost use Rattle.task_events.specs.HitOrder.{hit_cmp, in_hit_order, is_after};
 ghost use Rattle.search_phase.specs.Queries.{IsQueried, StaysQueried, HasTurned, new_query, version_at, has_ended, has_none_left, next_rows, with_rows, keys_of_rows, first_keys, queried, without_keys};
+ghost use Rattle.std.specs.List.{AllByRecursion};
+ghost use Rattle.shard_docs.specs.Numbers.{IsNumberAt};
+ghost use Rattle.search_phase.specs.LookedAt.{IsFirstNumber};
 ghost use Rattle.search_phase.specs.TurnAnswers.{query_answer, is_ready};
 
 use crate::keeping::{keep_all, keep_row};
 use crate::looking::{counts_all, is_after_cursor, is_found};
-use shard_docs::Shard;
+use shard_docs::{NumberAt, Shard, number_at};
 use std::alloc::{AllocError, Global};
 use std::collections::BinaryHeap;
 use std::marker::Model;
@@ -182,21 +185,40 @@ impl ShardQuery {
             found.count = places.len() as u64;
             return Ok(found);
         }
+        let numbers = self.numbers(shard, version);
         for place in places {
             let Some(doc) = shard.row(version, *place) else {
                 unreachable!()
             };
-            self.add(&mut found, all, *place, doc)?;
+            self.add(&mut found, all, *place, doc, number_at(numbers, *place))?;
         }
         Ok(found)
     }
 
+    /// The numbers that rows have at the first field of the sort, as far as they are known.
+    fn numbers<'s>(&self, shard: &'s Shard, version: u32) -> &'s [NumberAt]
+        ensures { IfSome (slice_get self.now.ask.body.sort 0) (λ by. AllByRecursion (IsNumberAt by.field version shard.now) result.now) }
+    {
+        match self.ask.body.get().sort.as_slice().first() {
+            Some(by) => shard.numbers(version, by.field.as_str()),
+            None => &[],
+        }
+    }
+
     /// Adds a row to what others have come to, where it matches. All rows match for certain where that is said.
-    fn add(&self, found: &mut Matches, all: bool, place: u32, doc: &Doc) -> Result<(), AllocError>
+    fn add(
+        &self,
+        found: &mut Matches,
+        all: bool,
+        place: u32,
+        doc: &Doc,
+        number: Option<i64>,
+    ) -> Result<(), AllocError>
         requires certain { all ≡ true → is_found self.now.ask.body self.now.ask.slice doc.now ≡ true }
         requires ordered { IsHeap hit_cmp (heap_items found.old.first) }
         requires few { length (heap_items found.old.first) ≤ window self.now.ask.body }
         requires low { found.old.count < 2 ^ 32 }
+        requires number { IsFirstNumber self.now.ask.body.sort doc.now number }
         ensures count { OnOk result (found.new.count ≡ found.old.count + length (keys_of_rows self.now.ask ((place, doc.now) ∷ []))) }
         ensures still_ordered { OnOk result (IsHeap hit_cmp (heap_items found.new.first)) }
         ensures still_few { OnOk result (length (heap_items found.new.first) ≤ window self.now.ask.body) }
@@ -207,7 +229,7 @@ impl ShardQuery {
             return Ok(());
         }
         found.count += 1;
-        if is_after_cursor(&self.ask, place, doc) {
+        if is_after_cursor(&self.ask, place, doc, number) {
             keep_row(
                 self.alloc,
                 &mut found.first,
@@ -215,6 +237,7 @@ impl ShardQuery {
                 &self.ask,
                 place,
                 doc,
+                number,
             )?;
         }
         Ok(())

@@ -18,16 +18,16 @@ use Rattle.shard_docs.proofs.TableLemmas.{docs_of}
 
 -- ---- lists of places
 
-module _ (has more : ℕ → Bool) (still : (p : ℕ) → has p ≡ true → more p ≡ true) where
-  pub all_still : (places : List ℕ) → AllByRecursion (λ p. has p ≡ true) places → AllByRecursion (λ p. more p ≡ true) places
+module _ {X : Type 0} (has more : X → Bool) (still : (p : X) → has p ≡ true → more p ≡ true) where
+  pub all_still : (places : List X) → AllByRecursion (λ p. has p ≡ true) places → AllByRecursion (λ p. more p ≡ true) places
   all_still [] all = tt
   all_still (p ∷ places) (here, all) = (still p here, all_still places all)
 
-  all_push : (places : List ℕ) (place : ℕ) → AllByRecursion (λ p. has p ≡ true) places → more place ≡ true → AllByRecursion (λ p. more p ≡ true) (places ++ place ∷ [])
+  all_push : (places : List X) (place : X) → AllByRecursion (λ p. has p ≡ true) places → more place ≡ true → AllByRecursion (λ p. more p ≡ true) (places ++ place ∷ [])
   all_push [] place all last = (last, tt)
   all_push (p ∷ places) place (here, all) last = (still p here, all_push places place all last)
 
-  pub all_with : (same : Bool) (places : List ℕ) (place : ℕ) → AllByRecursion (λ p. has p ≡ true) places → more place ≡ true
+  pub all_with : (same : Bool) (places : List X) (place : X) → AllByRecursion (λ p. has p ≡ true) places → more place ≡ true
       → AllByRecursion (λ p. more p ≡ true) (cond same places (places ++ place ∷ []))
   all_with true places place all last = all_still places all
   all_with false places place all last = all_push places place all last
@@ -48,14 +48,19 @@ all_filtered has above (p ∷ places) (here, all) = either (above p) (all_filter
 
 -- ---- one more write
 
-abbrev pub May : List ℕ → Scalar → ℕ → SeenRow → Bool
-May f v oldest row = not (is_alive_before oldest row.died) || has_value_at f v row.doc
+-- its document has something, unless it is forgotten
+abbrev pub MayHave : (Doc → Bool) → ℕ → SeenRow → Bool
+MayHave has oldest row = not (is_alive_before oldest row.died) || has row.doc
 
-still_at_row : (f : List ℕ) (v : Scalar) (s : SeenRows) (doc : Doc) (room place : ℕ) → may_be_at_row f v s place ≡ true → may_be_at_row f v (with_row s doc room) place ≡ true
-still_at_row f v s doc room place here =
+abbrev pub May : List ℕ → Scalar → ℕ → SeenRow → Bool
+May f v = MayHave (has_value_at f v)
+
+pub still_at_row : (has : Doc → Bool) (s : SeenRows) (doc : Doc) (room place : ℕ) → option_map_or (MayHave has s.oldest) (slice_get s.rows place) false ≡ true
+    → option_map_or (MayHave has s.oldest) (slice_get (s.rows ++ new_row doc ∷ []) place) false ≡ true
+still_at_row has s doc room place here =
     ⊎_elim
-    (λ below. sym (same_before (May f v s.oldest) s.rows (new_row doc) place below) ∙ here)
-    (λ past. absurd (true≢false (sym here ∙ none_past (May f v s.oldest) s.rows place past)))
+    (λ below. sym (same_before (MayHave has s.oldest) s.rows (new_row doc) place below) ∙ here)
+    (λ past. absurd (true≢false (sym here ∙ none_past (MayHave has s.oldest) s.rows place past)))
     (cases_lt place (length s.rows))
 
 pub still_exact : (s : SeenRows) (doc : Doc) (room place : ℕ) (old new : Index) → place ≡ length s.rows → IsExactFor s old → MayAdd place old new
@@ -63,7 +68,7 @@ pub still_exact : (s : SeenRows) (doc : Doc) (room place : ℕ) (old new : Index
 still_exact s doc room place old new at exact may kept f v =
     let has = may_be_at_row f v s in
     let more = may_be_at_row f v (with_row s doc room) in
-    let still = still_at_row f v s doc room in
+    let still = still_at_row (has_value_at f v) s doc room in
     let stay = all_still has more still (places_of old f v) (exact f v) in
     ⊎_elim
     (λ here.

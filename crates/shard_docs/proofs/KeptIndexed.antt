@@ -5,6 +5,7 @@ use Rattle.std.proofs.lemmas.Bool.{cases_Bool, le-ltb}
 use Rattle.std.proofs.lemmas.Option.{slice_get_past}
 use Rattle.std.specs.List.{AllByRecursion, slice_get}
 use Rattle.std.specs.Option.{option_map_or}
+use Rattle.task_ids.specs.declared.doc.Doc.{Doc}
 use Rattle.query_match.specs.declared.scalar.Scalar.{Scalar}
 use Rattle.query_match.specs.Values.{is_key}
 use Rattle.shard_docs.specs.declared.index.Index.{Index}
@@ -14,7 +15,7 @@ use Rattle.shard_docs.specs.KeptRows.{seen, shown, IsKeptAt, AreKept, below}
 use Rattle.shard_docs.specs.Places.{places_of, ends_with_place, with_place, MayAdd, HasAdded, KeepsUnless, HasPlaces, has_value_at, is_at_row, may_be_at_row, IsIndexOf, IsExactFor}
 use Rattle.shard_docs.specs.SeenRows.{SeenRow, SeenRows}
 use Rattle.shard_docs.proofs.Adding.{May, with_new, not_last}
-use Rattle.shard_docs.proofs.Exact.{all_with}
+use Rattle.shard_docs.proofs.Exact.{MayHave, all_with}
 use Rattle.shard_docs.proofs.KeptLemmas.{is_kept, has_died, some_kept, end_of, many_shown, below_more, below_none}
 use Rattle.shard_docs.proofs.KeptReads.{is_own, is_another}
 
@@ -132,14 +133,14 @@ module _ (s : SeenRows) (rows : List StoredRow) (are : AreKept s.oldest 0 rows) 
         absurd (true≢false (sym here ∙ ap (λ o. option_map_or (At f v) o false) r.1 ∙ ap (λ b. b && has_value_at f v r.0.doc) r.2)))
         (cases_Bool (is_kept s.oldest row))
 
-    -- where it has the value, its place may be there
-    may_be : (f : List ℕ) (v : Scalar) → has_value_at f v row.doc ≡ true → may_be_at_row f v s row.place ≡ true
-    may_be f v has =
+    -- what its document has, its place may have
+    pub may_have : (has : Doc → Bool) → has row.doc ≡ true → option_map_or (MayHave has s.oldest) (slice_get s.rows row.place) false ≡ true
+    may_have has here =
         ⊎_elim
-        (λ kept. ap (λ o. option_map_or (λ r. not (is_alive_before s.oldest r.died) || has_value_at f v r.doc) o false) (at_its_place kept) ∙ ap (λ b. not b || has_value_at f v row.doc) kept ∙ has)
+        (λ kept. ap (λ o. option_map_or (MayHave has s.oldest) o false) (at_its_place kept) ∙ ap (λ b. not b || has row.doc) kept ∙ here)
         (λ gone.
         let r = else_dead gone in
-        ap (λ o. option_map_or (λ r. not (is_alive_before s.oldest r.died) || has_value_at f v r.doc) o false) r.1 ∙ ap (λ b. not b || has_value_at f v r.0.doc) r.2)
+        ap (λ o. option_map_or (MayHave has s.oldest) o false) r.1 ∙ ap (λ b. not b || has r.0.doc) r.2)
         (cases_Bool (is_kept s.oldest row))
 
     module _ (old new : Index) (may : MayAdd row.place old new) where
@@ -161,7 +162,7 @@ module _ (s : SeenRows) (rows : List StoredRow) (are : AreKept s.oldest 0 rows) 
           (λ same. subst (AllByRecursion (λ p. test p ≡ true)) (sym same) (exact f v))
           (λ more.
           subst (AllByRecursion (λ p. test p ≡ true)) (sym more)
-          (all_with test test (λ p h. h) (ends_with_place row.place (places_of old f v)) (places_of old f v) row.place (exact f v) (may_be f v yes)))
+          (all_with test test (λ p h. h) (ends_with_place row.place (places_of old f v)) (places_of old f v) row.place (exact f v) (may_have (has_value_at f v) yes)))
           (may f v))
           (λ no. subst (AllByRecursion (λ p. test p ≡ true)) (sym (kept f v no)) (exact f v))
           (cases_Bool (has_value_at f v row.doc))

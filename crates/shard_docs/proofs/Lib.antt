@@ -7,6 +7,7 @@ pub mod CorpusLemmas
 pub mod Exact
 pub mod FloatLemmas
 pub mod Forgetting
+pub mod Gaining
 pub mod Ids
 pub mod Indexed
 pub mod Keeping
@@ -20,6 +21,8 @@ pub mod KeptReads
 pub mod LinesLemmas
 pub mod LivingLemmas
 pub mod NamesLemmas
+pub mod Numbered
+pub mod OneNumber
 pub mod PickedPlaces
 pub mod RowLemmas
 pub mod SeenLemmas

@@ -8,27 +8,34 @@ use Rattle.task_ids.specs.declared.doc.Doc.{Doc}
 use Rattle.query_match.specs.declared.scalar.Scalar.{Scalar}
 use Rattle.shard_docs.specs.declared.index.Index.{Index}
 use Rattle.shard_docs.specs.Deaths.{is_alive_before}
+use Rattle.shard_docs.specs.declared.numbers.Numbers.{Numbers}
+use Rattle.shard_docs.specs.Numbers.{has_number, AreNumbersOf}
 use Rattle.shard_docs.specs.Places.{MayAdd, KeepsUnless, has_value_at, IsIndexOf, IsExactFor}
 use Rattle.shard_docs.specs.SeenRows.{SeenRow, SeenRows, new_row, forgotten}
 use Rattle.shard_docs.specs.Shown.{ShowsFrom}
 use Rattle.shard_docs.specs.Tables.{IsTables}
-use Rattle.shard_docs.proofs.Exact.{May, still_exact, exact_still}
+use Rattle.shard_docs.proofs.Exact.{MayHave, still_exact, exact_still}
 use Rattle.shard_docs.proofs.Forgetting.{Dies, as_many, still_die, same_rows, same_last, stays, died_early, next, now, later_die}
 use Rattle.shard_docs.proofs.Indexed.{At, HasAll, with_row, indexed, still_indexed, index_of_fewer, alike_set}
 use Rattle.shard_docs.proofs.KeptForgotten.{alive_then}
+use Rattle.shard_docs.proofs.Numbered.{numbers_still}
 use Rattle.shard_docs.proofs.TableLemmas.{Living, docs_of}
 
 -- what a shard keeps of its rows
-abbrev pub Holds : SeenRows → Living → Index → Bool → Type 0
-Holds s living index spoiled = IsTables s.rows living × (s.oldest ≤ length s.rows) × IsIndexOf s index × (spoiled ≡ false → IsExactFor s index)
+abbrev pub Holds : SeenRows → Living → Index → Bool → Numbers → Type 0
+Holds s living index spoiled numbers = IsTables s.rows living × (s.oldest ≤ length s.rows) × IsIndexOf s index × (spoiled ≡ false → IsExactFor s index) × AreNumbersOf s numbers
+
+-- the part of it that tells where values and numbers are
+abbrev Told : SeenRows → Index → Bool → Numbers → Type 0
+Told s index spoiled numbers = IsIndexOf s index × (spoiled ≡ false → IsExactFor s index) × AreNumbersOf s numbers
 
 abbrev rows_with : SeenRows → List SeenRow → ℕ → SeenRows
 rows_with s rows oldest = record { rows = rows; oldest = oldest; room = s.room }
 
 -- the same rows, with more room perhaps
-pub alike : (s t : SeenRows) (living : Living) (index : Index) (spoiled : Bool) → t.rows ≡ s.rows → t.oldest ≡ s.oldest → Holds s living index spoiled → Holds t living index spoiled
-alike s t living index spoiled rows oldest holds =
-    subst (λ o. Holds (rows_with t t.rows o) living index spoiled) (sym oldest) (subst (λ l. Holds (rows_with t l s.oldest) living index spoiled) (sym rows) holds)
+pub alike : (s t : SeenRows) (living : Living) (index : Index) (spoiled : Bool) (numbers : Numbers) → t.rows ≡ s.rows → t.oldest ≡ s.oldest → Holds s living index spoiled numbers → Holds t living index spoiled numbers
+alike s t living index spoiled numbers rows oldest holds =
+    subst (λ o. Holds (rows_with t t.rows o) living index spoiled numbers) (sym oldest) (subst (λ l. Holds (rows_with t l s.oldest) living index spoiled numbers) (sym rows) holds)
 
 -- ---- forgetting
 
@@ -53,32 +60,33 @@ module _ (f : List ℕ) (v : Scalar) (o p : ℕ) (later_oldest : o ≤ p) where
       by true kept rest = ap (λ l. option_map_or (At f v p) (slice_get l (suc i)) false) (stays p place row later kept) ∙ rest
       by false gone rest = ap (λ l. option_map_or (At f v p) (slice_get l (suc i)) false) (now p place row later dies gone) ∙ rest
 
-  may_still : (place i : ℕ) (rows : List SeenRow) → Dies place rows → option_map_or (May f v o) (slice_get rows i) false ≡ true → option_map_or (May f v p) (slice_get (forgotten p place rows) i) false ≡ true
+module _ (has : Doc → Bool) (o p : ℕ) (later_oldest : o ≤ p) where
+  may_still : (place i : ℕ) (rows : List SeenRow) → Dies place rows → option_map_or (MayHave has o) (slice_get rows i) false ≡ true → option_map_or (MayHave has p) (slice_get (forgotten p place rows) i) false ≡ true
   may_still place i [] dies e = e
   may_still place zero (row ∷ later) dies e = by (is_alive_before p row.died) refl
     where
-      by : (b : Bool) → is_alive_before p row.died ≡ b → option_map_or (May f v p) (slice_get (forgotten p place (row ∷ later)) 0) false ≡ true
+      by : (b : Bool) → is_alive_before p row.died ≡ b → option_map_or (MayHave has p) (slice_get (forgotten p place (row ∷ later)) 0) false ≡ true
       by true kept =
           let was = alive_then o p row.died later_oldest kept in
-          let some : has_value_at f v row.doc ≡ true = sym (ap (λ b. not b || has_value_at f v row.doc) was) ∙ e in
-          ap (λ l. option_map_or (May f v p) (slice_get l 0) false) (stays p place row later kept) ∙ ap (λ b. not b || has_value_at f v row.doc) kept ∙ some
+          let some : has row.doc ≡ true = sym (ap (λ b. not b || has row.doc) was) ∙ e in
+          ap (λ l. option_map_or (MayHave has p) (slice_get l 0) false) (stays p place row later kept) ∙ ap (λ b. not b || has row.doc) kept ∙ some
       by false gone =
           let early = died_early p place row later dies gone in
-          ap (λ l. option_map_or (May f v p) (slice_get l 0) false) (now p place row later dies gone) ∙ ap (λ b. not b || has_value_at f v (next p place row later dies gone).0.doc) (le-ltb p (suc (suc place)) (omega arith))
+          ap (λ l. option_map_or (MayHave has p) (slice_get l 0) false) (now p place row later dies gone) ∙ ap (λ b. not b || has (next p place row later dies gone).0.doc) (le-ltb p (suc (suc place)) (omega arith))
   may_still place (suc i) (row ∷ later) dies e =
       let rest = may_still (suc place) i later (later_die place row later dies) e in
       by (is_alive_before p row.died) refl rest
     where
-      by : (b : Bool) → is_alive_before p row.died ≡ b → option_map_or (May f v p) (slice_get (forgotten p (suc place) later) i) false ≡ true → option_map_or (May f v p) (slice_get (forgotten p place (row ∷ later)) (suc i)) false ≡ true
-      by true kept rest = ap (λ l. option_map_or (May f v p) (slice_get l (suc i)) false) (stays p place row later kept) ∙ rest
-      by false gone rest = ap (λ l. option_map_or (May f v p) (slice_get l (suc i)) false) (now p place row later dies gone) ∙ rest
+      by : (b : Bool) → is_alive_before p row.died ≡ b → option_map_or (MayHave has p) (slice_get (forgotten p (suc place) later) i) false ≡ true → option_map_or (MayHave has p) (slice_get (forgotten p place (row ∷ later)) (suc i)) false ≡ true
+      by true kept rest = ap (λ l. option_map_or (MayHave has p) (slice_get l (suc i)) false) (stays p place row later kept) ∙ rest
+      by false gone rest = ap (λ l. option_map_or (MayHave has p) (slice_get l (suc i)) false) (now p place row later dies gone) ∙ rest
 
-pub purged : (s t : SeenRows) (living : Living) (index : Index) (spoiled : Bool) (oldest : ℕ) → t.rows ≡ forgotten oldest 0 s.rows → t.oldest ≡ oldest → s.oldest ≤ oldest → oldest ≤ length s.rows
-    → Holds s living index spoiled → Holds t living index spoiled
-purged s t living index spoiled oldest rows is above within (tables, low, places, exact) =
+pub purged : (s t : SeenRows) (living : Living) (index : Index) (spoiled : Bool) (numbers : Numbers) (oldest : ℕ) → t.rows ≡ forgotten oldest 0 s.rows → t.oldest ≡ oldest → s.oldest ≤ oldest → oldest ≤ length s.rows
+    → Holds s living index spoiled numbers → Holds t living index spoiled numbers
+purged s t living index spoiled numbers oldest rows is above within (tables, low, places, exact, known) =
     let left : SeenRows = rows_with t (forgotten oldest 0 s.rows) oldest in
     let many = as_many oldest 0 s.rows tables.died in
-    alike left t living index spoiled rows is (
+    alike left t living index spoiled numbers rows is (
       record {
         few = subst (λ n. n < 2 ^ 32) (sym many) tables.few;
         died = still_die oldest 0 s.rows tables.died;
@@ -86,7 +94,8 @@ purged s t living index spoiled oldest rows is above within (tables, low, places
       },
       subst (λ n. oldest ≤ n) (sym many) within,
       index_of_fewer s left index many (λ f v i. at_falls f v s.oldest oldest above 0 i s.rows tables.died) places,
-      λ clean. exact_still s left index (λ f v i. may_still f v s.oldest oldest above 0 i s.rows tables.died) (exact clean),
+      λ clean. exact_still s left index (λ f v i. may_still (has_value_at f v) s.oldest oldest above 0 i s.rows tables.died) (exact clean),
+      numbers_still s left numbers (λ f n. may_still (has_number f n.number) s.oldest oldest above 0 n.place s.rows tables.died) known,
     )
 
 pub shows : (s t : SeenRows) (oldest : ℕ) → t.rows ≡ forgotten oldest 0 s.rows → Dies 0 s.rows → ShowsFrom oldest (docs_of s.rows) (docs_of t.rows)
@@ -100,30 +109,34 @@ shows s t oldest rows dies =
 -- ---- one more write
 
 -- the places of it may be in the index already
-pub prepared : (s : SeenRows) (living : Living) (old new : Index) (place : ℕ) (was spoiled : Bool) → place ≡ length s.rows → MayAdd place old new → Holds s living old was → Holds s living new true
-prepared s living old new place was spoiled at may (tables, low, places, exact) = (tables, low, still_indexed s place old new at places may, λ clean. absurd (true≢false clean))
+pub prepared : (s : SeenRows) (living : Living) (old new : Index) (place : ℕ) (was spoiled : Bool) (numbers : Numbers) → place ≡ length s.rows → MayAdd place old new → Holds s living old was numbers
+    → Holds s living new true numbers
+prepared s living old new place was spoiled numbers at may (tables, low, places, exact, known) = (tables, low, still_indexed s place old new at places may, λ clean. absurd (true≢false clean), known)
 
 -- and then its row stands
-pub written : (s : SeenRows) (doc : Doc) (room place : ℕ) (living : Living) (old new : Index) (spoiled : Bool) → place ≡ length s.rows → MayAdd place old new → HasAll place doc.source old new
+pub written : (s : SeenRows) (doc : Doc) (room place : ℕ) (old new : Index) (spoiled : Bool) → place ≡ length s.rows → MayAdd place old new → HasAll place doc.source old new
     → KeepsUnless (λ f v. has_value_at f v doc) old new → IsIndexOf s old → (spoiled ≡ false → IsExactFor s old) → IsIndexOf (with_row s doc room) new × (spoiled ≡ false → IsExactFor (with_row s doc room) new)
-written s doc room place living old new spoiled at may added kept places exact =
+written s doc room place old new spoiled at may added kept places exact =
     (indexed s doc room place old new at places may added, λ clean. still_exact s doc room place old new at (exact clean) may kept)
 
 pub with_next : (s : SeenRows) (doc : Doc) → s.oldest ≤ length s.rows → s.oldest ≤ length (s.rows ++ new_row doc ∷ [])
 with_next s doc low = omega (arith, length_push s.rows (new_row doc))
 
 -- and another dies, at a version that can be read
-pub replaced : (s t : SeenRows) (i version : ℕ) (row : SeenRow) (index : Index) (spoiled : Bool) → slice_get s.rows i ≡ Some row → row.died ≡ None → s.oldest < version → t.rows ≡ set s.rows i (record row { died = Some version }) → t.oldest ≡ s.oldest
-    → IsIndexOf s index → (spoiled ≡ false → IsExactFor s index) → IsIndexOf t index × (spoiled ≡ false → IsExactFor t index)
-replaced s t i version row index spoiled here alive later rows oldest places exact =
+pub replaced : (s t : SeenRows) (i version : ℕ) (row : SeenRow) (index : Index) (spoiled : Bool) (numbers : Numbers) → slice_get s.rows i ≡ Some row → row.died ≡ None → s.oldest < version
+    → t.rows ≡ set s.rows i (record row { died = Some version }) → t.oldest ≡ s.oldest → IsIndexOf s index → (spoiled ≡ false → IsExactFor s index) → AreNumbersOf s numbers
+    → IsIndexOf t index × (spoiled ≡ false → IsExactFor t index) × AreNumbersOf t numbers
+replaced s t i version row index spoiled numbers here alive later rows oldest places exact known =
     let dead : SeenRow = record row { died = Some version } in
     let now_dead : SeenRows = rows_with t (set s.rows i dead) s.oldest in
     let kept : is_alive_before s.oldest row.died ≡ is_alive_before s.oldest dead.died = ap (is_alive_before s.oldest) alive ∙ sym (lt-ltb s.oldest version later) in
     let same_at : (f : List ℕ) (v : Scalar) → At f v s.oldest row ≡ At f v s.oldest dead = λ f v. ap (λ b. b && has_value_at f v row.doc) kept in
-    let same_may : (f : List ℕ) (v : Scalar) → May f v s.oldest row ≡ May f v s.oldest dead = λ f v. ap (λ b. not b || has_value_at f v row.doc) kept in
-    let both : IsIndexOf now_dead index × (spoiled ≡ false → IsExactFor now_dead index) = (
+    let same_may : (has : Doc → Bool) → MayHave has s.oldest row ≡ MayHave has s.oldest dead = λ has. ap (λ b. not b || has row.doc) kept in
+    let still : (has : Doc → Bool) (place : ℕ) → option_map_or (MayHave has s.oldest) (slice_get s.rows place) false ≡ true → option_map_or (MayHave has s.oldest) (slice_get (set s.rows i dead) place) false ≡ true =
+    λ has place may. sym (alike_set (MayHave has s.oldest) s.rows i place row dead here (same_may has)) ∙ may in
+    let all : Told now_dead index spoiled numbers = (
       index_of_fewer s now_dead index (length-set s.rows i dead) (λ f v place none. sym (alike_set (At f v s.oldest) s.rows i place row dead here (same_at f v)) ∙ none) places,
-      λ clean. exact_still s now_dead index (λ f v place may. sym (alike_set (May f v s.oldest) s.rows i place row dead here (same_may f v)) ∙ may) (exact clean),
+      λ clean. exact_still s now_dead index (λ f v. still (has_value_at f v)) (exact clean),
+      numbers_still s now_dead numbers (λ f n. still (has_number f n.number) n.place) known,
     ) in
-    subst (λ o. IsIndexOf (rows_with t t.rows o) index × (spoiled ≡ false → IsExactFor (rows_with t t.rows o) index)) (sym oldest)
-    (subst (λ l. IsIndexOf (rows_with t l s.oldest) index × (spoiled ≡ false → IsExactFor (rows_with t l s.oldest) index)) (sym rows) both)
+    subst (λ o. Told (rows_with t t.rows o) index spoiled numbers) (sym oldest) (subst (λ l. Told (rows_with t l s.oldest) index spoiled numbers) (sym rows) all)

@@ -7,6 +7,7 @@ pub mod Ends
 pub mod Fault
 pub mod Json
 pub mod KeptRows
+pub mod Numbers
 pub mod Places
 pub mod Seen
 pub mod SeenRows

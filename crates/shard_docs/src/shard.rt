@@ -2,12 +2,15 @@ ghost use Rattle.std.specs.Prelude.{◌≡◌, ℕ, ◌<◌, ◌≤◌, ◌+◌,
 ghost use Rattle.task_ids.specs.Rows.{row_at};
 ghost use Rattle.query_match.specs.Picks.{picked};
 ghost use Rattle.query_match.specs.Values.{is_key};
+ghost use Rattle.std.specs.List.{AllByRecursion};
+ghost use Rattle.shard_docs.specs.Numbers.{IsNumberAt, AreNumbersOf};
 ghost use Rattle.shard_docs.specs.Candidates.{next_places, living_row, is_candidate, is_above};
 ghost use Rattle.shard_docs.specs.Written.{outcome_of};
 ghost use Rattle.shard_docs.specs.Places.{IsIndexOf, IsExactFor};
 ghost use Rattle.shard_docs.specs.Shown.{ShowsFrom};
 
 use crate::index::{Index, places_above};
+use crate::numbers::{NumberAt, Numbers};
 use crate::rows::Rows;
 use doc_match::has_picked;
 use query_match::Pick;
@@ -41,6 +44,8 @@ pub struct Shard {
     living: HashMap<String, u32>,
     /// The places of the rows that are not forgotten, dead ones too, by the values of their fields.
     index: Index,
+    /// Numbers that rows have at their fields, of those that are not forgotten and perhaps of others.
+    numbers: Numbers,
     /// The versions at which the rows died that are not forgotten, in order.
     deaths: VecDeque<u32>,
     /// How many rows were forgotten since memory was given back.
@@ -61,11 +66,12 @@ impl Model for Shard {
 
     ghost use Rattle.shard_docs.specs.Tables.{IsTables};
     ghost use Rattle.shard_docs.specs.Places.{IsIndexOf, IsExactFor};
+    ghost use Rattle.shard_docs.specs.Numbers.{AreNumbersOf};
 
     ghost view = { λ s. map (λ row. row.doc) s.rows.rows };
 
     ghost invariant = { λ s. IsTables s.rows.rows s.living × (s.rows.oldest ≤ length s.rows.rows) × IsIndexOf s.rows s.index
-        × (s.spoiled ≡ false → IsExactFor s.rows s.index) };
+        × (s.spoiled ≡ false → IsExactFor s.rows s.index) × AreNumbersOf s.rows s.numbers };
 }
 
 impl Shard {
@@ -77,6 +83,7 @@ impl Shard {
             rows: Rows::new(alloc),
             living: HashMap::new(alloc),
             index: Index::new(alloc),
+            numbers: Numbers::new(alloc),
             deaths: VecDeque::new(alloc),
             forgotten: 0,
             spoiled: false,
@@ -104,6 +111,7 @@ impl Shard {
         let Ok(replaced) = self.living.insert(id, place as u32) else {
             return Err(AllocError);
         };
+        self.numbers.add(&doc.source, place as u32);
         self.rows.push(doc);
         self.spoiled = was_spoiled;
         let Some(replaced) = replaced else {
@@ -145,6 +153,7 @@ impl Shard {
     {
         self.rows.sweep();
         self.forgotten = 0;
+        self.numbers = numbers_of(&self.rows);
         // where memory runs out the index stays as it is
         if let Ok(index) = index_of(&self.rows) {
             self.index = index;
@@ -188,6 +197,19 @@ impl Shard {
         };
         let place = *living.get(id)?;
         Some((place, self.rows.doc(place)))
+    }
+
+    /// Of rows whose one value at a field is a number, the number and the place: of those that are known, ascending by place,
+    /// at a field without a dot.
+    pub fn numbers(&self, version: u32, field: &str) -> &[NumberAt]
+        ensures { AllByRecursion (IsNumberAt field.now version self.now) result.now }
+    {
+        // nothing is known of rows that are forgotten
+        if self.rows.oldest() <= version {
+            self.numbers.at(field)
+        } else {
+            &[]
+        }
     }
 
     /// The next places above one, or from the first on, ascending, of rows that are alive at a version and have what is
@@ -319,6 +341,17 @@ fn index_of(rows: &Rows) -> Result<Index, AllocError>
         index.add(&row.doc.source, row.place)?;
     }
     Ok(index)
+}
+
+/// The numbers of some rows. Where memory runs out some are missing.
+fn numbers_of(rows: &Rows) -> Numbers
+    ensures { AreNumbersOf rows.now result }
+{
+    let mut numbers = Numbers::new(*rows.allocator());
+    for row in rows.kept() {
+        numbers.add(&row.doc.source, row.place);
+    }
+    numbers
 }
 
 /// The first place above one, if a row can have it.

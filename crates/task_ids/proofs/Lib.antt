@@ -1,3 +1,4 @@
+pub mod Each
 pub mod LastStar
 pub mod Members
 pub mod OneValue

@@ -1,5 +1,5 @@
 -- The members of a source: those of the object that it was, and each key once.
-use Rattle.std.proofs.Common.{◌≡◌, ℕ, Bool, true, cond, List, [], ◌∷◌, ◌++◌, ◌+◌, ◌<◌, drop, get_or, length, map, Option, Some, String, string_bytes, Global, refl, sym, ap, subst, ◌∙◌}
+use Rattle.std.proofs.Common.{◌≡◌, ℕ, Bool, true, false, ⊎_elim, true≢false, cond, List, [], ◌∷◌, ◌++◌, ◌+◌, ◌<◌, drop, get_or, length, map, Option, Some, String, string_bytes, Global, refl, sym, ap, subst, ◌∙◌}
 use Rattle.std.specs.Bool.{nat_eq}
 use Rattle.std.specs.List.{AllByRecursion}
 use Rattle.std.specs.List.Sorted.{IsStrictlySortedBy}
@@ -9,6 +9,7 @@ use Rattle.std.specs.Ordering.{is_eq, match_ordering, nat_cmp}
 use Rattle.std.specs.Cmp.Lexicographic.{pointwise, slice_cmp}
 use Rattle.std.specs.declared.cmp.Ordering.{Ordering}
 use Rattle.std.specs.declared.cmp.Ordering.TheVariants.{Less, Equal, Greater}
+use Rattle.std.proofs.lemmas.Bool.{cases_Bool}
 use Rattle.std.proofs.lemmas.List.{drop_more}
 use Rattle.std.proofs.lemmas.Map.Keys.{sorted_head, sorted_tail}
 use Rattle.std.proofs.lemmas.Map.Text.{is_eq-slice_cmp}
@@ -86,6 +87,36 @@ pub once : (k : List ℕ) (ms : List Member) → AreOrdered ms → values_among 
 once k [] s = refl
 once k (m ∷ ms) s = one_more (slice_cmp nat_cmp k m.key) (view m.value) _ _ (once k ms (sorted_tail _ m.key (map (λ n. n.key) ms) s))
     (λ e. none_later k ms (subst (λ (n : List ℕ). AllByRecursion (λ y. slice_cmp nat_cmp n y ≡ Less) (map (λ n. n.key) ms)) (sym ((bytes_eq-Decides k m.key).0 (sym (is_eq-slice_cmp k m.key) ∙ e))) (sorted_head _ m.key (map (λ n. n.key) ms) s)))
+
+-- what lies at the key of a member is its value alone
+
+own_key : (k : List ℕ) → is_eq (slice_cmp nat_cmp k k) ≡ true
+own_key k = is_eq-slice_cmp k k ∙ (bytes_eq-Decides k k).1 refl
+
+key_below : (k l : List ℕ) → slice_cmp nat_cmp k l ≡ Less → is_eq (slice_cmp nat_cmp l k) ≡ false
+key_below k l less =
+    ⊎_elim
+    (λ same.
+    let one : l ≡ k = (bytes_eq-Decides l k).0 (sym (is_eq-slice_cmp l k) ∙ same) in
+    absurd (true≢false (sym (own_key k) ∙ ap is_eq (subst (λ (x : List ℕ). slice_cmp nat_cmp k x ≡ Less) one less))))
+    (λ apart. apart)
+    (cases_Bool (is_eq (slice_cmp nat_cmp l k)))
+
+abbrev IsAlone : List Member → Member → Type 0
+IsAlone ms m = values_among m.key (members_in ms) ≡ view m.value ∷ []
+
+behind_one : (m : Member) (ms later : List Member) → AllByRecursion (λ y. slice_cmp nat_cmp m.key y ≡ Less) (map (λ n. n.key) later) → AllByRecursion (IsAlone ms) later → AllByRecursion (IsAlone (m ∷ ms)) later
+behind_one m ms [] low all = tt
+behind_one m ms (n ∷ later) low all =
+    (ap (λ b. cond b (view m.value ∷ []) [] ++ values_among n.key (members_in ms)) (key_below m.key n.key low.0) ∙ all.0, behind_one m ms later low.1 all.1)
+
+pub each_alone : (ms : List Member) → AreOrdered ms → AllByRecursion (IsAlone ms) ms
+each_alone [] s = tt
+each_alone (m ∷ ms) s =
+    let low = sorted_head _ m.key (map (λ n. n.key) ms) s in (
+      ap (λ b. cond b (view m.value ∷ []) [] ++ values_among m.key (members_in ms)) (own_key m.key) ∙ ap (λ l. view m.value ∷ l) (none_later m.key ms low),
+      behind_one m ms ms low (each_alone ms (sorted_tail _ m.key (map (λ n. n.key) ms) s)),
+    )
 
 -- ---- one look
 

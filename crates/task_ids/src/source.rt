@@ -1,4 +1,5 @@
-ghost use Rattle.std.specs.Prelude.{◌≡◌, ◌≤◌, ◌↔◌, ◌++◌, true, false, IfOk, IfErr, OnOk, OnErr, is_some, option_map, IsErrOf};
+ghost use Rattle.std.specs.Prelude.{◌≡◌, ◌≤◌, ◌↔◌, ◌∷◌, [], ◌++◌, true, false, IfOk, IfErr, OnOk, OnErr, is_some, option_map, IsErrOf};
+ghost use Rattle.std.specs.List.{AllByRecursion};
 ghost use Rattle.std.specs.Option.{option_to_list};
 ghost use Rattle.serde_json.specs.Data.{depth, object};
 ghost use Rattle.serde_json.specs.Find.{as_object, get};
@@ -95,7 +96,8 @@ impl DocSource {
 
     /// The members, in the order of their keys, each key once.
     pub fn members(&self) -> &[Member]
-        ensures { object (members_in result.now) ≡ self.now }
+        ensures all { object (members_in result.now) ≡ self.now }
+        ensures alone { AllByRecursion (λ m. values_at m.key self.now ≡ view m.value ∷ []) result.now }
     {
         self.members.get().as_slice()
     }

@@ -8,6 +8,7 @@ use Rattle.task_events.specs.HitOrder.{in_hit_order, is_after}
 use Rattle.search_phase.specs.LookedAt.{counts_all}
 use Rattle.search_phase.specs.Queries.{QueryState, next_rows, keys_of_rows, first_keys}
 use Rattle.search_phase.proofs.NextRows.{RowAt, IsNext, row_in, all_next, all_counted, count_more, first_more, first_none}
+use Rattle.search_phase.proofs.Numbers.{number_of_row}
 use Rattle.search_phase.proofs.Picking.{counted}
 use Rattle.search_phase.proofs.Turns.{few_keys, few_next}
 use Rattle.search_phase.proofs.query.ShardQuery.find.Goals as goal
@@ -73,6 +74,11 @@ add-requires-clause-low c =
     let few = few_so_far c.args.self.now c.args.version c.args.shard.now c.args.places.now c.requires c.loop-place.place-index c.loop-place-test.true in
     let counted : c.loop-place.found.count ≡ length (keys_of_rows c.args.self.now.ask (take c.loop-place.place-index (next_rows c.args.self.now c.args.version c.args.shard.now))) = c.loop-place.invariant.2 in
     omega (arith, few, counted)
+
+pub add-requires-clause-number : goal.add-requires-clause-number
+add-requires-clause-number c =
+    number_of_row c.args.self.now.ask.body.sort c.args.version (get_or c.args.places.now c.loop-place.place-index 0) c.args.shard.now c.numbers-numbers.result.now c.number_at.result c.in-Some.doc.now
+    c.numbers-numbers.ensures c.number_at.ensures c.in-Some.ensures
 
 pub loop-place-preserved : goal.loop-place-preserved
 loop-place-preserved c =

@@ -10,14 +10,14 @@ pub invariant_of-self : goal.invariant_of-self
 invariant_of-self c =
     let s = c.self.inside.rows in
     let many = ap length c.self.view_is in
-    purged s c.forget.new.self c.self.inside.living c.self.inside.index c.self.inside.spoiled c.args.oldest c.forget.ensures.rows c.forget.ensures.oldest (omega (arith, c.if-oldest.false, c.oldest.ensures))
+    purged s c.forget.new.self c.self.inside.living c.self.inside.index c.self.inside.spoiled c.self.inside.numbers c.args.oldest c.forget.ensures.rows c.forget.ensures.oldest (omega (arith, c.if-oldest.false, c.oldest.ensures))
     (omega (arith, c.requires, many, length-map s.rows (λ (r : SeenRow). r.doc))) c.self.invariant
 
 pub invariant_of-self-else-self-stored : goal.invariant_of-self-else-self-stored
 invariant_of-self-else-self-stored c =
     let s = c.self.inside.rows in
     let many = ap length c.self.view_is in
-    purged s c.forget.new.self c.self.inside.living c.self.inside.index c.self.inside.spoiled c.args.oldest c.forget.ensures.rows c.forget.ensures.oldest (omega (arith, c.if-oldest.false, c.oldest.ensures))
+    purged s c.forget.new.self c.self.inside.living c.self.inside.index c.self.inside.spoiled c.self.inside.numbers c.args.oldest c.forget.ensures.rows c.forget.ensures.oldest (omega (arith, c.if-oldest.false, c.oldest.ensures))
     (omega (arith, c.requires, many, length-map s.rows (λ (r : SeenRow). r.doc))) c.self.invariant
 
 pub returns-then-self-stored : goal.returns-then-self-stored

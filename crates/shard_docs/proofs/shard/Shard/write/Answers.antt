@@ -9,34 +9,35 @@ use Rattle.shard_docs.specs.SeenRows.{SeenRow, new_row}
 use Rattle.shard_docs.specs.Tables.{IsTables}
 use Rattle.shard_docs.specs.declared.shard.Written.TheVariants.{Created, Updated}
 use Rattle.shard_docs.proofs.Indexed.{with_row, get_before}
+use Rattle.shard_docs.proofs.Numbered.{one_more_row}
 use Rattle.shard_docs.proofs.ShardParts.{alike, prepared, written, replaced, with_next}
 use Rattle.shard_docs.proofs.TableLemmas.{created, updated, docs_same, docs_of, found_place, place_within, alive_is_written, same_tables, living_row_is}
 use Rattle.shard_docs.proofs.shard.Shard.write.Goals as goal
 
 pub invariant_of-self : goal.invariant_of-self
 invariant_of-self c =
-    prepared c.self.inside.rows c.self.inside.living c.self.inside.index c.add.new.self c.len-place.result c.self.inside.spoiled true c.len-place.ensures c.add.ensures.others c.self.invariant
+    prepared c.self.inside.rows c.self.inside.living c.self.inside.index c.add.new.self c.len-place.result c.self.inside.spoiled true c.self.inside.numbers c.len-place.ensures c.add.ensures.others c.self.invariant
 
 pub invariant_of-self-in_err-id : goal.invariant_of-self-in_err-id
 invariant_of-self-in_err-id c =
-    prepared c.self.inside.rows c.self.inside.living c.self.inside.index c.add.new.self c.len-place.result c.self.inside.spoiled true c.len-place.ensures c.add.ensures.others c.self.invariant
+    prepared c.self.inside.rows c.self.inside.living c.self.inside.index c.add.new.self c.len-place.result c.self.inside.spoiled true c.self.inside.numbers c.len-place.ensures c.add.ensures.others c.self.invariant
 
 pub invariant_of-self-in_err-reserve : goal.invariant_of-self-in_err-reserve
 invariant_of-self-in_err-reserve c =
-    alike c.self.inside.rows c.reserve.new.self c.self.inside.living c.add.new.self true c.reserve.ensures.rows c.reserve.ensures.oldest
-    (prepared c.self.inside.rows c.self.inside.living c.self.inside.index c.add.new.self c.len-place.result c.self.inside.spoiled true c.len-place.ensures c.add.ensures.others c.self.invariant)
+    alike c.self.inside.rows c.reserve.new.self c.self.inside.living c.add.new.self true c.self.inside.numbers c.reserve.ensures.rows c.reserve.ensures.oldest
+    (prepared c.self.inside.rows c.self.inside.living c.self.inside.index c.add.new.self c.len-place.result c.self.inside.spoiled true c.self.inside.numbers c.len-place.ensures c.add.ensures.others c.self.invariant)
 
 pub invariant_of-self-in_err-reserve-2 : goal.invariant_of-self-in_err-reserve-2
 invariant_of-self-in_err-reserve-2 c =
-    alike c.self.inside.rows c.reserve.new.self c.self.inside.living c.add.new.self true c.reserve.ensures.rows c.reserve.ensures.oldest
-    (prepared c.self.inside.rows c.self.inside.living c.self.inside.index c.add.new.self c.len-place.result c.self.inside.spoiled true c.len-place.ensures c.add.ensures.others c.self.invariant)
+    alike c.self.inside.rows c.reserve.new.self c.self.inside.living c.add.new.self true c.self.inside.numbers c.reserve.ensures.rows c.reserve.ensures.oldest
+    (prepared c.self.inside.rows c.self.inside.living c.self.inside.index c.add.new.self c.len-place.result c.self.inside.spoiled true c.self.inside.numbers c.len-place.ensures c.add.ensures.others c.self.invariant)
 
 pub invariant_of-self-in_default : goal.invariant_of-self-in_default
 invariant_of-self-in_default c =
     let now =
-    alike c.self.inside.rows c.reserve.new.self c.self.inside.living c.add.new.self true c.reserve.ensures.rows c.reserve.ensures.oldest
-    (prepared c.self.inside.rows c.self.inside.living c.self.inside.index c.add.new.self c.len-place.result c.self.inside.spoiled true c.len-place.ensures c.add.ensures.others c.self.invariant) in
-    (same_tables c.reserve.new.self.rows c.self.inside.living c.insert.new.self c.in_default.ensures.err now.0, now.1, now.2, now.3)
+    alike c.self.inside.rows c.reserve.new.self c.self.inside.living c.add.new.self true c.self.inside.numbers c.reserve.ensures.rows c.reserve.ensures.oldest
+    (prepared c.self.inside.rows c.self.inside.living c.self.inside.index c.add.new.self c.len-place.result c.self.inside.spoiled true c.self.inside.numbers c.len-place.ensures c.add.ensures.others c.self.invariant) in
+    (same_tables c.reserve.new.self.rows c.self.inside.living c.insert.new.self c.in_default.ensures.err now.0, now.1, now.2, now.3, now.4)
 
 pub invariant_of-self-in_default-replaced : goal.invariant_of-self-in_default-replaced
 invariant_of-self-in_default-replaced c =
@@ -50,12 +51,13 @@ invariant_of-self-in_default-replaced c =
     let writes : Updates string_eq c.self.inside.living c.insert.new.self c.in_ok-id.id (Some (length rows)) =
     subst (λ (n : ℕ). Updates string_eq c.self.inside.living c.insert.new.self c.in_ok-id.id (Some n)) counted c.in-Ok.ensures.updates in
     let places =
-    written c.self.inside.rows c.args.doc room c.len-place.result c.self.inside.living c.self.inside.index c.add.new.self c.self.inside.spoiled counted c.add.ensures.others
+    written c.self.inside.rows c.args.doc room c.len-place.result c.self.inside.index c.add.new.self c.self.inside.spoiled counted c.add.ensures.others
     c.in_ok-add.ensures.added c.add.ensures.kept
     c.self.invariant.2 c.self.invariant.3 in
     let tables = created rows c.self.inside.living c.insert.new.self c.args.doc c.in_ok-id.id c.self.invariant.0 named writes (omega arith) none in
-    alike (with_row c.self.inside.rows c.args.doc room) c.push.new.self c.insert.new.self c.add.new.self c.self.inside.spoiled (sym with_new) oldest
-    (tables, with_next c.self.inside.rows c.args.doc c.self.invariant.1, places.0, places.1)
+    let known = one_more_row c.self.inside.rows c.args.doc room c.len-place.result c.self.inside.numbers c.add-2.new.self counted c.add-2.ensures c.self.invariant.4 in
+    alike (with_row c.self.inside.rows c.args.doc room) c.push.new.self c.insert.new.self c.add.new.self c.self.inside.spoiled c.add-2.new.self (sym with_new) oldest
+    (tables, with_next c.self.inside.rows c.args.doc c.self.invariant.1, places.0, places.1, known)
 
 pub returns-in_default-replaced-clause-outcome : goal.returns-in_default-replaced-clause-outcome
 returns-in_default-replaced-clause-outcome c =
@@ -115,16 +117,18 @@ invariant_of-self-2 c =
     let writes : Updates string_eq c.self.inside.living c.insert.new.self c.in_ok-id.id (Some (length rows)) =
     subst (λ (n : ℕ). Updates string_eq c.self.inside.living c.insert.new.self c.in_ok-id.id (Some n)) counted c.in-Ok.ensures.updates in
     let places =
-    written c.self.inside.rows c.args.doc room c.len-place.result c.self.inside.living c.self.inside.index c.add.new.self c.self.inside.spoiled counted c.add.ensures.others
+    written c.self.inside.rows c.args.doc room c.len-place.result c.self.inside.index c.add.new.self c.self.inside.spoiled counted c.add.ensures.others
     c.in_ok-add.ensures.added c.add.ensures.kept
     c.self.invariant.2 c.self.invariant.3 in
     let low = c.self.invariant.1 in
-    let both = replaced s c.kill.new.self c.in-Some.replaced version living.0 c.add.new.self c.self.inside.spoiled there living.2 (omega arith) now oldest places.0 places.1 in
+    let known = one_more_row c.self.inside.rows c.args.doc room c.len-place.result c.self.inside.numbers c.add-2.new.self counted c.add-2.ensures c.self.invariant.4 in
+    let told = replaced s c.kill.new.self c.in-Some.replaced version living.0 c.add.new.self c.self.inside.spoiled c.add-2.new.self there living.2 (omega arith) now oldest places.0 places.1 known in
     let tables = updated rows c.self.inside.living c.insert.new.self c.args.doc c.in_ok-id.id c.self.invariant.0 named writes c.in-Some.replaced version living.0 found (omega arith) is_row (omega arith) in (
       subst (λ l. IsTables l c.insert.new.self) (sym now) tables,
       omega (arith, oldest, low, ap length now, length-set all c.in-Some.replaced dead, length_push rows (new_row c.args.doc)),
-      both.0,
-      both.1,
+      told.0,
+      told.1,
+      told.2,
     )
 
 pub returns-clause-outcome : goal.returns-clause-outcome
