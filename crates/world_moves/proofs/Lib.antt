@@ -101,7 +101,6 @@ pub mod SearchParts
 pub mod ShardsTold
 pub mod SliceLaws
 pub mod StepsAfter
-pub mod StillSound
 pub mod Tables
 pub mod TasksAfterLeave
 pub mod TasksNamed
