@@ -107,6 +107,5 @@ pub mod TasksNamed
 pub mod TurnTies
 pub mod TurnsAfter
 pub mod UnbornTasks
-pub mod Windows
 pub mod WriteOrNot
 pub mod WritesAfter
