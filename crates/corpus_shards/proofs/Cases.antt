@@ -1,14 +1,8 @@
 -- What follows where something is found, where a call succeeds, where it fails, and where two names are one or differ.
-use Rattle.std.proofs.Common.{◌≡◌, ℕ, ◌⊎◌, true, false, List, Option, Some, sym, subst, refl}
+use Rattle.std.proofs.Common.{◌≡◌, ℕ, ◌⊎◌, true, false, List, subst}
 use Rattle.std.specs.Str.{bytes_eq}
-use Rattle.std.specs.Prelude.{Result, Ok, Err, OnOk, OnErr, IsSome}
-
-pub some_of : {A : Type 0} (o : Option A) (a : A) → o ≡ Some a → IsSome o
-some_of o a e = subst (λ x. IsSome x) (sym e) refl
-
-pub then_ok : {T E : Type 0} (r : Result T E) (P Q : Type 0) → OnOk r P → (P → Q) → OnOk r Q
-then_ok (Ok x) P Q p f = f p
-then_ok (Err e) P Q p f = tt
+use Rattle.std.specs.Prelude.{Result, Ok, Err, OnOk, OnErr}
+pub use Rattle.shard_docs.proofs.Adding.{some_of, then_ok}
 
 pub both_ok : {T E : Type 0} (r : Result T E) (P Q R : Type 0) → OnOk r P → OnOk r Q → (P → Q → R) → OnOk r R
 both_ok (Ok x) P Q R p q f = f p q

@@ -1,32 +1,18 @@
 //! The contexts of scrolls: which a search opens at its good end, and which a page uses.
 
 ghost use Rattle.std.specs.Prelude.{◌≡◌, IfOk};
-ghost use Rattle.task_events.specs.Contexts.{opens_context, opened, cursor_in};
+ghost use Rattle.task_events.specs.Contexts.{opened, cursor_in};
 ghost use Rattle.task_events.specs.Counts.{AreCounts};
 ghost use Rattle.node_parts.specs.Opening.{opened_by, used_by, FitsContext};
 
 use crate::running::Running;
 use shared_value::Shared;
 use std::alloc::{AllocError, Global};
-use task_events::{Context, HitKey, Reply, SearchAsk, SearchReply, ShardCount, ShardCounts};
+use task_events::{
+    Context, HitKey, Reply, SearchAsk, SearchReply, ShardCount, ShardCounts, copy_key,
+};
 use task_ids::TaskId;
 use task_work::Work;
-
-/// Whether a search opens a context: where it has a keep-alive or an owner.
-fn opens_context(ask: &SearchAsk) -> bool
-    ensures { result ≡ opens_context ask.now }
-{
-    ask.scroll.is_some() || ask.owner.is_some()
-}
-
-fn copy_cursor(cursor: &Option<HitKey>) -> Result<Option<HitKey>, AllocError>
-    ensures { IfOk result (λ copy. copy ≡ cursor.now) }
-{
-    match cursor {
-        Some(key) => Ok(Some(key.copy()?)),
-        None => Ok(None),
-    }
-}
 
 /// What a context keeps of its shards.
 fn kept(alloc: Global, counts: &[ShardCount]) -> Result<ShardCounts, AllocError>
@@ -54,7 +40,7 @@ fn opened(
     let copy = ask.copy()?;
     let shared = Shared::new(alloc, copy)?;
     let shards = kept(alloc, reply.shards.as_slice())?;
-    let after = copy_cursor(&reply.last)?;
+    let after = copy_key(&reply.last)?;
     Ok(Context {
         id: task,
         ask: shared,
@@ -85,7 +71,7 @@ pub fn opened_by(
     let Reply::Search(reply) = reply else {
         return Ok(None);
     };
-    if !opens_context(root.ask()) {
+    if !root.ask().opens_context() {
         return Ok(None);
     }
     Ok(Some(opened(alloc, task, root.ask(), reply.get(), now)?))
@@ -106,7 +92,7 @@ pub fn cursor_of(reply: &Reply) -> Result<Option<HitKey>, AllocError>
     ensures { IfOk result (λ cursor. cursor ≡ cursor_in reply.now) }
 {
     match reply {
-        Reply::Search(reply) => copy_cursor(&reply.get().last),
+        Reply::Search(reply) => copy_key(&reply.get().last),
         _ => Ok(None),
     }
 }

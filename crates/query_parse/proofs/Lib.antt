@@ -4,3 +4,4 @@ pub mod Each
 pub mod Nodes
 pub mod Entries
 pub mod FaultsTold
+pub mod Windows

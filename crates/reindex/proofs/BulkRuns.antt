@@ -80,14 +80,14 @@ open_last k (ask ∷ asks) = or_right (ask == k) (is_open k (asks ++ k ∷ [])) 
 
 -- ---- an ask that is open stays so until it is answered
 
-open_before : (k j : ℕ) (asks : List ℕ) → is_open k asks ≡ true → is_open k (asks ++ j ∷ []) ≡ true
+pub open_before : (k j : ℕ) (asks : List ℕ) → is_open k asks ≡ true → is_open k (asks ++ j ∷ []) ≡ true
 open_before k j [] h = absurd cc
 open_before k j (ask ∷ asks) h = by_test (ask == k) (λ same. rw same refl) (λ other. let later : is_open k asks ≡ true = rw other at h in rw other (open_before k j asks later))
 
 pub bulk_takes_after_ask : (b : Bulking) (k j : ℕ) (reply : Reply) → bulk_takes b k reply ≡ true → bulk_takes (bulk_with_ask b j) k reply ≡ true
 bulk_takes_after_ask b k j reply takes = let parts = and_parts _ _ takes in and_from _ _ (open_before k j b.open_asks parts.0) parts.1
 
-open_beside : (k j : ℕ) (asks : List ℕ) → (k ≡ j → ⊥) → is_open k asks ≡ true → is_open k (without j asks) ≡ true
+pub open_beside : (k j : ℕ) (asks : List ℕ) → (k ≡ j → ⊥) → is_open k asks ≡ true → is_open k (without j asks) ≡ true
 open_beside k j [] apart h = absurd cc
 open_beside k j (ask ∷ asks) apart h =
     by_test (ask == j)

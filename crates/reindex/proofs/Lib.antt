@@ -9,5 +9,6 @@ pub mod RootRuns
 pub mod SliceFed
 pub mod SliceLemmas
 pub mod SliceRuns
+pub mod StillSound
 pub mod WriteLemmas
 pub mod WritingRuns

@@ -2,7 +2,6 @@
 
 ghost use Rattle.std.specs.Prelude.{◌≡◌, false};
 ghost use Rattle.std.specs.Option.{option_map_or};
-ghost use Rattle.task_events.specs.Contexts.{opens_context};
 ghost use Rattle.task_events.specs.SearchTask.{is_answer_for};
 ghost use Rattle.task_events.specs.ScrollTask.{is_page_for};
 ghost use Rattle.task_events.specs.Kinds.{can_have};
@@ -18,17 +17,10 @@ const MAX_HITS: usize = 10_000;
 /// So many rows match in all shards of an index at most, less one.
 const MAX_TOTAL: u64 = 68_719_476_736;
 
-/// Whether the search opens a context.
-fn opens_context(ask: &SearchAsk) -> bool
-    ensures { result ≡ opens_context ask.now }
-{
-    ask.scroll.is_some() || ask.owner.is_some()
-}
-
 fn is_answer_for(shards: u32, ask: &SearchAsk, reply: &SearchReply) -> bool
     ensures { result ≡ is_answer_for shards ask.now reply.now }
 {
-    let named = if opens_context(ask) {
+    let named = if ask.opens_context() {
         reply.context.is_some()
     } else {
         reply.context.is_none()

@@ -37,7 +37,8 @@ pub record AskFacts (h : List Event) : Type 0 where
 pub requested_live : (p : TaskId) (k : ℕ) (h : List Event) → AskFacts h → 0 < number_in_flight (is_request p k) h → is_live p h ≡ true
 requested_live p k h f i = grind (arith, requests_in_flight p k h, f.place p k, f.live_asker p k)
 
-requested_born : (p : TaskId) (k : ℕ) (h : List Event) → AskFacts h → 0 < number_in_flight (is_request p k) h → p.number ≤ last_number p.node h
+-- and so it exists
+pub requested_born : (p : TaskId) (k : ℕ) (h : List Event) → AskFacts h → 0 < number_in_flight (is_request p k) h → p.number ≤ last_number p.node h
 requested_born p k h f i = f.born p (requested_live p k h f i)
 
 -- the ask of a live child is unanswered

@@ -3,6 +3,7 @@ pub mod Bans
 pub mod Commands
 pub mod Content
 pub mod Counts
+pub mod Earlier
 pub mod Escapes
 pub mod Examples
 pub mod FirstSteps

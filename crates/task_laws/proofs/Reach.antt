@@ -20,7 +20,8 @@ use Rattle.task_laws.proofs.Same.{same_tests}
 use Rattle.task_laws.proofs.Counts.{is_child_of}
 use Rattle.task_laws.proofs.Asks.{AskFacts, ask_facts, child_unanswered}
 
-abbrev is_to : ℕ → ℕ → Pending → Bool
+-- an ask of this number to this node
+abbrev pub is_to : ℕ → ℕ → Pending → Bool
 is_to k n a = (a.ask == k) && (a.node == n)
 
 -- without the ask j the list has what it had of the other asks
@@ -35,7 +36,7 @@ pending_to p k n (Ask q j m w ∷ h) u e = let rest = pending_to p k n h in grin
 pending_to p k n (Answered q j ∷ h) u e = let rest = pending_to p k n h in grind (arith, same_tests, rest, others k n j)
 pending_to p k n (_ ∷ h) u e = pending_to p k n h u e
 
-any_at : (k n : ℕ) (xs : List Pending) → list_any (is_to k n) xs ≡ true → list_any (λ a. a.node == n) xs ≡ true
+pub any_at : (k n : ℕ) (xs : List Pending) → list_any (is_to k n) xs ≡ true → list_any (λ a. a.node == n) xs ≡ true
 any_at k n [] e = e
 any_at k n (a ∷ xs) e = let rest = any_at k n xs in grind (arith, rest)
 

@@ -1,8 +1,7 @@
 -- What stands in a whole run for the line of each kind of command.
-use Rattle.std.proofs.Common.{◌≡◌, ◌⊎◌, ◌<◌, ◌≤◌, ℕ, zero, suc, Bool, true, false, List, [], ◌∷◌, ◌++◌, map, reverse, length, Option, Some, None, Result, Ok, Err, inl, inr, refl, sym, ap, subst, ◌∙◌, arith}
+use Rattle.std.proofs.Common.{◌≡◌, ◌⊎◌, ◌≤◌, ℕ, zero, suc, Bool, true, false, List, [], ◌∷◌, ◌++◌, length, Option, Some, None, Result, Ok, Err, inl, inr, refl, sym, ap, subst, ◌∙◌, arith}
 use Rattle.std.specs.Prelude.{is_ok, is_some, option_and_then, option_map}
 use Rattle.std.specs.Result.{result_ok}
-use Rattle.std.proofs.lemmas.List.{length-append}
 use Rattle.std.proofs.lemmas.Option.{slice_get_within}
 use Rattle.serde_json.specs.Data.{Data}
 use Rattle.query_match.specs.declared.body.SearchBody.{SearchBody}
@@ -17,15 +16,11 @@ use Rattle.task_ids.specs.declared.corpus.Corpus.{Corpus}
 use Rattle.task_ids.specs.declared.task_id.TaskId.{TaskId}
 use Rattle.task_ids.specs.declared.text.Text.{Text}
 use Rattle.task_events.specs.declared.event.Event.{Event}
-use Rattle.task_events.specs.declared.event.Event.TheVariants.{Begin, Root, RootRejected, Refuse, Acked, Work, End, Tick}
+use Rattle.task_events.specs.declared.event.Event.TheVariants.{Begin, Root, RootRejected, Tick}
 use Rattle.task_events.specs.declared.reply.Reply.{Reply}
 use Rattle.task_events.specs.declared.request.ReindexAsk.{ReindexAsk}
 use Rattle.task_events.specs.declared.request.Request.{Request}
 use Rattle.task_events.specs.declared.request.Request.TheVariants as asks
-use Rattle.task_events.specs.declared.request.WriteNote.{WriteNote}
-use Rattle.task_events.specs.Requests.{request_of}
-use Rattle.task_events.specs.Steps.{turns_of}
-use Rattle.task_events.specs.Written.{corpus_at, turn_notes, with_notes, write_of}
 use Rattle.task_events.specs.Lawful.{Lawful}
 use Rattle.task_events.specs.Laws.{IsDrained}
 use Rattle.task_events.specs.Messages.{in_flight}
@@ -34,19 +29,20 @@ use Rattle.task_events.specs.Turns.{events_of, history_before}
 use Rattle.command_roots.proofs.AskLemmas.{ask_there}
 use Rattle.command_roots.proofs.BatchLemmas.{batch_read}
 use Rattle.world_steps.proofs.Commanded.{asks_page, can_do}
+use Rattle.world_steps.proofs.Passing.{due_longer, step_longer}
 use Rattle.script_lang.specs.declared.command.ContextTarget.{ContextTarget}
 use Rattle.script_lang.specs.declared.command.Command.{Command}
 use Rattle.script_lang.specs.declared.command.Command.TheVariants as commands
 use Rattle.script_lang.specs.declared.command.Script.{Script}
 use Rattle.script_lang.specs.Fits.{IsRate, IsSliceCount}
-use Rattle.world_moves.specs.Cancels.{AllAnswered, answer_to, due_for, with_answers, with_due}
+use Rattle.world_moves.specs.Cancels.{AllAnswered, with_due}
 use Rattle.node_parts.specs.declared.listing.Listing.{Listing}
 use Rattle.world_moves.specs.Listings.{is_open}
 use Rattle.world_moves.specs.Moves.{IsStart}
 use Rattle.world_moves.specs.Plain.{AnswersPlainly}
 use Rattle.command_roots.specs.Known.{is_known}
 use Rattle.command_roots.specs.Reindexes.{reindex_ask}
-use Rattle.command_roots.specs.Roots.{command_at, context_named, least_size, page_at, request_in, root_request, search_ask, scripted}
+use Rattle.command_roots.specs.Roots.{command_at, context_named, least_size, page_at, request_in, root_request, search_ask}
 use Rattle.world_steps.specs.declared.acting.Stepped.{Stepped}
 use Rattle.world_steps.specs.declared.acting.Stepped.TheVariants.{Done, Waiting, NotRunning}
 use Rattle.world_steps.specs.Runs.{after_step, AnswersStep}
@@ -57,27 +53,6 @@ use Rattle.task_top.proofs.CancelLines.{cancel_told}
 use Rattle.task_top.proofs.PagesBegun.{node_before, page_before}
 use Rattle.task_top.proofs.RootEnds.{IsReplyOf, has_replied, replies_so}
 use Rattle.task_top.proofs.TurnEvents.{HasDone, told_as, some_told, done_in_whole}
-
--- ---- one event more, with the answers that come due with it
-
-answers_longer : (t : TaskId) (h : List Event) → length h ≤ length (with_answers t h)
-answers_longer t h = omega (arith, length-append (reverse (map (answer_to h) (due_for t h))) h)
-
-due_longer : (e : Event) (h : List Event) → length h < length (with_due e h)
-due_longer (Refuse t c) h = omega (arith, answers_longer t (Refuse t c ∷ h))
-due_longer (End t reply) h = omega (arith, answers_longer t (End t reply ∷ h))
-due_longer (Acked p n) h = omega (arith, answers_longer p (Acked p n ∷ h))
-due_longer e h = omega arith
-
-noted_longer : (notes : List WriteNote) (h : List Event) → length h ≤ length (with_notes notes h)
-noted_longer [] h = omega arith
-noted_longer (note ∷ notes) h = let more = noted_longer notes (write_of note ∷ h) in omega (arith, more)
-
-step_longer : (cluster : Cluster) (corpus : Corpus) (script : Script) (e : Event) (h : List Event) → length h < length (after_step cluster corpus script e h)
-step_longer cluster corpus script (Work t) h =
-    let more = noted_longer (option_map_or (λ request. turn_notes cluster (corpus_at corpus (scripted script) h) request (turns_of t h)) (request_of (scripted script) t h) []) (Work t ∷ h) in
-    omega (arith, more)
-step_longer cluster corpus script e h = due_longer e h
 
 -- ---- roots
 

@@ -101,13 +101,11 @@ pub mod SearchParts
 pub mod ShardsTold
 pub mod SliceLaws
 pub mod StepsAfter
-pub mod StillSound
 pub mod Tables
 pub mod TasksAfterLeave
 pub mod TasksNamed
 pub mod TurnTies
 pub mod TurnsAfter
 pub mod UnbornTasks
-pub mod Windows
 pub mod WriteOrNot
 pub mod WritesAfter

@@ -1,6 +1,6 @@
 -- The nodes of a track's unanswered asks are those that the past says.
 use Rattle.std.proofs.Common.{◌≡◌, ◌≢◌, ◌⊎◌, ◌<◌, ℕ, zero, suc, ◌+◌, ◌-◌, Bool, true, false, cond, not, List, [], ◌∷◌, ◌++◌, length, get_or, Option, Some, None, refl, sym, ap, ◌∙◌, inl, inr, arith, add-one}
-use Rattle.std.specs.Prelude.{◌==◌, ◌||◌, ◌&&◌, slice_set, filter, nat_lt}
+use Rattle.std.specs.Prelude.{◌==◌, ◌||◌, slice_set, filter, nat_lt}
 use Rattle.std.specs.List.{list_any}
 use Rattle.std.proofs.lemmas.Bool.{eq-eqb, ne_eqb, cases_eq}
 use Rattle.std.proofs.lemmas.Bool.Decides.{nat_tests}
@@ -19,13 +19,10 @@ use Rattle.task_events.specs.Lawful.{Lawful}
 use Rattle.task_laws.proofs.Asks.{ask_facts}
 use Rattle.task_laws.proofs.Numbers.{number, number_is}
 use Rattle.task_laws.proofs.Pending.{is_pending}
+use Rattle.task_laws.proofs.Reach.{any_at, is_to}
 use Rattle.task_laws.proofs.Same.{same_task_tells}
 use Rattle.world_moves.specs.Facts.{awaited_by}
 use Rattle.world_moves.proofs.AsksCounted.{awaited_counted, answered_number, get_or-grown_other, get_or-set_none}
-
--- an ask of this number to this node
-abbrev is_to : ℕ → ℕ → Pending → Bool
-is_to k n a = (a.ask == k) && (a.node == n)
 
 -- ---- an unanswered ask stands at its place with its node
 
@@ -104,10 +101,6 @@ any_place n k [] e = absurd (cc)
 any_place n zero (x ∷ xs) e = rw e refl
 any_place n (suc k) (x ∷ xs) e = let rest = any_place n k xs e in grind (arith, rest)
 
-any_node : (k n : ℕ) (ps : List Pending) → list_any (is_to k n) ps ≡ true → list_any (λ a. a.node == n) ps ≡ true
-any_node k n [] e = e
-any_node k n (a ∷ ps) e = let rest = any_node k n ps in grind (arith, rest)
-
 -- an ask of this number, to this node
 abbrev HasAsk : ℕ → List Pending → Type 0
 HasAsk n ps = (k : ℕ) × (list_any (is_to k n) ps ≡ true) × (list_any (λ a. a.ask == k) ps ≡ true)
@@ -131,7 +124,7 @@ counts_any test (x ∷ xs) = let rest = counts_any test xs in grind (arith, nat_
 
 module _ (cluster : Cluster) (t : TaskId) (h : List Event) (l : Lawful cluster h) where
   in_list : (n : ℕ) → list_any (is_at n) (awaited_by t h) ≡ true → list_any (λ a. a.node == n) (unanswered t h) ≡ true
-  in_list n e = let at = at_some_place n (awaited_by t h) e in any_node (at.0 + 1) n (unanswered t h) (agree t n at.0 cluster h l ∙ at.1)
+  in_list n e = let at = at_some_place n (awaited_by t h) e in any_at (at.0 + 1) n (unanswered t h) (agree t n at.0 cluster h l ∙ at.1)
 
   of_list : (n : ℕ) → list_any (λ a. a.node == n) (unanswered t h) ≡ true → list_any (is_at n) (awaited_by t h) ≡ true
   of_list n e = let found = some_ask n (unanswered t h) e in numbered found.0 found.1 found.2

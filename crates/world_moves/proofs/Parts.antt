@@ -8,16 +8,13 @@ use Rattle.task_events.specs.declared.event.Event.TheVariants.{Root, Ask, Pass, 
 use Rattle.task_events.specs.declared.reply.Counts.{Counts}
 use Rattle.task_events.specs.Lawful.{Lawful}
 use Rattle.task_events.specs.Requests.{Scripted}
+use Rattle.task_laws.proofs.Earlier.{earlier_lawful}
 use Rattle.script_lang.specs.declared.command.Script.{Script}
 use Rattle.world_moves.specs.Moves.{IsPartOf, MayLeave}
 use Rattle.world_moves.specs.Owning.{OneAtATime}
 use Rattle.world_moves.specs.Plain.{AnswersPlainly}
 
--- what was lawful at a later moment was so before
-earlier_lawful : (cluster : Cluster) (later h : List Event) → Lawful cluster (later ++ h) → Lawful cluster h
-earlier_lawful cluster [] h l = l
-earlier_lawful cluster (e ∷ later) h l = earlier_lawful cluster later h l.1
-
+-- what was so at a later moment was so before
 earlier_plain : (cluster : Cluster) (corpus : Corpus) (script : Script) (later h : List Event) → AnswersPlainly cluster corpus script (later ++ h) → AnswersPlainly cluster corpus script h
 earlier_plain cluster corpus script [] h p = p
 earlier_plain cluster corpus script (End t reply ∷ later) h p = earlier_plain cluster corpus script later h p.1

@@ -41,7 +41,7 @@ use Rattle.world_moves.proofs.LookingLaws.{no_docs}
 use Rattle.world_moves.proofs.NoneAwaited.{all_answered}
 use Rattle.world_moves.proofs.SearchLaws.{all_known, ends_or_asks, no_turn, search_ends}
 use Rattle.world_moves.proofs.SliceLaws as slices
-use Rattle.world_moves.proofs.StillSound.{new_sound, cut_new_sound, cut_asked_sound, cut_takes_after_ask, cut_takes_after_answer}
+use Rattle.reindex.proofs.StillSound.{new_sound, cut_new_sound, cut_asked_sound, cut_takes_after_ask, cut_takes_after_answer}
 
 -- ---- how they start
 

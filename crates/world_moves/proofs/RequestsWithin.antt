@@ -26,7 +26,7 @@ use Rattle.world_moves.specs.declared.flight.Sent.{Sent}
 use Rattle.world_moves.specs.Good.{IsWithin, so_far}
 use Rattle.world_moves.specs.Ties.{Ties}
 use Rattle.world_moves.proofs.Children.{child_request}
-use Rattle.world_moves.proofs.Windows.{size_low}
+use Rattle.query_parse.proofs.Windows.{size_low}
 
 module _ (cluster : Cluster) (corpus : Corpus) where
   searches : (index : List ℕ) (scroll : Option ℕ) (read : Result SearchBody BodyError) (q : Request) → ((body : SearchBody) → read ≡ Ok body → body.size ≤ 10000)

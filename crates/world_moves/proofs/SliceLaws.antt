@@ -43,7 +43,7 @@ use Rattle.world_moves.proofs.AsksKept.{awaited_long, knows_more, knows_answer}
 use Rattle.world_moves.proofs.KindLaws.{AsksOwn, HasOpened}
 use Rattle.world_moves.proofs.NoneAwaited.{all_answered}
 use Rattle.world_moves.proofs.SearchLaws.{all_known}
-use Rattle.world_moves.proofs.StillSound.{asked_sound}
+use Rattle.reindex.proofs.StillSound.{asked_sound}
 
 -- ---- what it does next, by how far it has come
 

@@ -1,16 +1,14 @@
 -- The search that opens a context passes over no rows and shows some: with a keep-alive `from` is 0, and `size` is not.
 use Rattle.std.proofs.Common.{cond, ◌≡◌, ◌≢◌, ◌⊎◌, inl, inr, ℕ, Bool, true, false, List, [], ◌∷◌, Option, Some, None, refl, sym, ap, subst, ◌∙◌}
-use Rattle.std.specs.Prelude.{◌||◌, ◌+◌, ◌==◌, nat_le, not, is_some, option_map, option_and_then, Result, Ok, Err, codes}
+use Rattle.std.specs.Prelude.{◌||◌, ◌==◌, nat_le, not, is_some, option_map, option_and_then, Result, Ok, Err, codes}
 use Rattle.std.specs.Option.{option_or}
 use Rattle.std.proofs.lemmas.Bool.{eqb-true}
-use Rattle.serde_json.specs.Data.{Data, null, boolean, number, string, array, object, Members}
+use Rattle.serde_json.specs.Data.{Data}
 use Rattle.serde_json.specs.Find.{get_member}
 use Rattle.query_match.specs.declared.body.SearchBody.{SearchBody}
-use Rattle.query_match.specs.declared.sort.SortBy.{SortBy}
 use Rattle.query_parse.specs.declared.fault.BodyError.{BodyError}
-use Rattle.query_parse.specs.declared.fault.BodyError.TheVariants.{WindowTooLarge}
-use Rattle.query_parse.specs.Answers.{◌>>=◌}
-use Rattle.query_parse.specs.Bodies.{size_passing, count_or, from_of, size_of, sort_of, query_of, window_at, hits_at, body_of, known_body_at, body_unless, unknown_field, body_at}
+use Rattle.query_parse.specs.Bodies.{size_passing, count_or, from_of, size_of, body_at}
+use Rattle.query_parse.proofs.Windows.{body_so}
 use Rattle.task_ids.specs.declared.task_id.TaskId.{TaskId}
 use Rattle.task_events.specs.declared.context.Context.{Context}
 use Rattle.task_events.specs.declared.event.Event.{Event}
@@ -37,10 +35,6 @@ use Rattle.world_steps.specs.PagesFollow.{first_context}
 
 -- ---- a body
 
-bound : {A B E : Type 0} (r : Result A E) (f : A → Result B E) (b : B) → (r >>= f) ≡ Ok b → (a : A) × (r ≡ Ok a) × (f a ≡ Ok b)
-bound (Ok a) f b e = (a, refl, e)
-bound (Err x) f b e = absurd (cc)
-
 passes : (name : List ℕ) (o : Option ℕ) (n : ℕ) → size_passing name (λ n. not true || n == 0) o ≡ Ok n → n ≡ 0
 passes name None n e = absurd (cc)
 passes name (Some m) n e =
@@ -64,47 +58,12 @@ unfolding size_of
 size_low least d n e = at_least least (codes "size") (count_or 10 d) n e
 
 -- from the first row on, and so many at least
-abbrev AtLeast : ℕ → ℕ × ℕ → Type 0
-AtLeast least w = (w.0 ≡ 0) × (nat_le least w.1 ≡ true)
+abbrev AtLeast : ℕ → ℕ → ℕ → Type 0
+AtLeast least from size = (from ≡ 0) × (nat_le least size ≡ true)
 
-window_shown : (least : ℕ) (ms : Members) (w : ℕ × ℕ) → window_at true least ms ≡ Ok w → AtLeast least w
-unfolding window_at
-window_shown least ms w e =
-    let first = bound (from_of true (get_member (codes "from") ms)) _ w e in
-    let second = bound (size_of least (get_member (codes "size") ms)) _ w first.2 in
-    of_test (nat_le (first.0 + second.0) 10000) first.0 second.0 (from_none (get_member (codes "from") ms) first.0 first.1) (size_low least (get_member (codes "size") ms) second.0 second.1) second.2
-  where
-    of_test : (b : Bool) (from size : ℕ) → from ≡ 0 → nat_le least size ≡ true → cond b (Ok (from, size)) (Err (WindowTooLarge (from + size))) ≡ Ok w → AtLeast least w
-    of_test true from size none low f = let same : (from, size) ≡ w = cc in subst (AtLeast least) same (none, low)
-    of_test false from size none low f = absurd (cc)
-
-hits_shown : (least : ℕ) (ms : Members) (hits : List SortBy × (ℕ × ℕ)) → hits_at true least ms ≡ Ok hits → AtLeast least hits.1
-unfolding hits_at
-hits_shown least ms hits e =
-    let first = bound (sort_of (get_member (codes "sort") ms)) _ hits e in
-    let second = bound (window_at true least ms) _ hits first.2 in
-    let same : (first.0, second.0) ≡ hits = cc in
-    subst (λ (x : List SortBy × (ℕ × ℕ)). AtLeast least x.1) same (window_shown least ms second.0 second.1)
-
-known_shown : (least : ℕ) (ms : Members) (body : SearchBody) → known_body_at true least ms ≡ Ok body → AtLeast least (body.from, body.size)
-unfolding known_body_at
-known_shown least ms body e =
-    let first = bound (query_of (get_member (codes "query") ms)) _ body e in
-    let second = bound (hits_at true least ms) _ body first.2 in
-    let same : body_of first.0 second.0 ≡ body = cc in
-    subst (λ (b : SearchBody). AtLeast least (b.from, b.size)) same (hits_shown least ms second.0 second.1)
-
-body_shown : (least : ℕ) (d : Data) (body : SearchBody) → body_at true least d ≡ Ok body → AtLeast least (body.from, body.size)
-body_shown least (object ms) body e = of_field (unknown_field ms) e
-  where
-    of_field : (o : Option (List ℕ)) → body_unless o (known_body_at true least ms) ≡ Ok body → AtLeast least (body.from, body.size)
-    of_field None f = known_shown least ms body f
-    of_field (Some field) f = absurd (cc)
-body_shown least null body e = absurd (cc)
-body_shown least (boolean b) body e = absurd (cc)
-body_shown least (number n) body e = absurd (cc)
-body_shown least (string s) body e = absurd (cc)
-body_shown least (array ds) body e = absurd (cc)
+body_shown : (least : ℕ) (d : Data) (body : SearchBody) → body_at true least d ≡ Ok body → AtLeast least body.from body.size
+body_shown least d body e =
+    body_so true least (AtLeast least) (λ ms from size from_is size_is low. (from_none (get_member (codes "from") ms) from from_is, size_low least (get_member (codes "size") ms) size size_is)) d body e
 
 -- ---- a command
 
@@ -113,7 +72,7 @@ pub record ShowsFromFirst (ask : SearchAsk) : Type 0 where
   pub from : ask.body.from ≡ 0
   pub size : nat_le 1 ask.body.size ≡ true
 
-search_shown : (index : List ℕ) (scroll : Option ℕ) (r : Result SearchBody BodyError) (ask : SearchAsk) → ((body : SearchBody) → r ≡ Ok body → is_some scroll ≡ true → AtLeast 1 (body.from, body.size))
+search_shown : (index : List ℕ) (scroll : Option ℕ) (r : Result SearchBody BodyError) (ask : SearchAsk) → ((body : SearchBody) → r ≡ Ok body → is_some scroll ≡ true → AtLeast 1 body.from body.size)
     → option_map asks.Search (option_map (search_ask index scroll) (body_or_none r)) ≡ Some (asks.Search ask) → opens_context ask ≡ true → ShowsFromFirst ask
 search_shown index scroll (Err fault) ask shown e opens = absurd (cc)
 search_shown index scroll (Ok body) ask shown e opens =
@@ -137,7 +96,7 @@ reindex_asks_none (Some copy) ask e = cc
 command_shown : (command : Command) (h : List Event) (ask : SearchAsk) → request_in command h ≡ Some (asks.Search ask) → opens_context ask ≡ true → ShowsFromFirst ask
 command_shown (Search index node scroll body opaque_id) h ask e opens = search_shown index scroll (body_at (is_some scroll) (least_size scroll) body) ask of_body e opens
   where
-    of_body : (b : SearchBody) → body_at (is_some scroll) (least_size scroll) body ≡ Ok b → is_some scroll ≡ true → AtLeast 1 (b.from, b.size)
+    of_body : (b : SearchBody) → body_at (is_some scroll) (least_size scroll) body ≡ Ok b → is_some scroll ≡ true → AtLeast 1 b.from b.size
     of_body b read kept =
         body_shown 1 body b (ap (λ k. body_at k (cond k 1 0) body) (sym kept) ∙ read)
 command_shown (Scroll context keep opaque_id) h ask e opens = absurd (scroll_asks_none (context_named context h) keep ask e)

@@ -17,7 +17,6 @@ pub mod FromFirst
 pub mod HadBefore
 pub mod JoinsAfter
 pub mod KeysApart
-pub mod Lent
 pub mod ListedHits
 pub mod ListingKeys
 pub mod NamedAfter

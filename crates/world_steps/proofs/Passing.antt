@@ -44,11 +44,11 @@ module _ (cluster : Cluster) (corpus : Corpus) (script : Script) where
       (λ lacks. (between, subst (λ x. Passes cluster corpus script h between x) (sym lacks.1) passes, subst (λ x. DeliveryLacksNumber cluster x 0) (sym lacks.1) lacks.0))
 
 -- an event makes the past longer, with the answers that come due
-longer : (e : Event) (h : List Event) → length h < length (with_due e h)
-longer (Refuse t c) h = omega (arith, length-append (reverse (map (answer_to (Refuse t c ∷ h)) (due_for t (Refuse t c ∷ h)))) (Refuse t c ∷ h))
-longer (End t reply) h = omega (arith, length-append (reverse (map (answer_to (End t reply ∷ h)) (due_for t (End t reply ∷ h)))) (End t reply ∷ h))
-longer (Acked p n) h = omega (arith, length-append (reverse (map (answer_to (Acked p n ∷ h)) (due_for p (Acked p n ∷ h)))) (Acked p n ∷ h))
-longer e h = omega arith
+pub due_longer : (e : Event) (h : List Event) → length h < length (with_due e h)
+due_longer (Refuse t c) h = omega (arith, length-append (reverse (map (answer_to (Refuse t c ∷ h)) (due_for t (Refuse t c ∷ h)))) (Refuse t c ∷ h))
+due_longer (End t reply) h = omega (arith, length-append (reverse (map (answer_to (End t reply ∷ h)) (due_for t (End t reply ∷ h)))) (End t reply ∷ h))
+due_longer (Acked p n) h = omega (arith, length-append (reverse (map (answer_to (Acked p n ∷ h)) (due_for p (Acked p n ∷ h)))) (Acked p n ∷ h))
+due_longer e h = omega arith
 
 -- and so do the writes of a turn
 noted_longer : (notes : List WriteNote) (h : List Event) → length h ≤ length (with_notes notes h)
@@ -56,14 +56,14 @@ noted_longer [] h = omega arith
 noted_longer (note ∷ notes) h = let more = noted_longer notes (write_of note ∷ h) in omega (arith, more)
 
 module _ (cluster : Cluster) (corpus : Corpus) (script : Script) where
-  step_longer : (e : Event) (h : List Event) → length h < length (after_step cluster corpus script e h)
+  pub step_longer : (e : Event) (h : List Event) → length h < length (after_step cluster corpus script e h)
   step_longer (Work t) h =
       let more = noted_longer (option_map_or (λ request. turn_notes cluster (corpus_at corpus (scripted script) h) request (turns_of t h)) (request_of (scripted script) t h) []) (Work t ∷ h) in
       omega (arith, more)
-  step_longer e h = longer e h
+  step_longer e h = due_longer e h
 
   pub move_longer : (h new : List Event) → FirstMoves cluster corpus script h new → length h < length new
-  move_longer h new (inl (m, e, at, is, same)) = rw same (longer e h)
+  move_longer h new (inl (m, e, at, is, same)) = rw same (due_longer e h)
   move_longer h new (inr (inl (none, (l, first, (e, opened, is, same))))) = rw same (omega arith)
   move_longer h new (inr (inr (none, closed, (t, first, (e, live, next, same))))) = rw same (step_longer e h)
 

@@ -1,5 +1,5 @@
 -- What contracts see of a world, and what its tables keep.
-use Rattle.std.specs.Prelude.{◌≡◌, ℕ, Bool, false, ◌&&◌, ◌||◌, nat_le, List, Option, Some, None, is_some, map, length, take, drop, ◌≤◌, ◌+◌, ◌-◌, if◌then◌else◌}
+use Rattle.std.specs.Prelude.{◌≡◌, ℕ, Bool, false, ◌&&◌, ◌||◌, List, Option, Some, None, is_some, map, length, take, drop, ◌≤◌, ◌+◌, ◌-◌, if◌then◌else◌}
 use Rattle.std.specs.List.{list_any, range_with_len}
 use Rattle.std.specs.BTreeSet.{contains}
 use Rattle.std.specs.FinMap.{FinMap, empty}
@@ -19,6 +19,7 @@ use Rattle.task_table.specs.Table.{Table, new_table}
 use Rattle.task_work.specs.Works as works
 use Rattle.task_work.specs.Works.{due_in}
 use Rattle.node_parts.specs.declared.running.Running.{Running}
+pub use Rattle.scroll_table.specs.Moments.{is_due as has_come}
 use Rattle.world_moves.specs.declared.state.State.{State}
 use Rattle.world_moves.specs.Facts.{is_about}
 use Rattle.world_steps.specs.declared.ready.Ready.{Ready}
@@ -74,11 +75,6 @@ pub record HasNoted (s : State) (before : ℕ) (ready : Ready) : Type 0 where
   pub tasks : (t : TaskId) → contains task_id_cmp ready.tasks t ≡ (if was_met before s.history t then ready_in s t else is_ready s.cluster s.corpus.now s.script.now (past_of before s.history) t)
   pub kept : AreAlarms ready.alarms
   pub alarms : (t : TaskId) → alarm_at ready.alarms t ≡ (if was_met before s.history t then alarm_in s t else due_of s.cluster s.corpus.now s.script.now t (past_of before s.history))
-
--- the moment has come
-abbrev pub has_come : ℕ → Option ℕ → Bool
-has_come now None = false
-has_come now (Some moment) = nat_le moment now
 
 -- It is known which tasks wait, but for those whose moment has come: they wait for none any more.
 pub record HasAlarmed (s : State) (ready : Ready) : Type 0 where

@@ -7,16 +7,11 @@ use Rattle.task_events.specs.declared.event.Event.{Event}
 use Rattle.task_events.specs.declared.event.Event.TheVariants.{Root, Put}
 use Rattle.task_events.specs.Allowed.{Allowed}
 use Rattle.task_events.specs.Lawful.{Lawful}
-use Rattle.task_events.specs.Messages.{is_request, number_in_flight}
 use Rattle.task_events.specs.Same.{same_task}
 use Rattle.task_events.specs.Tasks.{ancestors, last_number}
-use Rattle.task_laws.proofs.Asks.{AskFacts, ask_facts, requested_live}
+use Rattle.task_laws.proofs.Asks.{AskFacts, ask_facts, requested_born}
 use Rattle.task_laws.proofs.Numbers.{number}
 use Rattle.task_laws.proofs.Same.{same_tests}
-
--- the task whose request is in flight exists
-requested_born : (p : TaskId) (k : ℕ) (h : List Event) → AskFacts h → 0 < number_in_flight (is_request p k) h → p.number ≤ last_number p.node h
-requested_born p k h f i = f.born p (requested_live p k h f i)
 
 -- how often t is among w and its ancestors
 abbrev pub times_above : TaskId → TaskId → List Event → ℕ

@@ -1,5 +1,5 @@
 -- What a task has written once it has ended is what it and its descendants had written by its end.
-use Rattle.std.proofs.Common.{◌≡◌, ◌≢◌, ◌⊎◌, inl, inr, ℕ, Bool, true, false, List, [], ◌∷◌, Some, refl, sym, subst, ◌∙◌, arith}
+use Rattle.std.proofs.Common.{◌≡◌, ◌≢◌, ◌⊎◌, inl, inr, ℕ, Bool, true, false, List, [], ◌∷◌, Some, refl, sym, subst, ◌∙◌}
 use Rattle.std.specs.Option.{option_map_or}
 use Rattle.task_ids.specs.declared.cluster.Cluster.{Cluster}
 use Rattle.task_ids.specs.declared.corpus.Corpus.{Corpus}
@@ -16,29 +16,15 @@ use Rattle.task_events.specs.Requests.{Scripted, request_of}
 use Rattle.task_events.specs.Same.{same_task}
 use Rattle.task_events.specs.Tasks.{has_ended, no_counts, reply_of}
 use Rattle.task_events.specs.Written.{next_doc}
-use Rattle.task_laws.proofs.Asks.{ask_facts}
 use Rattle.task_laws.proofs.Content.{answer_facts}
-use Rattle.task_laws.proofs.Same.{same_task_tells, same_tests}
+use Rattle.task_laws.proofs.Same.{same_task_tells}
 use Rattle.write_laws.specs.Copied.{HasWritten}
 use Rattle.write_laws.specs.KindsAsked.{KeepsToKinds}
 use Rattle.write_laws.specs.TreeWrites.{tree_number}
-use Rattle.write_laws.proofs.Quiet.{ended_quiet}
+use Rattle.write_laws.proofs.Quiet.{ended_quiet, put_apart, root_apart}
 use Rattle.write_laws.proofs.WholeTurns.{AllPlanned}
 
 module _ (cluster : Cluster) (corpus : Corpus) (said : Scripted) where
-  -- a task that has replied existed, so a task that starts now is another
-  root_apart : (c : ℕ) (u : TaskId) (h : List Event) → Lawful cluster (Root c u ∷ h) → (t : TaskId) (reply : Reply) → reply_of t h ≡ Some reply → same_task t u ≡ false
-  root_apart c u h l t reply e =
-      let ended = (answer_facts cluster h l.1).reply_ended t reply e in
-      let unborn = (ask_facts cluster h l.1).unborn_ended t in
-      grind (arith, same_tests, ended, unborn, l.0.takes.next)
-
-  put_apart : (u q : TaskId) (j : ℕ) (h : List Event) → Lawful cluster (Put u q j ∷ h) → (t : TaskId) (reply : Reply) → reply_of t h ≡ Some reply → same_task t u ≡ false
-  put_apart u q j h l t reply e =
-      let ended = (answer_facts cluster h l.1).reply_ended t reply e in
-      let unborn = (ask_facts cluster h l.1).unborn_ended t in
-      grind (arith, same_tests, ended, unborn, l.0.takes.next)
-
   -- nothing is added
   none_added : (e : Event) (h : List Event) (t : TaskId) (docs : List Doc) → ((passes : Outcome → List Event → Bool) → tree_number passes t (e ∷ h) ≡ tree_number passes t h) → HasWritten said t h docs → HasWritten said t (e ∷ h) docs
   none_added e h t docs same w = record {
@@ -67,10 +53,10 @@ module _ (cluster : Cluster) (corpus : Corpus) (said : Scripted) where
     pub ended_says : (h : List Event) → Lawful cluster h → KeepsToKinds said h → AllPlanned cluster corpus said h → (t : TaskId) (reply : Reply) → Fits reply → Said t reply h
     ended_says [] l keeps p t reply fits e asked = absurd (cc)
     ended_says (Root c u ∷ h) l keeps p t reply fits e asked =
-        let apart = root_apart c u h l t reply e in
+        let apart = root_apart cluster c u h l t reply e in
         stays (Root c u) h t l (ended h l.1 t reply e) (ended_says h l.1 keeps.1 p.1 t reply fits e (rw apart at asked))
     ended_says (Put u q j ∷ h) l keeps p t reply fits e asked =
-        let apart = put_apart u q j h l t reply e in
+        let apart = put_apart cluster u q j h l t reply e in
         stays (Put u q j) h t l (ended h l.1 t reply e) (ended_says h l.1 keeps.1 p.1 t reply fits e (rw apart at asked))
     ended_says (Write index shard outcome id ∷ h) l keeps p t reply fits e asked = stays (Write index shard outcome id) h t l (ended h l.1 t reply e) (ended_says h l.1 keeps.1 p.1 t reply fits e asked)
     ended_says (Refuse u c ∷ h) l keeps p t reply fits e asked = by_task (same_task t u) refl (ended_says h l.1 keeps.1 p.1 t reply fits)

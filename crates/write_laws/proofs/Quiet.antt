@@ -1,18 +1,20 @@
--- A task that has not passed has written nothing, nor has its tree; and the tree of a task that has ended writes nothing more.
-use Rattle.std.proofs.Common.{◌≡◌, ◌<◌, Bool, true, false, List, [], ◌∷◌, Option, Some, None, refl, sym, ap, ◌∙◌, arith}
+-- A task that has not passed has written nothing, nor has its tree; and the tree of a task that has ended writes nothing more, nor is it a task that starts.
+use Rattle.std.proofs.Common.{◌≡◌, ◌<◌, ℕ, Bool, true, false, List, [], ◌∷◌, Option, Some, None, refl, sym, ap, ◌∙◌, arith}
 use Rattle.std.specs.Option.{option_map_or}
 use Rattle.task_ids.specs.declared.task_id.TaskId.{TaskId}
 use Rattle.task_ids.specs.declared.cluster.Cluster.{Cluster}
 use Rattle.task_events.specs.declared.event.Event.{Event}
 use Rattle.task_events.specs.declared.event.Event.TheVariants.{Root, Put, Pass, Refuse, Work, Write}
 use Rattle.task_events.specs.declared.event.Outcome.{Outcome}
+use Rattle.task_events.specs.declared.reply.Reply.{Reply}
 use Rattle.task_events.specs.Asks.{last_ask}
 use Rattle.task_events.specs.Cancels.{turn_of}
 use Rattle.task_events.specs.Lawful.{Lawful}
 use Rattle.task_events.specs.Same.{same_task}
-use Rattle.task_events.specs.Tasks.{ancestors, has_ended, is_new, last_number}
+use Rattle.task_events.specs.Tasks.{ancestors, has_ended, is_new, last_number, reply_of}
 use Rattle.task_events.specs.Written.{writes_by}
 use Rattle.task_laws.proofs.Asks.{ask_facts}
+use Rattle.task_laws.proofs.Content.{answer_facts}
 use Rattle.task_laws.proofs.Same.{same_tests}
 use Rattle.task_laws.proofs.Tree.{ancestors_live, tree_facts}
 use Rattle.write_laws.specs.TreeWrites.{is_in_tree, tree_is_writing, tree_writes}
@@ -69,3 +71,16 @@ module _ (cluster : Cluster) where
 
   pub ended_quiet : (h : List Event) → Lawful cluster h → (t : TaskId) → has_ended t h ≡ true → tree_is_writing t h ≡ false
   ended_quiet h l t i = ended_by_turn h l t i (turn_of h) refl
+
+  -- a task that has replied existed, so a task that starts now is another
+  pub root_apart : (c : ℕ) (u : TaskId) (h : List Event) → Lawful cluster (Root c u ∷ h) → (t : TaskId) (reply : Reply) → reply_of t h ≡ Some reply → same_task t u ≡ false
+  root_apart c u h l t reply e =
+      let ended = (answer_facts cluster h l.1).reply_ended t reply e in
+      let unborn = (ask_facts cluster h l.1).unborn_ended t in
+      grind (arith, same_tests, ended, unborn, l.0.takes.next)
+
+  pub put_apart : (u q : TaskId) (j : ℕ) (h : List Event) → Lawful cluster (Put u q j ∷ h) → (t : TaskId) (reply : Reply) → reply_of t h ≡ Some reply → same_task t u ≡ false
+  put_apart u q j h l t reply e =
+      let ended = (answer_facts cluster h l.1).reply_ended t reply e in
+      let unborn = (ask_facts cluster h l.1).unborn_ended t in
+      grind (arith, same_tests, ended, unborn, l.0.takes.next)

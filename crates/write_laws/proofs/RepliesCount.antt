@@ -1,5 +1,5 @@
 -- Each reply that tells what was written tells what the tree of its task has written.
-use Rattle.std.proofs.Common.{◌≡◌, ◌≢◌, ◌⊎◌, inl, inr, ℕ, Bool, true, false, cond, List, [], ◌∷◌, Some, refl, sym, ap, ◌∙◌, arith}
+use Rattle.std.proofs.Common.{◌≡◌, ◌≢◌, ◌⊎◌, inl, inr, ℕ, Bool, true, false, cond, List, [], ◌∷◌, Some, refl, sym, ap, ◌∙◌}
 use Rattle.task_ids.specs.declared.task_id.TaskId.{TaskId}
 use Rattle.task_ids.specs.declared.cluster.Cluster.{Cluster}
 use Rattle.task_ids.specs.declared.corpus.Corpus.{Corpus}
@@ -14,31 +14,17 @@ use Rattle.task_events.specs.Lawful.{Lawful}
 use Rattle.task_events.specs.Requests.{Scripted, request_of}
 use Rattle.task_events.specs.Same.{same_task}
 use Rattle.task_events.specs.Tasks.{no_counts, reply_of}
-use Rattle.task_laws.proofs.Asks.{ask_facts}
 use Rattle.task_laws.proofs.Content.{answer_facts}
-use Rattle.task_laws.proofs.Same.{same_task_tells, same_tests}
+use Rattle.task_laws.proofs.Same.{same_task_tells}
 use Rattle.write_laws.specs.KindsAsked.{KeepsToKinds}
 use Rattle.write_laws.specs.TreeWrites.{tree_writes}
 use Rattle.write_laws.proofs.EndsCount.{counted_all}
-use Rattle.write_laws.proofs.Quiet.{ended_quiet, new_writes}
+use Rattle.write_laws.proofs.Quiet.{ended_quiet, new_writes, put_apart, root_apart}
 use Rattle.write_laws.proofs.Tells.{IsNumberOf, TellsCounts, telling_asked}
 
 module _ (cluster : Cluster) (corpus : Corpus) (said : Scripted) (test : Outcome → Bool) (number : Counts → ℕ) (is : IsNumberOf test number) where
   abbrev Tells : TaskId → List Event → Type 0
   Tells t h = (reply : Reply) → reply_of t h ≡ Some reply → telling_asked (request_of said t h) ≡ true → number (carried reply) ≡ tree_writes test t h
-
-  -- a task that has replied existed, so a task that starts now is another
-  root_apart : (c : ℕ) (u : TaskId) (h : List Event) → Lawful cluster (Root c u ∷ h) → (t : TaskId) (reply : Reply) → reply_of t h ≡ Some reply → same_task t u ≡ false
-  root_apart c u h l t reply e =
-      let ended = (answer_facts cluster h l.1).reply_ended t reply e in
-      let unborn = (ask_facts cluster h l.1).unborn_ended t in
-      grind (arith, same_tests, ended, unborn, l.0.takes.next)
-
-  put_apart : (u q : TaskId) (j : ℕ) (h : List Event) → Lawful cluster (Put u q j ∷ h) → (t : TaskId) (reply : Reply) → reply_of t h ≡ Some reply → same_task t u ≡ false
-  put_apart u q j h l t reply e =
-      let ended = (answer_facts cluster h l.1).reply_ended t reply e in
-      let unborn = (ask_facts cluster h l.1).unborn_ended t in
-      grind (arith, same_tests, ended, unborn, l.0.takes.next)
 
   leaving : (u : TaskId) (last : Reply) (h : List Event) → (telling_asked (request_of said u h) ≡ true → number (carried last) ≡ tree_writes test u h) → (t : TaskId) → Tells t h
       → (reply : Reply) → cond (same_task t u) (Some last) (reply_of t h) ≡ Some reply → telling_asked (request_of said t h) ≡ true → number (carried reply) ≡ tree_writes test t h
@@ -54,10 +40,10 @@ module _ (cluster : Cluster) (corpus : Corpus) (said : Scripted) (test : Outcome
   pub replies_tell : (h : List Event) → Lawful cluster h → KeepsToKinds said h → TellsCounts cluster corpus said h → (t : TaskId) → Tells t h
   replies_tell [] l keeps tells t reply e asked = absurd (cc)
   replies_tell (Root c u ∷ h) l keeps tells t reply e asked =
-      let apart = root_apart c u h l t reply e in
+      let apart = root_apart cluster c u h l t reply e in
       replies_tell h l.1 keeps.1 tells t reply e (rw apart at asked)
   replies_tell (Put u q j ∷ h) l keeps tells t reply e asked =
-      let apart = put_apart u q j h l t reply e in
+      let apart = put_apart cluster u q j h l t reply e in
       replies_tell h l.1 keeps.1 tells t reply e (rw apart at asked)
   replies_tell (Ask q j n child ∷ h) l keeps tells t reply e asked = replies_tell h l.1 keeps.1 tells t reply e asked
   replies_tell (Write index shard outcome id ∷ h) l keeps tells t reply e asked =

@@ -32,7 +32,7 @@ use Rattle.world_moves.specs.Paging.{context_in}
 use Rattle.world_moves.proofs.AllKinds.{IsPageOf}
 use Rattle.world_moves.proofs.PagesAfter.{quiet_pages}
 use Rattle.world_moves.proofs.PagesMoved.{rooted_pages}
-use Rattle.world_steps.proofs.Lent.{copied_alike}
+use Rattle.world_moves.proofs.Lent.{copied_alike}
 use Rattle.world_steps.proofs.PagesStart.{page_given, page_sound, page_there, take_usable, takes_free}
 use Rattle.world_moves.proofs.ReadsAfter.{reads_after}
 use Rattle.world_steps.proofs.roots.start_with.Goals as goal

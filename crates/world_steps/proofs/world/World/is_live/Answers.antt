@@ -3,7 +3,7 @@ use Rattle.std.specs.Prelude.{is_some}
 use Rattle.task_events.specs.Tasks.{is_live}
 use Rattle.world_steps.specs.World.{IsWorld}
 use Rattle.world_moves.proofs.StepsAfter.{kept_where_live}
-use Rattle.world_steps.proofs.Lent.{copied_alike}
+use Rattle.world_moves.proofs.Lent.{copied_alike}
 use Rattle.world_steps.proofs.world.World.is_live.Goals as goal
 
 pub returns : goal.returns

@@ -1,22 +1,20 @@
 -- What holds of the fields of a slice, and of a reindex that is cut into slices, at first and after an ask.
-use Rattle.std.proofs.Common.{◌≡◌, ◌≤◌, ℕ, ◌+◌, ◌-◌, ◌*◌, ◌^◌, true, false, List, [], ◌∷◌, ◌++◌, length, refl, sym, subst, arith, length-append}
-use Rattle.std.specs.Prelude.{◌==◌, ⊤}
+use Rattle.std.proofs.Common.{◌≡◌, ◌≤◌, ℕ, ◌+◌, ◌-◌, ◌*◌, ◌^◌, true, [], ◌∷◌, ◌++◌, length, refl, sym, subst, arith, length-append}
+use Rattle.std.specs.Prelude.{⊤}
 use Rattle.std.proofs.lemmas.Bool.{and_parts, and_from, ltb-true}
-use Rattle.std.proofs.lemmas.Bool.Decides.{nat_tests}
 use Rattle.task_ids.specs.declared.task_id.TaskId.{TaskId}
 use Rattle.task_events.specs.declared.reply.Reply.{Reply}
 use Rattle.task_events.specs.declared.request.ReindexAsk.{ReindexAsk}
 use Rattle.task_events.specs.declared.request.Request.{Request}
 use Rattle.task_events.specs.declared.request.Request.TheVariants as asks
 use Rattle.reindex.specs.BulkFields.{AreUpTo}
-use Rattle.reindex.specs.Bulks.{is_open as is_open_among, without}
 use Rattle.reindex.specs.declared.phase.Phase.{Phase}
 use Rattle.reindex.specs.declared.phase.Phase.TheVariants.{First, Reads, Holds, Writes, Rests, Over}
 use Rattle.reindex.specs.RootFields.{IsCut}
 use Rattle.reindex.specs.Roots.{Cutting, IsNewCut, cut_may_ask, cut_with_ask, cut_takes, cut_with_answer}
 use Rattle.reindex.specs.SliceFields.{IsSlice, open_asks, in_hand, most_failures, most_made}
 use Rattle.reindex.specs.Slices.{Slicing, IsNewSlice, slice_may_ask, may_ask_in, phase_with, slice_with_ask}
-use Rattle.search_phase.proofs.Sorting.{by_test}
+use Rattle.reindex.proofs.BulkRuns.{open_before, open_beside}
 
 -- ---- a slice
 
@@ -123,21 +121,7 @@ cut_asked_sound c k h may =
       bounded = subst (λ n. AreUpTo (n * 2 ^ 50) c.counts) (sym same) h.bounded;
     }
 
--- what is open stays open beside one ask more, and beside an answer to another
-open_before : (k j : ℕ) (open_yet : List ℕ) → is_open_among k open_yet ≡ true → is_open_among k (open_yet ++ j ∷ []) ≡ true
-open_before k j [] e = absurd (cc)
-open_before k j (a ∷ open_yet) e = by_test (a == k) (λ one. rw one refl) (λ other. let rest = rw other at e in rw other (open_before k j open_yet rest))
-
-open_beside : (k j : ℕ) (open_yet : List ℕ) → (k ≡ j → ⊥) → is_open_among k open_yet ≡ true → is_open_among k (without j open_yet) ≡ true
-open_beside k j [] apart e = absurd (cc)
-open_beside k j (a ∷ open_yet) apart e =
-    by_test (a == j)
-    (λ gone.
-    let off : (a == k) ≡ false = grind (arith, nat_tests, apart) in
-    let rest = rw off at e in
-    rw gone (open_beside k j open_yet apart rest))
-    (λ stays. rw stays (by_test (a == k) (λ one. rw one refl) (λ other. let rest = rw other at e in rw other (open_beside k j open_yet apart rest))))
-
+-- a reply that it takes it takes after one ask more too, and after the answer to another
 pub cut_takes_after_ask : (c : Cutting) (k j : ℕ) (reply : Reply) → cut_takes c k reply ≡ true → cut_takes (cut_with_ask c j) k reply ≡ true
 cut_takes_after_ask c k j reply took = let both = and_parts _ _ took in and_from _ _ (open_before k j c.open_asks both.0) both.1
 
