@@ -46,7 +46,8 @@ use Rattle.world_moves.specs.Good.{IsGoodReply}
 use Rattle.world_moves.proofs.AllKinds.{passed_laws}
 use Rattle.world_moves.proofs.KindLaws.{Takes}
 use Rattle.world_moves.proofs.SearchAnswers.{has_at, within}
-use Rattle.world_moves.proofs.ByPlace.{pair_at, pairs_left, all_here, all_left}
+use Rattle.task_ids.proofs.Each.{all_here}
+use Rattle.world_moves.proofs.ByPlace.{pair_at, pairs_left, all_left}
 use Rattle.world_moves.proofs.FactsAfter.{at_answered}
 use Rattle.world_moves.proofs.FlightAfter.{all_stay}
 use Rattle.world_moves.proofs.KeptTasks.{kept_after}

@@ -31,7 +31,8 @@ use Rattle.search_phase.proofs.Requests.{list_all-slice_get}
 use Rattle.search_phase.proofs.Sorting.{by_test}
 use Rattle.world_moves.specs.Facts.{requested_by}
 use Rattle.task_events.specs.ShardOutcomes.{is_query_of, is_fetch_of, ask_for}
-use Rattle.world_moves.proofs.ByPlace.{all_here, all_push}
+use Rattle.task_ids.proofs.Each.{all_here}
+use Rattle.world_moves.proofs.ByPlace.{all_push}
 use Rattle.world_moves.proofs.AsksCounted.{requested_counted}
 
 -- ---- the number of the ask is its place among the requests

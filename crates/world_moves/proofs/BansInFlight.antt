@@ -32,7 +32,8 @@ use Rattle.world_moves.specs.declared.flight.Sent.TheVariants as sent
 use Rattle.node_parts.specs.declared.running.Running.{Running}
 use Rattle.world_moves.specs.Flights.{message_of, message_of_notice}
 use Rattle.world_moves.specs.Ties.{Ties, IsGood}
-use Rattle.world_moves.proofs.ByPlace.{pair_at, all_here}
+use Rattle.task_ids.proofs.Each.{all_here}
+use Rattle.world_moves.proofs.ByPlace.{pair_at}
 use Rattle.world_moves.specs.Good.{so_far}
 
 -- ---- the nodes of bans

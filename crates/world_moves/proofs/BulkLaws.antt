@@ -26,7 +26,7 @@ use Rattle.world_moves.specs.BulkRuns.{RunsBulk}
 use Rattle.world_moves.specs.Facts.{none_awaited}
 use Rattle.world_moves.specs.Good.{IsGoodReply, IsWithin, IsPartWithin}
 use Rattle.world_moves.proofs.AsksKept.{knows_none, awaited_long, knows_more, knows_answer}
-use Rattle.world_moves.proofs.ByPlace.{all_here}
+use Rattle.task_ids.proofs.Each.{all_here}
 use Rattle.world_moves.proofs.KindLaws.{KindLaws, IsPlain}
 use Rattle.world_moves.proofs.LookingLaws.{no_docs}
 use Rattle.world_moves.proofs.NoneAwaited.{all_answered}

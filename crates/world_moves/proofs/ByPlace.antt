@@ -54,18 +54,9 @@ all_left P [] (suc i) a = a
 all_left P (x ∷ xs) zero a = a.1
 all_left P (x ∷ xs) (suc i) a = (a.0, all_left P xs i a.1)
 
-pub all_here : {X : Type 0} (P : X → Type 0) (xs : List X) (i : ℕ) (x : X) → AllByRecursion P xs → slice_get xs i ≡ Some x → P x
-all_here P [] i x a g = absurd (cc)
-all_here P (y ∷ xs) zero x a g = let same : y ≡ x = cc in rw (sym same) a.0
-all_here P (y ∷ xs) (suc i) x a g = all_here P xs i x a.1 g
-
 pub all_push : {X : Type 0} (P : X → Type 0) (xs : List X) (x : X) → AllByRecursion P xs → P x → AllByRecursion P (xs ++ x ∷ [])
 all_push P [] x a p = (p, tt)
 all_push P (y ∷ xs) x a p = (a.0, all_push P xs x a.1 p)
-
-pub all_joined : {X : Type 0} (P : X → Type 0) (xs ys : List X) → AllByRecursion P xs → AllByRecursion P ys → AllByRecursion P (xs ++ ys)
-all_joined P [] ys a b = b
-all_joined P (x ∷ xs) ys a b = (a.0, all_joined P xs ys a.1 b)
 
 pub all_mapped : {X Y : Type 0} (P : Y → Type 0) (f : X → Y) (xs : List X) → AllByRecursion (λ x. P (f x)) xs → AllByRecursion P (map f xs)
 all_mapped P f [] a = tt

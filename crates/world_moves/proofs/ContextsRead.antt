@@ -15,7 +15,7 @@ use Rattle.task_events.specs.Readings.{Reading, shard_read, version_read}
 use Rattle.task_events.specs.Searches.{top_of, counted, counts_in}
 use Rattle.world_moves.specs.Good.{IsContextWithin, IsShardWithin}
 use Rattle.world_moves.specs.SearchRuns.{SearchesFor}
-use Rattle.world_moves.proofs.ByPlace.{all_here}
+use Rattle.task_ids.proofs.Each.{all_here}
 use Rattle.world_moves.proofs.SearchAsks.{IsTopWithin, top_within}
 
 module _ (cluster : Cluster) (corpus : Corpus) (r : Reading) where

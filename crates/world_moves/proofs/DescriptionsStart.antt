@@ -33,7 +33,7 @@ use Rattle.world_moves.specs.declared.flight.Sent.TheVariants as sent
 use Rattle.world_moves.specs.Describing.{IsDescribed, DescribesAll, Carries}
 use Rattle.world_moves.specs.Ties.{Ties, IsTableAt}
 use Rattle.world_moves.proofs.AtPlace.{set_at}
-use Rattle.world_moves.proofs.ByPlace.{all_here}
+use Rattle.task_ids.proofs.Each.{all_here}
 use Rattle.world_moves.proofs.CancelsAfterStart.{rows_differ, is_new}
 use Rattle.world_moves.proofs.RequestsInFlight.{arrives}
 use Rattle.world_moves.proofs.Tables.{IsPutOn, table_of}

@@ -60,7 +60,7 @@ use Rattle.world_moves.specs.Ties.{Ties, WorksFor, version_from, progress_from}
 use Rattle.world_moves.specs.Good.{so_far, own_writes, writes_for}
 use Rattle.world_moves.proofs.AsksCounted.{requested_at}
 use Rattle.world_moves.proofs.AsksFor.{asks_first, answer_told, first_at}
-use Rattle.world_moves.proofs.ByPlace.{all_here, all_joined}
+use Rattle.task_ids.proofs.Each.{all_here, all_joined}
 use Rattle.world_moves.proofs.CountsKept.{counted_so}
 use Rattle.world_moves.proofs.LookingLaws.{work_ends}
 use Rattle.world_moves.proofs.SearchLaws.{search_ends}

@@ -26,7 +26,8 @@ use Rattle.world_moves.specs.declared.flight.Sent.TheVariants as sent
 use Rattle.node_parts.specs.declared.running.Running.{Running}
 use Rattle.world_moves.specs.Flights.{event_at, message_of, request_in}
 use Rattle.world_moves.specs.Ties.{Ties}
-use Rattle.world_moves.proofs.ByPlace.{pair_at, all_here}
+use Rattle.task_ids.proofs.Each.{all_here}
+use Rattle.world_moves.proofs.ByPlace.{pair_at}
 
 -- The entry is the request of an ask to the node, and stands in flight at its place.
 pub record Arrives (cluster : Cluster) (h : List Event) (nth : ℕ) (token : Token) (to at : ℕ) : Type 0 where

@@ -31,7 +31,8 @@ use Rattle.world_moves.specs.Good.{IsGoodReply, IsShardWithin, IsWithin, written
 use Rattle.world_moves.proofs.AsksCounted.{length-grown}
 use Rattle.world_moves.proofs.KindLaws.{AsksOwn, part_owns}
 use Rattle.world_moves.proofs.SearchParts.{plan_parts}
-use Rattle.world_moves.proofs.ByPlace.{all_joined, all_mapped, all_by_place, all_here}
+use Rattle.task_ids.proofs.Each.{all_joined, all_here}
+use Rattle.world_moves.proofs.ByPlace.{all_mapped, all_by_place}
 
 -- ---- what a search asks for
 

@@ -36,7 +36,7 @@ use Rattle.world_moves.proofs.NoneAwaited.{none_counted}
 use Rattle.world_moves.proofs.EndsListed.{end_listed}
 use Rattle.world_moves.proofs.FlightAfter.{all_stay, event_newest}
 use Rattle.world_moves.proofs.KeptTasks.{kept_after}
-use Rattle.world_moves.proofs.ByPlace.{all_joined}
+use Rattle.task_ids.proofs.Each.{all_joined}
 use Rattle.world_moves.proofs.StepsAfter.{kept_running}
 use Rattle.world_moves.proofs.Tables.{table_of, node_has_table}
 use Rattle.world_moves.specs.Good.{so_far, IsWithin}

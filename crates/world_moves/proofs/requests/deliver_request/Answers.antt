@@ -30,7 +30,7 @@ use Rattle.world_moves.proofs.FirstRuns.{first}
 use Rattle.world_moves.proofs.CancelsAfterStart.{noted_put}
 use Rattle.world_moves.proofs.Tables.{IsPutOn, node_has_table, no_slot, no_number}
 use Rattle.world_moves.proofs.CancelsUntouched.{noted}
-use Rattle.world_moves.proofs.ByPlace.{all_here}
+use Rattle.task_ids.proofs.Each.{all_here}
 use Rattle.world_moves.proofs.DescriptionsAfter.{quiet_sent, carry_both, carry_taken}
 use Rattle.world_moves.proofs.DescriptionsStart.{new_number, rows_put, carried_put}
 use Rattle.world_moves.proofs.QuietCounts.{still_counts}
