@@ -5,14 +5,14 @@ use Rattle.std.proofs.lemmas.List.{length-set}
 use Rattle.ranked.specs.declared.piece.TheConstants.{PIECE}
 use Rattle.ranked.specs.declared.pieces.TheConstants.{HALF}
 use Rattle.ranked.specs.declared.pieces.Spot.{Spot}
-use Rattle.ranked.specs.Pieces.{joined, rank, piece_at, ArePieces, IsPiece, IsSpot, HasRoom}
+use Rattle.ranked.specs.Pieces.{joined, rank, piece_at, AreFilled, IsPiece, IsSpot, HasRoom}
 use Rattle.ranked.proofs.Joined.{piece_there, joined_cut, all_cut, first_half, second_half, joined_before_first, joined_before_second}
 
 -- the pieces with this one cut in two
 abbrev pub halved : {X : Type 0} → List (List X) → ℕ → List (List X)
 halved pieces k = insert (set pieces k (take HALF (piece_at pieces k))) (k + 1) (drop HALF (piece_at pieces k))
 
-module _ {X : Type 0} (pieces : List (List X)) (spot : Spot) (there : IsSpot pieces spot) (all : ArePieces pieces) (full : PIECE ≤ length (piece_at pieces spot.piece)) where
+module _ {X : Type 0} (pieces : List (List X)) (spot : Spot) (there : IsSpot pieces spot) (all : AreFilled pieces) (full : PIECE ≤ length (piece_at pieces spot.piece)) where
   low : spot.piece < length pieces
   low = piece_there pieces spot.piece spot.place there
 
@@ -32,7 +32,7 @@ module _ {X : Type 0} (pieces : List (List X)) (spot : Spot) (there : IsSpot pie
       let room : spot.piece < length pieces = low in
       omega (arith, length-insert (set pieces spot.piece first) (spot.piece + 1) (drop HALF (piece_at pieces spot.piece)) (omega arith))
 
-  pub halves_are_pieces : ArePieces (halved pieces spot.piece)
+  pub halves_are_pieces : AreFilled (halved pieces spot.piece)
   halves_are_pieces = all_cut pieces spot.piece low HALF IsPiece all (omega (arith, first_long), omega (arith, first_long)) (omega (arith, second_long), omega (arith, second_long))
 
   pub halves_joined : joined (halved pieces spot.piece) ≡ joined pieces

@@ -11,7 +11,7 @@ use mathlib.Core.Bool.{false≢true}
 use Rattle.std.proofs.lemmas.List.Concat.{flat_map-append}
 use Rattle.std.proofs.lemmas.List.Edits.{remove-append_left, remove-append_right, insert-append_left, insert-append_right}
 use Rattle.std.proofs.lemmas.List.Elements.{All-append, All-cons, All-take, All-drop}
-use Rattle.ranked.specs.Pieces.{joined, piece_at}
+use Rattle.ranked.specs.Pieces.{joined, piece_at, AreFilled, ArePieces}
 
 module _ {X : Type 0} where
   -- an item past the first list lies in the second one
@@ -150,6 +150,23 @@ module _ {X : Type 0} (pieces : List (List X)) (k : ℕ) where
   -- the piece that is read there
   pub piece_read : k < length pieces → (p : List X) → p ≡ get_or pieces k p → p ≡ piece_at pieces k
   piece_read low p read = read ∙ get_or_default pieces k p [] low
+
+-- a piece that has no item and is alone has no place
+none_alone : (X : Type 0) (k : ℕ) → length (piece_at {X = X} ([] ∷ []) k) ≡ 0
+none_alone X zero = refl
+none_alone X (suc k) = refl
+
+-- where there is an item, each piece has one
+pub filled_by_item : {X : Type 0} (pieces : List (List X)) (k place : ℕ) → place < length (piece_at pieces k) → ArePieces pieces → AreFilled pieces
+filled_by_item pieces k place there (inl filled) = filled
+filled_by_item pieces k place there (inr alone) = absurd (let none : length (piece_at pieces k) ≡ 0 = ap (λ ps. length (piece_at ps k)) alone ∙ none_alone _ k in omega arith)
+
+-- a piece that is alone and loses its last item
+pub emptied_alone : {X : Type 0} (pieces : List (List X)) (k : ℕ) (p : List X) → k < length pieces → length pieces ≤ 1 → length p ≡ 0 → set pieces k p ≡ [] ∷ []
+emptied_alone [] k p low few none = absurd (omega arith)
+emptied_alone (x ∷ []) zero p low few none = ap (λ q. q ∷ []) (nil_from_length p none)
+emptied_alone (x ∷ []) (suc k) p low few none = absurd (omega arith)
+emptied_alone (x ∷ y ∷ ys) k p low few none = absurd (omega arith)
 
 -- what a clause says of an `Option` that has a value
 pub on_some : {Y : Type 0} (r : Option Y) (x : Y) (P : Type 0) → r ≡ Some x → OnSome r P → P

@@ -6,12 +6,12 @@ use Rattle.std.specs.List.{AllWithin}
 use Rattle.std.specs.List.Sorted.{IsStrictlySortedBy, IsPartitionedBy, IsPartitionPoint, IsNonDecreasingBy}
 use Rattle.std.proofs.lemmas.Bool.{cases_lt}
 use mathlib.Core.Bool.{false≢true}
-use Rattle.std.proofs.lemmas.List.{take_more, take-take, get_or_default, take_all, take-append-drop}
+use Rattle.std.proofs.lemmas.List.{append-nil, take_more, take-take, get_or_default, take_all, take-append-drop}
 use Rattle.std.proofs.lemmas.List.Concat.{flat_map-append, get_or-flat_map}
 use Rattle.std.proofs.lemmas.List.Folds.{length-flat_map-take}
 use Rattle.std.proofs.lemmas.List.Sorted.{searchable_from_sorted}
 use Rattle.std.proofs.lemmas.Map.Keys.{Less-from_sorted, sorted_from_all_adjacent}
-use Rattle.ranked.specs.Pieces.{joined, piece_at, ArePieces}
+use Rattle.ranked.specs.Pieces.{joined, piece_at, AreFilled}
 use Rattle.ranked.specs.Ranks.{ends_below, IsFoundAt, IsGapFor}
 use Rattle.ranked.proofs.Joined.{joined_push}
 use Rattle.ranked.proofs.Keys.{greater_back, found_from_equal, gap_from_neighbours}
@@ -45,7 +45,7 @@ less_if_lt Less is = refl
 less_if_lt Equal is = absurd (false≢true is)
 less_if_lt Greater is = absurd (false≢true is)
 
-module _ {K : Type 0} {cmp : K → K → Ordering} (laws : IsTotalOrder cmp) (pieces : List (List K)) (all : ArePieces pieces) (sorted : IsStrictlySortedBy cmp (joined pieces)) (k : K) where
+module _ {K : Type 0} {cmp : K → K → Ordering} (laws : IsTotalOrder cmp) (pieces : List (List K)) (all : AreFilled pieces) (sorted : IsStrictlySortedBy cmp (joined pieces)) (k : K) where
   -- whether a piece ends below k, by its last key
   ends_is : (p : List K) (d : K) → 1 ≤ length p → ends_below cmp k p ≡ is_lt (cmp (get_or p (length p - 1) d) k)
   ends_is [] d low = absurd (omega arith)
@@ -137,3 +137,28 @@ module _ {K : Type 0} {cmp : K → K → Ordering} (laws : IsTotalOrder cmp) (pi
                 ap (λ q. cmp (get_or (joined pieces) q d) k) there ∙ smaller_before (omega arith) d (omega arith)
           ])
           (λ d more. ap (λ y. cmp y k) (item_at pieces at_piece low place d inside) ∙ parts.1 place d (omega arith) inside)
+
+-- the items of a piece that is alone
+pub joined_alone : {X : Type 0} (pieces : List (List X)) → length pieces ≡ 1 → joined pieces ≡ piece_at pieces 0
+joined_alone [] one = absurd (omega arith)
+joined_alone (p ∷ []) one = append-nil p
+joined_alone (p ∷ q ∷ ps) one = absurd (omega arith)
+
+module _ {K : Type 0} {cmp : K → K → Ordering} (laws : IsTotalOrder cmp) (pieces : List (List K)) (one : length pieces ≡ 1) (sorted : IsStrictlySortedBy cmp (joined pieces)) (k : K) where
+  alone_sorted : IsStrictlySortedBy cmp (piece_at pieces 0)
+  alone_sorted = subst (IsStrictlySortedBy cmp) (joined_alone pieces one) sorted
+
+  pub found_alone : (place : ℕ) → place < length (piece_at pieces 0) → ((d : K) → cmp (get_or (piece_at pieces 0) place d) k ≡ Equal) → IsFoundAt cmp (joined pieces) k place
+  found_alone place within here = subst (λ keys. IsFoundAt cmp keys k place) (sym (joined_alone pieces one)) (found_from_equal laws (piece_at pieces 0) alone_sorted k place within here)
+
+  pub absent_alone : (place : ℕ) → place ≤ length (piece_at pieces 0)
+      → (IsNonDecreasingBy (λ y. ordering_index (cmp y k)) (piece_at pieces 0) → IsPartitionPoint (λ y. cmp y k ≡ Less) (λ y. cmp y k ≡ Greater) (piece_at pieces 0) place)
+      → IsGapFor cmp (joined pieces) k place
+  absent_alone place within parted =
+      let keys = piece_at pieces 0 in
+      let parts = parted (searchable_from_sorted laws (λ y. y) keys k (λ m d _ high. ap is_lt (greater_back laws _ _ (Less-from_sorted cmp keys m (m + 1) d alone_sorted (omega arith) high)))) in
+      subst (λ ks. IsGapFor cmp ks k place) (sym (joined_alone pieces one)) (record {
+        in_range = within;
+        below = λ j d less. parts.0 j d (omega arith) less;
+        above = λ j d more high. parts.1 j d more high;
+      })

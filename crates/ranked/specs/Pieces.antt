@@ -1,5 +1,5 @@
 -- A row of items that lies in pieces.
-use Rattle.std.specs.Prelude.{ℕ, ◌+◌, ◌≤◌, ◌<◌, List, [], length, take, slice_index_or, All}
+use Rattle.std.specs.Prelude.{◌≡◌, ℕ, ◌+◌, ◌≤◌, ◌<◌, ◌⊎◌, List, [], ◌∷◌, length, take, slice_index_or, All}
 use Rattle.std.specs.List.{flat_map}
 use Rattle.ranked.specs.declared.piece.TheConstants.{PIECE}
 use Rattle.ranked.specs.declared.pieces.Spot.{Spot}
@@ -13,8 +13,13 @@ module _ {X : Type 0} where
   abbrev pub IsPiece : List X → Type 0
   IsPiece piece = (1 ≤ length piece) × (length piece ≤ PIECE)
 
+  -- each piece has an item
+  abbrev pub AreFilled : List (List X) → Type 0
+  AreFilled pieces = All IsPiece pieces
+
+  -- each piece has an item, but for one that is alone
   abbrev pub ArePieces : List (List X) → Type 0
-  ArePieces pieces = All IsPiece pieces
+  ArePieces pieces = AreFilled pieces ⊎ (pieces ≡ [] ∷ [])
 
   -- the piece of this place, without items past the last one
   abbrev pub piece_at : List (List X) → ℕ → List X

@@ -4,7 +4,7 @@ ghost use Rattle.std.specs.Prelude.{◌≡◌, ◌+◌, ◌<◌, ◌≤◌, ◌�
 ghost use Rattle.std.specs.Prelude.{◌^◌};
 ghost use Rattle.std.specs.List.Sorted.{IsStrictlySortedBy};
 ghost use Rattle.ranked.specs.Ranks.{IsFoundAt, IsGapFor};
-ghost use Rattle.ranked.specs.Pieces.{ArePieces, HasRoom, IsSpot, joined, piece_at, rank};
+ghost use Rattle.ranked.specs.Pieces.{AreFilled, ArePieces, HasRoom, IsSpot, joined, piece_at, rank};
 
 use crate::piece::{PIECE, Piece};
 use std::alloc::{AllocError, AllocFailed, Global};
@@ -42,7 +42,8 @@ pub(crate) fn spot_of<T>(pieces: &VecDeque<Piece<T>>, nth: usize) -> Option<Spot
     None
 }
 
-/// Takes the item of this spot out, and its piece where that had no other.
+/// Takes the item of this spot out. A piece that had no other goes too, unless it is alone: then its memory stays, so that
+/// where items come and go one at a time none of them takes any.
 pub(crate) fn take_at<T: Drop>(pieces: &mut VecDeque<Piece<T>>, spot: Spot) -> Option<T>
     requires spot { IsSpot pieces.old.items spot }
     requires pieces { ArePieces pieces.old.items }
@@ -53,7 +54,7 @@ pub(crate) fn take_at<T: Drop>(pieces: &mut VecDeque<Piece<T>>, spot: Spot) -> O
 {
     let piece = &mut pieces[spot.piece];
     let item = piece.take(spot.place)?;
-    if piece.len() == 0 {
+    if piece.len() == 0 && pieces.len() > 1 {
         pieces.remove(spot.piece);
     }
     Some(item)
@@ -61,6 +62,8 @@ pub(crate) fn take_at<T: Drop>(pieces: &mut VecDeque<Piece<T>>, spot: Spot) -> O
 
 /// The last piece, where it is not full.
 fn last_with_room<T>(pieces: &VecDeque<Piece<T>>) -> Option<usize>
+    requires { ArePieces pieces.now.items }
+    ensures filled { IfNone result (AreFilled pieces.now.items) }
     ensures last { IfSome result (λ at. at + 1 ≡ length pieces.now.items) }
     ensures room { IfSome result (λ at. length (piece_at pieces.now.items at) < PIECE) }
 {
@@ -116,8 +119,8 @@ fn cut<T: Drop>(pieces: &mut VecDeque<Piece<T>>, at: usize) -> Result<(), AllocE
 /// The spot of the same rank in a piece that is not full. A full piece is cut in two.
 fn with_room<T: Drop>(pieces: &mut VecDeque<Piece<T>>, spot: Spot) -> Result<Spot, AllocError>
     requires spot { IsSpot pieces.old.items spot }
-    requires pieces { ArePieces pieces.old.items }
-    ensures pieces { ArePieces pieces.new.items }
+    requires pieces { AreFilled pieces.old.items }
+    ensures pieces { AreFilled pieces.new.items }
     ensures items { joined pieces.new.items ≡ joined pieces.old.items }
     ensures rank { IfOk result (λ new. rank pieces.new.items new ≡ rank pieces.old.items spot) }
     ensures room { IfOk result (HasRoom pieces.new.items) }
@@ -170,9 +173,9 @@ fn items_before<T>(pieces: &VecDeque<Piece<T>>, at: usize) -> usize
     before
 }
 
-/// Where the key is among ascending ones, or where it would go.
-pub(crate) fn search<K: Ord>(pieces: &VecDeque<Piece<K>>, key: &K) -> Result<usize, usize>
-    requires pieces { ArePieces pieces.now.items }
+/// Where the key is among ascending ones, or where it would go, as `search` answers it. Each piece has an item.
+fn search_filled<K: Ord>(pieces: &VecDeque<Piece<K>>, key: &K) -> Result<usize, usize>
+    requires pieces { AreFilled pieces.now.items }
     requires ordered { IsStrictlySortedBy K.cmp (joined pieces.now.items) }
     requires fits { length (joined pieces.now.items) < 2 ^ 64 }
     ensures found { IfOk result (IsFoundAt K.cmp (joined pieces.now.items) key.now) }
@@ -186,5 +189,22 @@ pub(crate) fn search<K: Ord>(pieces: &VecDeque<Piece<K>>, key: &K) -> Result<usi
     match pieces[at].search(key) {
         Ok(place) => Ok(before + place),
         Err(place) => Err(before + place),
+    }
+}
+
+/// Where the key is among ascending ones, or where it would go. One piece alone is searched at once.
+pub(crate) fn search<K: Ord>(pieces: &VecDeque<Piece<K>>, key: &K) -> Result<usize, usize>
+    requires pieces { ArePieces pieces.now.items }
+    requires ordered { IsStrictlySortedBy K.cmp (joined pieces.now.items) }
+    requires fits { length (joined pieces.now.items) < 2 ^ 64 }
+    ensures found { IfOk result (IsFoundAt K.cmp (joined pieces.now.items) key.now) }
+    ensures absent { IfErr result (IsGapFor K.cmp (joined pieces.now.items) key.now) }
+{
+    if pieces.len() != 1 {
+        return search_filled(pieces, key);
+    }
+    match pieces[0].search(key) {
+        Ok(place) => Ok(place),
+        Err(place) => Err(place),
     }
 }

@@ -15,8 +15,8 @@ use std::marker::Model;
 ///
 /// The items lie in pieces of at most 512. An item is found by a walk over the lengths of the pieces before its own,
 /// so the first one at once; a change then moves the items of one piece at most. A piece whose last item is taken is
-/// gone, but pieces are not joined: where much was taken from all over, they hold fewer items each, and there are more of
-/// them than the items need.
+/// gone, but for the last piece of all, whose memory is kept for the items to come. Pieces are not joined: where much was
+/// taken from all over, they hold fewer items each, and there are more of them than the items need.
 #[derive(Drop)]
 pub struct Queue<T> {
     alloc: Global,

@@ -91,3 +91,22 @@ fn a_ranked_set_goes_as_a_plain_one_does(rt: HostRuntime) -> Result<(), Fail> {
     assert!(rt; ranked.is_empty() && ranked.first().is_none());
     Ok(())
 }
+
+#[test]
+fn what_was_emptied_is_filled_again(rt: HostRuntime) -> Result<(), Fail> {
+    let mut queue = Queue::new(rt.alloc());
+    let mut set = RankedSet::new(rt.alloc());
+    for round in 0..3000u64 {
+        for number in 0..round % 3 + 1 {
+            queue.push_back(round + number)?;
+            assert!(rt; set.insert(round + number)?);
+        }
+        for number in 0..round % 3 + 1 {
+            assert!(rt; queue.take(0) == Some(round + number));
+            assert!(rt; set.remove(&(round + number)));
+        }
+        assert!(rt; queue.is_empty() && queue.get(0).is_none() && queue.take(0).is_none());
+        assert!(rt; set.first().is_none() && !set.contains(&round) && !set.remove(&round));
+    }
+    Ok(())
+}

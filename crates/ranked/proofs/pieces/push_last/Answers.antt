@@ -1,6 +1,6 @@
-use Rattle.std.proofs.Common.{◌≡◌, ◌+◌, ◌<◌, ◌∷◌, [], ◌++◌, ap, ◌∙◌, sym, subst, length, set, arith}
+use Rattle.std.proofs.Common.{inl, ◌≡◌, ◌+◌, ◌<◌, ◌∷◌, [], ◌++◌, ap, ◌∙◌, sym, subst, length, set, arith}
 use Rattle.std.proofs.lemmas.List.Elements.{All-push}
-use Rattle.ranked.specs.Pieces.{joined, ArePieces, IsPiece}
+use Rattle.ranked.specs.Pieces.{joined, AreFilled, IsPiece}
 use Rattle.ranked.proofs.Joined.{joined_pushed, piece_read, on_ok_then}
 use Rattle.ranked.proofs.pieces.push_last.Goals as goal
 
@@ -18,4 +18,4 @@ returns-in-Some-clause-ok g c =
 pub returns-clause-pieces : goal.returns-clause-pieces
 returns-clause-pieces g c =
     let new = c.in_ok-push_back.ensures.ok ∙ ap (λ p. p ++ c.args.item ∷ []) c.new-piece.ensures in
-    subst ArePieces (sym (c.push_back_reserved.ensures.items ∙ ap (λ ps. ps ++ c.push_back-2.new.self ∷ []) c.reserve.ensures.items)) (All-push IsPiece c.args.pieces.now.items c.push_back-2.new.self c.requires (omega (arith, ap length new), omega (arith, ap length new)))
+    inl (subst AreFilled (sym (c.push_back_reserved.ensures.items ∙ ap (λ ps. ps ++ c.push_back-2.new.self ∷ []) c.reserve.ensures.items)) (All-push IsPiece c.args.pieces.now.items c.push_back-2.new.self c.in_default.ensures.filled (omega (arith, ap length new), omega (arith, ap length new))))
