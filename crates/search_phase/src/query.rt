@@ -1,11 +1,11 @@
 //! The query phase of a search in one shard.
 
-ghost use Rattle.std.specs.Prelude.{◌≡◌, ◌+◌, ◌≤◌, ◌<◌, ◌*◌, ◌^◌, ◌∷◌, [], ◌++◌, List, true, false, map, filter, take, length, slice_get, IfOk, IfSome, OnOk, OnErr};
+ghost use Rattle.std.specs.Prelude.{◌≡◌, ◌+◌, ◌≤◌, ◌<◌, ◌*◌, ◌^◌, ◌∷◌, [], ◌++◌, ◌↔◌, ◌⊎◌, List, IsTrue, true, false, map, filter, take, length, slice_get, IfOk, IfSome, OnOk, OnErr};
 ghost use Rattle.std.specs.BinaryHeap.{IsHeap, heap_items};
 ghost use Rattle.task_ids.specs.declared.doc.Doc.{Doc};
 ghost use Rattle.task_events.specs.Answers.{is_found, window};
 ghost use Rattle.task_events.specs.HitOrder.{hit_cmp, in_hit_order, is_after};
-ghost use Rattle.search_phase.specs.Queries.{IsQueried, StaysQueried, HasTurned, new_query, version_at, has_ended, has_none_left, next_rows, with_rows, keys_of_rows, first_keys, queried, without_keys};
+ghost use Rattle.search_phase.specs.Queries.{IsQueried, StaysQueried, HasTurned, new_query, version_at, has_ended, has_none_left, rows_left, next_rows, with_rows, keys_of_rows, first_keys, queried, without_keys};
 ghost use Rattle.std.specs.List.{AllByRecursion};
 ghost use Rattle.shard_docs.specs.Numbers.{IsNumberAt};
 ghost use Rattle.search_phase.specs.LookedAt.{IsFirstNumber};
@@ -23,6 +23,10 @@ use task_ids::{Doc, Items};
 
 /// How many rows a turn looks at, at most.
 const ROWS_PER_TURN: usize = 1024;
+
+/// The room for the places of a turn where the version has no more rows than that. So a turn over a small shard does not clear the
+/// room for 1,025 places.
+const SMALL_ROOM: usize = 64;
 
 /// What some rows have come to: how many of them match, and the keys of those that stand first after the cursor, the last of
 /// them on top.
@@ -129,15 +133,46 @@ impl ShardQuery {
         ensures err { OnErr result (self.new ≡ self.old) }
     {
         let version = self.version.unwrap_or(shard.version());
-        let mut places = [0; ROWS_PER_TURN + 1];
-        let pick = self.ask.body.get().query.pick();
-        let left = shard.candidates(version, pick, self.last, &mut places);
-        let here = left.min(ROWS_PER_TURN);
-        self.look(shard, version, &places[..here])?;
-        if here < left {
+        if self.look_on(shard, version)? {
             return Ok(TurnAnswer::More);
         }
         Ok(TurnAnswer::Ready(self.give_top(version)))
+    }
+
+    /// Looks at the rows of its next turn, and tells whether rows are left after them.
+    fn look_on(&mut self, shard: &Shard, version: u32) -> Result<bool, AllocError>
+        requires reads { version ≡ version_at self.old shard.now }
+        requires few { self.old.turns * 1024 ≤ version }
+        ensures ok { OnOk result (self.new ≡ with_rows self.old version (next_rows self.old version shard.now)) }
+        ensures more { IfOk result (λ more. IsTrue more ↔ (1024 < length (rows_left self.old version shard.now))) }
+        ensures err { OnErr result (self.new ≡ self.old) }
+    {
+        if version as usize <= SMALL_ROOM {
+            return self.look_within(shard, version, &mut [0; SMALL_ROOM]);
+        }
+        self.look_within(shard, version, &mut [0; ROWS_PER_TURN + 1])
+    }
+
+    /// Looks at the rows of its next turn, whose places come into this room. There is room for one place more than a turn has, or
+    /// else for all rows of the version, so it is known whether rows are left.
+    fn look_within(
+        &mut self,
+        shard: &Shard,
+        version: u32,
+        places: &mut [u32],
+    ) -> Result<bool, AllocError>
+        requires reads { version ≡ version_at self.old shard.now }
+        requires few { self.old.turns * 1024 ≤ version }
+        requires room { (1024 < length places.old) ⊎ (version ≤ length places.old) }
+        ensures ok { OnOk result (self.new ≡ with_rows self.old version (next_rows self.old version shard.now)) }
+        ensures more { IfOk result (λ more. IsTrue more ↔ (1024 < length (rows_left self.old version shard.now))) }
+        ensures err { OnErr result (self.new ≡ self.old) }
+    {
+        let pick = self.ask.body.get().query.pick();
+        let left = shard.candidates(version, pick, self.last, places);
+        let here = left.min(ROWS_PER_TURN);
+        self.look(shard, version, &places[..here])?;
+        Ok(here < left)
     }
 
     /// Looks at the rows of its next turn, which have these places.
