@@ -14,6 +14,7 @@ ghost use Rattle.search_phase.specs.TurnAnswers.{query_answer, is_ready};
 use crate::keeping::{keep_all, keep_row};
 use crate::looking::{counts_all, is_after_cursor, is_found};
 use shard_docs::{NumberAt, Shard, number_at};
+use shared_value::Shared;
 use std::alloc::{AllocError, Global};
 use std::collections::BinaryHeap;
 use std::marker::Model;
@@ -50,7 +51,7 @@ pub enum TurnAnswer {
 #[derive(Drop)]
 pub struct ShardQuery {
     alloc: Global,
-    ask: ShardAsk,
+    ask: Shared<ShardAsk>,
     version: Option<u32>,
     turns: u32,
     /// The place of the last row that it has looked at.
@@ -93,11 +94,11 @@ impl Model for ShardQuery {
 
 impl ShardQuery {
     /// No turn yet, which takes no memory.
-    pub fn new(alloc: Global, ask: ShardAsk) -> ShardQuery
+    pub fn new(alloc: Global, ask: Shared<ShardAsk>) -> ShardQuery
         ensures new { result ≡ new_query ask }
         ensures queried { (writes : List Doc) → IsQueried result writes }
     {
-        let version = ask.version;
+        let version = ask.get().version;
         ShardQuery {
             alloc,
             ask,
@@ -113,7 +114,7 @@ impl ShardQuery {
     pub fn ask(&self) -> &ShardAsk
         ensures { result.now ≡ self.now.ask }
     {
-        &self.ask
+        self.ask.get()
     }
 
     /// Looks at the next 1,024 rows of the version that have what the query picks, or at those that are left. The first turn
@@ -168,7 +169,7 @@ impl ShardQuery {
         ensures more { IfOk result (λ more. IsTrue more ↔ (1024 < length (rows_left self.old version shard.now))) }
         ensures err { OnErr result (self.new ≡ self.old) }
     {
-        let pick = self.ask.body.get().query.pick();
+        let pick = self.ask.get().body.get().query.pick();
         let left = shard.candidates(version, pick, self.last, places);
         let here = left.min(ROWS_PER_TURN);
         self.look(shard, version, &places[..here])?;
@@ -197,7 +198,7 @@ impl ShardQuery {
     fn most(&self) -> usize
         ensures { result ≡ window self.now.ask.body }
     {
-        let body = self.ask.body.get();
+        let body = self.ask.get().body.get();
         body.from as usize + body.size as usize
     }
 
@@ -211,7 +212,7 @@ impl ShardQuery {
             ≡ first_keys self.now.ask (keys_of_rows self.now.ask (next_rows self.now version shard.now))) }
     {
         let most = self.most();
-        let all = counts_all(&self.ask);
+        let all = counts_all(self.ask.get());
         let mut found = Matches {
             count: 0,
             first: BinaryHeap::new(self.alloc),
@@ -234,7 +235,7 @@ impl ShardQuery {
     fn numbers<'s>(&self, shard: &'s Shard, version: u32) -> &'s [NumberAt]
         ensures { IfSome (slice_get self.now.ask.body.sort 0) (λ by. AllByRecursion (IsNumberAt by.field version shard.now) result.now) }
     {
-        match self.ask.body.get().sort.as_slice().first() {
+        match self.ask.get().body.get().sort.as_slice().first() {
             Some(by) => shard.numbers(version, by.field.as_str()),
             None => &[],
         }
@@ -260,16 +261,17 @@ impl ShardQuery {
         ensures first { OnOk result (in_hit_order (heap_items found.new.first) ≡ take (window self.now.ask.body)
             (in_hit_order (heap_items found.old.first ++ filter (is_after self.now.ask.after) (keys_of_rows self.now.ask ((place, doc.now) ∷ []))))) }
     {
-        if !all && !is_found(&self.ask, doc) {
+        let ask = self.ask.get();
+        if !all && !is_found(ask, doc) {
             return Ok(());
         }
         found.count += 1;
-        if is_after_cursor(&self.ask, place, doc, number) {
+        if is_after_cursor(ask, place, doc, number) {
             keep_row(
                 self.alloc,
                 &mut found.first,
                 self.most(),
-                &self.ask,
+                ask,
                 place,
                 doc,
                 number,
@@ -284,7 +286,7 @@ impl ShardQuery {
     {
         let first = replace(&mut self.first, BinaryHeap::new(self.alloc));
         ShardTop {
-            shard: self.ask.shard,
+            shard: self.ask.get().shard,
             version,
             count: self.count,
             keys: Items::from_vec(first.into_sorted_vec()),

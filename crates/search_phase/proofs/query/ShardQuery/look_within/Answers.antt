@@ -6,6 +6,7 @@ use Rattle.query_match.specs.declared.pick.Pick.{Pick}
 use Rattle.query_match.specs.Picks.{picked, pick_of}
 use Rattle.task_ids.specs.declared.doc.Doc.{Doc}
 use Rattle.task_ids.specs.Rows.{Row}
+use Rattle.task_events.specs.declared.request.ShardAsk.{ShardAsk}
 use Rattle.shard_docs.specs.Candidates.{next_places}
 use Rattle.search_phase.specs.Queries.{QueryState, rows_left, next_rows}
 use Rattle.search_phase.proofs.Picking.{pick_key}
@@ -14,7 +15,7 @@ use Rattle.search_phase.proofs.Turns.{turn_is, few_left}
 use Rattle.search_phase.proofs.query.ShardQuery.look_within.Goals as goal
 
 pub candidates-left-requires : goal.candidates-left-requires
-candidates-left-requires c = pick_key c.get.result.now.query c.pick-pick.result c.pick-pick.ensures
+candidates-left-requires c = pick_key c.get-2.result.now.query c.pick-pick.result c.pick-pick.ensures
 
 -- the places of the rows that are left
 abbrev places_of : QueryState → ℕ → List Doc → List ℕ
@@ -42,7 +43,7 @@ look-requires-clause-next c =
     let q = c.args.self.now in
     let writes = c.args.shard.now in
     let room = length c.args.places.now in
-    let same = places_left q _ c.args.version writes c.get.result.now c.pick-pick.result c.self.view_is c.get.ensures c.pick-pick.ensures in
+    let same = places_left q _ c.args.version writes c.get-2.result.now c.pick-pick.result c.self.view_is (c.get-2.ensures ∙ ap (λ (a : ShardAsk). a.body) c.get.ensures) c.pick-pick.ensures in
     cut_places (places_of q c.args.version writes) c.candidates-left.new.out room c.candidates-left.result c.min-here.result (has_room q c.args.version room writes c.requires.room)
     (c.candidates-left.ensures.count ∙ ap (λ ps. length (take room ps)) same) (c.candidates-left.ensures.places ∙ ap (take room) same) c.min-here.ensures
     ∙ places_next q c.args.version writes
@@ -52,7 +53,7 @@ returns-clause-more c =
     let q = c.args.self.now in
     let writes = c.args.shard.now in
     let room = length c.args.places.now in
-    let same = places_left q _ c.args.version writes c.get.result.now c.pick-pick.result c.self.view_is c.get.ensures c.pick-pick.ensures in
+    let same = places_left q _ c.args.version writes c.get-2.result.now c.pick-pick.result c.self.view_is (c.get-2.ensures ∙ ap (λ (a : ShardAsk). a.body) c.get.ensures) c.pick-pick.ensures in
     let left : c.candidates-left.result ≡ min room (length (rows_left q c.args.version writes)) =
     c.candidates-left.ensures.count ∙ ap (λ ps. length (take room ps)) same ∙ length-take room (places_of q c.args.version writes) ∙ ap (min room) (many_places q c.args.version writes) in
     ⊎_elim (λ wide. grind (arith, left, c.min-here.ensures, wide)) (λ all. grind (arith, left, c.min-here.ensures, all, few_left q c.args.version writes)) c.requires.room
