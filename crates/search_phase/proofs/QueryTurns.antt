@@ -1,5 +1,5 @@
 -- What a query has come to after a turn, and what the turn answers.
-use Rattle.std.specs.Prelude.{◌≡◌, ℕ, zero, suc, [], ◌∷◌, ◌+◌, ◌-◌, min, take, drop, ◌*◌, ◌<◌, ◌≤◌, Bool, true, false, cond, List, Some, IfSome, length, map, refl}
+use Rattle.std.specs.Prelude.{◌≡◌, ℕ, zero, suc, [], ◌∷◌, ◌+◌, ◌-◌, ◌⊎◌, min, take, drop, ◌*◌, ◌<◌, ◌≤◌, Bool, true, false, cond, List, Some, IfSome, length, map, refl}
 use Rattle.std.proofs.Common.{sym, ◌∙◌, ap, subst, arith, ⊎_elim}
 use Rattle.std.proofs.lemmas.Bool.{le-leb, lt-leb, eq-eqb, ne_eqb, cases_lt}
 use Rattle.std.proofs.lemmas.List.{take_all, length-take, length-drop}
@@ -131,15 +131,18 @@ take_less (suc m) zero xs h = absurd (omega (arith, h))
 take_less (suc m) (suc n) [] h = refl
 take_less (suc m) (suc n) (x ∷ xs) h = ap (λ ys. x ∷ ys) (take_less m n xs (omega (arith, h)))
 
--- of places that fill more room than a turn has, those of the turn
-pub cut_places : (places out : List ℕ) (found here : ℕ) → found ≡ length (take 1025 places) → take found out ≡ take 1025 places → here ≡ min found 1024 → take here out ≡ take 1024 places
-cut_places places out found here many are first =
-    sym (take_less here found out (omega (arith, first))) ∙ ap (take here) are ∙ take_less here 1025 places (omega (arith, first)) ∙ ⊎_elim full short (cases_lt 1024 (length places))
+-- where there is room for more places than a turn has, or for all, those of the turn
+pub cut_places : (places out : List ℕ) (room found here : ℕ) → (1024 < room) ⊎ (length places ≤ room) → found ≡ length (take room places) → take found out ≡ take room places → here ≡ min found 1024
+    → take here out ≡ take 1024 places
+cut_places places out room found here fits many are first =
+    sym (take_less here found out (omega (arith, first))) ∙ ap (take here) are ∙ take_less here room places (omega (arith, first, many, length-take room places)) ∙ ⊎_elim full short (cases_lt 1024 (length places))
   where
     full : 1024 < length places → take here places ≡ take 1024 places
-    full more = let is : here ≡ 1024 = omega (arith, first, many, length-take 1025 places, more) in ap (λ n. take n places) is
+    full more =
+        let is : here ≡ 1024 = ⊎_elim (λ wide. omega (arith, first, many, length-take room places, more, wide)) (λ all. omega (arith, first, many, length-take room places, more, all)) fits in
+        ap (λ n. take n places) is
 
     short : length places ≤ 1024 → take here places ≡ take 1024 places
     short few =
-        let is : here ≡ length places = omega (arith, first, many, length-take 1025 places, few) in
+        let is : here ≡ length places = ⊎_elim (λ wide. omega (arith, first, many, length-take room places, few, wide)) (λ all. omega (arith, first, many, length-take room places, few, all)) fits in
         ap (λ n. take n places) is ∙ take_all (length places) places (omega arith) ∙ sym (take_all 1024 places few)

@@ -74,6 +74,10 @@ asked_again (Some version) fixed all h = ap (λ o. Some (unwrap_or o all)) h
 pub left_after : (q : QueryState) (version : ℕ) (writes : List Doc) → rows_left (with_rows q version (next_rows q version writes)) version writes ≡ drop rows_per_turn (rows_left q version writes)
 left_after q version writes = past_more q.last rows_per_turn 0 (rows_for q.ask version writes) (rows_ascend q.ask version writes)
 
+-- no more rows are left than the version has
+pub few_left : (q : QueryState) (version : ℕ) (writes : List Doc) → length (rows_left q version writes) ≤ version
+few_left q version writes = omega (arith, few_rows_for q.ask version writes, few_filter (λ (row : Row). is_above q.last row.0) (rows_for q.ask version writes))
+
 -- a turn looks at 1,024 rows at most
 pub few_next : (q : QueryState) (version : ℕ) (writes : List Doc) → length (next_rows q version writes) ≤ 1024
 few_next q version writes = subst (λ n. length (next_rows q version writes) ≤ n) turn_is (omega (arith, length-take rows_per_turn (rows_left q version writes)))

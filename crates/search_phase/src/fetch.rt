@@ -7,6 +7,7 @@ ghost use Rattle.search_phase.specs.Fetches.{IsFetched, StaysFetched, HasTurned,
 ghost use Rattle.search_phase.specs.TurnAnswers.{fetch_answer, has_all};
 
 use shard_docs::Shard;
+use shared_value::Shared;
 use std::alloc::{AllocError, Global};
 use std::marker::Model;
 use std::mem::replace;
@@ -30,7 +31,7 @@ pub enum FetchAnswer {
 #[derive(Drop)]
 pub struct ShardFetch {
     alloc: Global,
-    ask: FetchAsk,
+    ask: Shared<FetchAsk>,
     turns: usize,
     hits: Vec<Hit>,
 }
@@ -86,7 +87,7 @@ fn hits_at(
 
 impl ShardFetch {
     /// No turn yet, which takes no memory.
-    pub fn new(alloc: Global, ask: FetchAsk) -> ShardFetch
+    pub fn new(alloc: Global, ask: Shared<FetchAsk>) -> ShardFetch
         ensures new { result ≡ new_fetch ask }
         ensures fetched { (writes : List Doc) → IsFetched result writes }
     {
@@ -102,7 +103,7 @@ impl ShardFetch {
     pub fn ask(&self) -> &FetchAsk
         ensures { result.now ≡ self.now.ask }
     {
-        &self.ask
+        self.ask.get()
     }
 
     /// Looks up the next 1,024 places, or those that are left, and copies their documents. A place with no row alive at
@@ -121,10 +122,11 @@ impl ShardFetch {
             → IfOk result (λ answer. answer ≡ fetch_answer self.new shard.now) }
         ensures err { OnErr result (self.new ≡ self.old) }
     {
-        let all = self.ask.places.as_slice().len();
+        let ask = self.ask.get();
+        let all = ask.places.as_slice().len();
         let start = self.turns * PLACES_PER_TURN;
         let end = start + (all - start).min(PLACES_PER_TURN);
-        let mut found = hits_at(self.alloc, &self.ask, shard, start, end)?;
+        let mut found = hits_at(self.alloc, ask, shard, start, end)?;
         self.hits.append(&mut found)?;
         self.turns += 1;
         if end < all {

@@ -1,11 +1,11 @@
 //! The query phase of a search in one shard.
 
-ghost use Rattle.std.specs.Prelude.{◌≡◌, ◌+◌, ◌≤◌, ◌<◌, ◌*◌, ◌^◌, ◌∷◌, [], ◌++◌, List, true, false, map, filter, take, length, slice_get, IfOk, IfSome, OnOk, OnErr};
+ghost use Rattle.std.specs.Prelude.{◌≡◌, ◌+◌, ◌≤◌, ◌<◌, ◌*◌, ◌^◌, ◌∷◌, [], ◌++◌, ◌↔◌, ◌⊎◌, List, IsTrue, true, false, map, filter, take, length, slice_get, IfOk, IfSome, OnOk, OnErr};
 ghost use Rattle.std.specs.BinaryHeap.{IsHeap, heap_items};
 ghost use Rattle.task_ids.specs.declared.doc.Doc.{Doc};
 ghost use Rattle.task_events.specs.Answers.{is_found, window};
 ghost use Rattle.task_events.specs.HitOrder.{hit_cmp, in_hit_order, is_after};
-ghost use Rattle.search_phase.specs.Queries.{IsQueried, StaysQueried, HasTurned, new_query, version_at, has_ended, has_none_left, next_rows, with_rows, keys_of_rows, first_keys, queried, without_keys};
+ghost use Rattle.search_phase.specs.Queries.{IsQueried, StaysQueried, HasTurned, new_query, version_at, has_ended, has_none_left, rows_left, next_rows, with_rows, keys_of_rows, first_keys, queried, without_keys};
 ghost use Rattle.std.specs.List.{AllByRecursion};
 ghost use Rattle.shard_docs.specs.Numbers.{IsNumberAt};
 ghost use Rattle.search_phase.specs.LookedAt.{IsFirstNumber};
@@ -14,6 +14,7 @@ ghost use Rattle.search_phase.specs.TurnAnswers.{query_answer, is_ready};
 use crate::keeping::{keep_all, keep_row};
 use crate::looking::{counts_all, is_after_cursor, is_found};
 use shard_docs::{NumberAt, Shard, number_at};
+use shared_value::Shared;
 use std::alloc::{AllocError, Global};
 use std::collections::BinaryHeap;
 use std::marker::Model;
@@ -23,6 +24,10 @@ use task_ids::{Doc, Items};
 
 /// How many rows a turn looks at, at most.
 const ROWS_PER_TURN: usize = 1024;
+
+/// The room for the places of a turn where the version has no more rows than that. So a turn over a small shard does not clear the
+/// room for 1,025 places.
+const SMALL_ROOM: usize = 64;
 
 /// What some rows have come to: how many of them match, and the keys of those that stand first after the cursor, the last of
 /// them on top.
@@ -46,7 +51,7 @@ pub enum TurnAnswer {
 #[derive(Drop)]
 pub struct ShardQuery {
     alloc: Global,
-    ask: ShardAsk,
+    ask: Shared<ShardAsk>,
     version: Option<u32>,
     turns: u32,
     /// The place of the last row that it has looked at.
@@ -89,11 +94,11 @@ impl Model for ShardQuery {
 
 impl ShardQuery {
     /// No turn yet, which takes no memory.
-    pub fn new(alloc: Global, ask: ShardAsk) -> ShardQuery
+    pub fn new(alloc: Global, ask: Shared<ShardAsk>) -> ShardQuery
         ensures new { result ≡ new_query ask }
         ensures queried { (writes : List Doc) → IsQueried result writes }
     {
-        let version = ask.version;
+        let version = ask.get().version;
         ShardQuery {
             alloc,
             ask,
@@ -109,7 +114,7 @@ impl ShardQuery {
     pub fn ask(&self) -> &ShardAsk
         ensures { result.now ≡ self.now.ask }
     {
-        &self.ask
+        self.ask.get()
     }
 
     /// Looks at the next 1,024 rows of the version that have what the query picks, or at those that are left. The first turn
@@ -129,15 +134,46 @@ impl ShardQuery {
         ensures err { OnErr result (self.new ≡ self.old) }
     {
         let version = self.version.unwrap_or(shard.version());
-        let mut places = [0; ROWS_PER_TURN + 1];
-        let pick = self.ask.body.get().query.pick();
-        let left = shard.candidates(version, pick, self.last, &mut places);
-        let here = left.min(ROWS_PER_TURN);
-        self.look(shard, version, &places[..here])?;
-        if here < left {
+        if self.look_on(shard, version)? {
             return Ok(TurnAnswer::More);
         }
         Ok(TurnAnswer::Ready(self.give_top(version)))
+    }
+
+    /// Looks at the rows of its next turn, and tells whether rows are left after them.
+    fn look_on(&mut self, shard: &Shard, version: u32) -> Result<bool, AllocError>
+        requires reads { version ≡ version_at self.old shard.now }
+        requires few { self.old.turns * 1024 ≤ version }
+        ensures ok { OnOk result (self.new ≡ with_rows self.old version (next_rows self.old version shard.now)) }
+        ensures more { IfOk result (λ more. IsTrue more ↔ (1024 < length (rows_left self.old version shard.now))) }
+        ensures err { OnErr result (self.new ≡ self.old) }
+    {
+        if version as usize <= SMALL_ROOM {
+            return self.look_within(shard, version, &mut [0; SMALL_ROOM]);
+        }
+        self.look_within(shard, version, &mut [0; ROWS_PER_TURN + 1])
+    }
+
+    /// Looks at the rows of its next turn, whose places come into this room. There is room for one place more than a turn has, or
+    /// else for all rows of the version, so it is known whether rows are left.
+    fn look_within(
+        &mut self,
+        shard: &Shard,
+        version: u32,
+        places: &mut [u32],
+    ) -> Result<bool, AllocError>
+        requires reads { version ≡ version_at self.old shard.now }
+        requires few { self.old.turns * 1024 ≤ version }
+        requires room { (1024 < length places.old) ⊎ (version ≤ length places.old) }
+        ensures ok { OnOk result (self.new ≡ with_rows self.old version (next_rows self.old version shard.now)) }
+        ensures more { IfOk result (λ more. IsTrue more ↔ (1024 < length (rows_left self.old version shard.now))) }
+        ensures err { OnErr result (self.new ≡ self.old) }
+    {
+        let pick = self.ask.get().body.get().query.pick();
+        let left = shard.candidates(version, pick, self.last, places);
+        let here = left.min(ROWS_PER_TURN);
+        self.look(shard, version, &places[..here])?;
+        Ok(here < left)
     }
 
     /// Looks at the rows of its next turn, which have these places.
@@ -162,7 +198,7 @@ impl ShardQuery {
     fn most(&self) -> usize
         ensures { result ≡ window self.now.ask.body }
     {
-        let body = self.ask.body.get();
+        let body = self.ask.get().body.get();
         body.from as usize + body.size as usize
     }
 
@@ -176,7 +212,7 @@ impl ShardQuery {
             ≡ first_keys self.now.ask (keys_of_rows self.now.ask (next_rows self.now version shard.now))) }
     {
         let most = self.most();
-        let all = counts_all(&self.ask);
+        let all = counts_all(self.ask.get());
         let mut found = Matches {
             count: 0,
             first: BinaryHeap::new(self.alloc),
@@ -199,7 +235,7 @@ impl ShardQuery {
     fn numbers<'s>(&self, shard: &'s Shard, version: u32) -> &'s [NumberAt]
         ensures { IfSome (slice_get self.now.ask.body.sort 0) (λ by. AllByRecursion (IsNumberAt by.field version shard.now) result.now) }
     {
-        match self.ask.body.get().sort.as_slice().first() {
+        match self.ask.get().body.get().sort.as_slice().first() {
             Some(by) => shard.numbers(version, by.field.as_str()),
             None => &[],
         }
@@ -225,16 +261,17 @@ impl ShardQuery {
         ensures first { OnOk result (in_hit_order (heap_items found.new.first) ≡ take (window self.now.ask.body)
             (in_hit_order (heap_items found.old.first ++ filter (is_after self.now.ask.after) (keys_of_rows self.now.ask ((place, doc.now) ∷ []))))) }
     {
-        if !all && !is_found(&self.ask, doc) {
+        let ask = self.ask.get();
+        if !all && !is_found(ask, doc) {
             return Ok(());
         }
         found.count += 1;
-        if is_after_cursor(&self.ask, place, doc, number) {
+        if is_after_cursor(ask, place, doc, number) {
             keep_row(
                 self.alloc,
                 &mut found.first,
                 self.most(),
-                &self.ask,
+                ask,
                 place,
                 doc,
                 number,
@@ -249,7 +286,7 @@ impl ShardQuery {
     {
         let first = replace(&mut self.first, BinaryHeap::new(self.alloc));
         ShardTop {
-            shard: self.ask.shard,
+            shard: self.ask.get().shard,
             version,
             count: self.count,
             keys: Items::from_vec(first.into_sorted_vec()),

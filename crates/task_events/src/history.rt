@@ -1,4 +1,5 @@
-ghost use Rattle.std.specs.Prelude.{◌≡◌, ◌∷◌, [], ◌++◌, ◌<◌, ◌+◌, ◌↔◌, length, reverse, slice_get, option_copied, IfErr, IsErrOf, IsTrue, OnOk, OnErr};
+ghost use Rattle.std.specs.Prelude.{◌≡◌, ◌∷◌, [], ◌++◌, ◌<◌, ◌≤◌, ◌+◌, ◌↔◌, length, reverse, flat_map, slice_get, option_copied, vec_len, vec_capacity, IfErr, IsErrOf, IsTrue, OnOk, OnErr};
+ghost use Rattle.std.specs.List.{All};
 
 use crate::event::Event;
 use crate::events::Events;
@@ -56,6 +57,7 @@ pub enum PushError {
 /// Puts a piece, which is to be full, behind the full ones, and an empty one into its place.
 fn begin_piece(full: &mut Vec<Vec<Event>>, last: &mut Vec<Event>) -> Result<(), AllocError>
     ensures ok { OnOk result ((full.new.items ≡ full.old.items ++ last.old ∷ []) × (last.new.items ≡ [])) }
+    ensures room { OnOk result (vec_len last.new < vec_capacity last.new) }
     ensures err { OnErr result ((full.new.items ≡ full.old.items) × (last.new ≡ last.old)) }
 {
     let empty = Vec::with_capacity(*full.allocator(), PIECE)?;
@@ -67,6 +69,22 @@ fn begin_piece(full: &mut Vec<Vec<Event>>, last: &mut Vec<Event>) -> Result<(), 
             Err(AllocError)
         }
     }
+}
+
+/// Makes room for one event more in the last piece, or begins a new one where that is full.
+fn make_room(full: &mut Vec<Vec<Event>>, last: &mut Vec<Event>) -> Result<(), AllocError>
+    requires full { All (λ piece. length piece.items ≡ PIECE) full.old.items }
+    requires fits { length last.old.items ≤ PIECE }
+    ensures full { All (λ piece. length piece.items ≡ PIECE) full.new.items }
+    ensures fits { length last.new.items ≤ PIECE }
+    ensures same { flat_map (λ piece. piece.items) full.new.items ++ last.new.items
+        ≡ flat_map (λ piece. piece.items) full.old.items ++ last.old.items }
+    ensures room { OnOk result ((length last.new.items < PIECE) × (vec_len last.new < vec_capacity last.new)) }
+{
+    if last.len() < PIECE {
+        return last.reserve(1);
+    }
+    begin_piece(full, last)
 }
 
 impl History {
@@ -95,18 +113,13 @@ impl History {
         if self.len() == MAX_EVENTS {
             return Err(PushError::Full(event));
         }
-        let mut counts = self.counts;
-        counts.count(&event);
-        if self.last.len() == PIECE && begin_piece(&mut self.full, &mut self.last).is_err() {
+        if make_room(&mut self.full, &mut self.last).is_err() {
             return Err(PushError::Memory(event));
         }
-        match self.last.push(event) {
-            Ok(()) => {
-                self.counts = counts;
-                Ok(())
-            }
-            Err(failed) => Err(PushError::Memory(failed.value)),
-        }
+        // nothing fails any more, so the event is counted in place
+        self.counts.count(&event);
+        self.last.push_reserved(event);
+        Ok(())
     }
 
     /// The event at a place, from the oldest at 0. There is none exactly past the end.

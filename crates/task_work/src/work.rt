@@ -37,8 +37,8 @@ pub enum Work {
 }
 
 impl Work {
-    /// The work of a new task; that of a page is over the context that is given. It copies what is asked for. It fails only for
-    /// want of memory.
+    /// The work of a new task; that of a page is over the context that is given. It copies what is asked for, or shares it. It fails
+    /// only for want of memory.
     pub fn new(
         alloc: Global,
         task: TaskId,
@@ -58,12 +58,12 @@ impl Work {
                 Ok(Work::Search(root))
             }
             Request::Query(ask) => {
-                let ask = ask.get().copy()?;
-                Ok(Work::Query(ShardQuery::new(alloc, ask), None))
+                let query = ShardQuery::new(alloc, ask.copy()?);
+                Ok(Work::Query(query, None))
             }
             Request::Fetch(ask) => {
-                let ask = ask.get().copy()?;
-                Ok(Work::Fetch(ShardFetch::new(alloc, ask), None))
+                let fetch = ShardFetch::new(alloc, ask.copy()?);
+                Ok(Work::Fetch(fetch, None))
             }
             Request::Scroll(_) => {
                 let Some(context) = context else {

@@ -95,6 +95,7 @@ fn turned(query: &mut ShardQuery, shard: &Shard) -> Option<ShardTop>
 
 /// What a query finds in its first turn.
 pub(crate) fn top_in(alloc: Global, shard: &Shard, ask: ShardAsk) -> Option<ShardTop> {
+    let ask = Shared::new(alloc, ask).ok()?;
     let mut query = ShardQuery::new(alloc, ask);
     turned(&mut query, shard)
 }
@@ -160,6 +161,7 @@ fn a_cursor_passes_over_itself_and_what_stands_before(rt: HostRuntime) {
 
 /// The hits of a fetch.
 pub(crate) fn hits_in(alloc: Global, shard: &Shard, ask: FetchAsk) -> Option<Items<Hit>> {
+    let ask = Shared::new(alloc, ask).ok()?;
     let mut fetch = ShardFetch::new(alloc, ask);
     match fetch.turn(shard) {
         Ok(FetchAnswer::Ready(hits)) => Some(hits),

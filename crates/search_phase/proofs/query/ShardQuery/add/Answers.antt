@@ -10,13 +10,13 @@ use Rattle.search_phase.proofs.query.ShardQuery.add.Goals.{else-not-all-via-then
 
 pub returns-then-not-is_found-clause-first : goal.returns-then-not-is_found-clause-first
 returns-then-not-is_found-clause-first c =
-    let same = ap (λ (q : QueryState). q.ask) c.self.view_is in
+    let same = c.get-ask.ensures ∙ ap (λ (q : QueryState). q.ask) c.self.view_is in
     passed_over c.args.self.now.ask (c.args.place, c.args.doc.now) (heap_items c.args.found.now.first) c.requires.few
     (ap (λ (a : ShardAsk). is_found a.body a.slice c.args.doc.now) (sym same) ∙ sym c.is_found.ensures ∙ c.if-not-is_found.true)
 
 pub returns-in_ok-keep_row-clause-first : goal.returns-in_ok-keep_row-clause-first
 returns-in_ok-keep_row-clause-first c =
-    let same = ap (λ (q : QueryState). q.ask) c.self.view_is in
+    let same = c.get-ask.ensures ∙ ap (λ (q : QueryState). q.ask) c.self.view_is in
     let matches : is_found c.args.self.now.ask.body c.args.self.now.ask.slice c.args.doc.now ≡ true =
     elim c.else-not-all.branch [
       | else-not-all-via-then-not-all+else-not-is_found w ↦ ap (λ (a : ShardAsk). is_found a.body a.slice c.args.doc.now) (sym same) ∙ sym w.is_found.ensures ∙ w.if-not-is_found.false
@@ -25,12 +25,12 @@ returns-in_ok-keep_row-clause-first c =
     kept_one c.args.self.now.ask (c.args.place, c.args.doc.now) (heap_items c.args.found.now.first) c.requires.few (heap_items c.keep_row.new.first) matches
     (ap (λ (a : ShardAsk). is_after a.after (hit_key a.body a.shard (c.args.place, c.args.doc.now))) (sym same) ∙ sym c.is_after_cursor.ensures ∙ c.if-is_after_cursor.true)
     (c.in_ok-keep_row.ensures.keys
-    ∙ ap (λ n. take n (placed (hit_key c.self.inside.ask.body c.self.inside.ask.shard (c.args.place, c.args.doc.now)) (in_hit_order (heap_items c.args.found.now.first)))) c.most.ensures
+    ∙ ap (λ n. take n (placed (hit_key c.get-ask.result.now.body c.get-ask.result.now.shard (c.args.place, c.args.doc.now)) (in_hit_order (heap_items c.args.found.now.first)))) c.most.ensures
     ∙ ap (λ (a : ShardAsk). take (window c.args.self.now.ask.body) (placed (hit_key a.body a.shard (c.args.place, c.args.doc.now)) (in_hit_order (heap_items c.args.found.now.first)))) same)
 
 pub returns-else-is_after_cursor-clause-first : goal.returns-else-is_after_cursor-clause-first
 returns-else-is_after_cursor-clause-first c =
-    let same = ap (λ (q : QueryState). q.ask) c.self.view_is in
+    let same = c.get-ask.ensures ∙ ap (λ (q : QueryState). q.ask) c.self.view_is in
     let matches : is_found c.args.self.now.ask.body c.args.self.now.ask.slice c.args.doc.now ≡ true =
     elim c.else-not-all.branch [
       | else-not-all-via-then-not-all+else-not-is_found w ↦ ap (λ (a : ShardAsk). is_found a.body a.slice c.args.doc.now) (sym same) ∙ sym w.is_found.ensures ∙ w.if-not-is_found.false

@@ -17,7 +17,7 @@ pub returns-then-most-eq0-clause-count : goal.returns-then-most-eq0-clause-count
 returns-then-most-eq0-clause-count c =
     let q = c.args.self.now in
     let next = next_rows q c.args.version c.args.shard.now in
-    let certain = ap (λ (s : QueryState). counts_all s.ask) (sym c.self.view_is) ∙ sym c.counts_all-all.ensures ∙ c.if-all.true in
+    let certain = ap (λ (s : QueryState). counts_all s.ask) (sym c.self.view_is) ∙ sym (c.counts_all-all.ensures ∙ ap counts_all c.get.ensures) ∙ c.if-all.true in
     ap length c.requires ∙ length-map next (λ (r : Row). r.0) ∙ sym (all_counted q c.args.version c.args.shard.now next certain (all_next q c.args.version c.args.shard.now))
 
 pub loop-place-init : goal.loop-place-init
@@ -60,7 +60,7 @@ add-requires-clause-certain c = λ all.
     let q = c.args.self.now in
     let row = here q c.args.version c.args.shard.now c.args.places.now c.requires c.loop-place.place-index c.loop-place-test.true in
     let same = is_row q c.args.version c.args.shard.now c.args.places.now c.requires c.loop-place.place-index c.loop-place-test.true c.in-Some.doc.now c.in-Some.ensures in
-    let certain = ap (λ (s : QueryState). counts_all s.ask) (sym c.self.view_is) ∙ sym c.counts_all-all.ensures ∙ all in
+    let certain = ap (λ (s : QueryState). counts_all s.ask) (sym c.self.view_is) ∙ sym (c.counts_all-all.ensures ∙ ap counts_all c.get.ensures) ∙ all in
     ap (λ (r : Row). is_found q.ask.body q.ask.slice r.1) same ∙ counted q.ask row.row certain row.has.picked
 
 pub add-requires-clause-ordered : goal.add-requires-clause-ordered
