@@ -6,10 +6,14 @@ ghost use Rattle.task_events.specs.Kinds.{kind_of, action_of, description_of, no
 ghost use Rattle.task_events.specs.Looking.{shard_description};
 ghost use Rattle.task_events.specs.SliceTask.{reindex_description};
 
+use itoa::Buffer;
 use shard_docs::node_of;
 use std::alloc::{AllocError, Global};
 use task_events::{BulkAsk, BulkShardAsk, ReindexAsk, Request, SliceAsk};
 use task_ids::{Action, Cluster, TaskId, Text};
+
+/// How many bytes the description of work on a shard has beside its index and its shard.
+const BRACKETS: usize = "shardId[[][]]".len();
 
 /// The action of the task that a request asks for.
 pub fn action_of(request: &Request) -> Action
@@ -26,11 +30,19 @@ pub fn action_of(request: &Request) -> Action
     }
 }
 
-/// What work on a shard of an index is called.
+/// What work on a shard of an index is called. Most tasks are work on a shard, so its room is taken at once.
 fn shard_description(alloc: Global, index: &str, shard: u32) -> Result<Text, AllocError>
     ensures { IfOk result (λ text. text ≡ shard_description index.now shard) }
 {
-    Ok(Text::new(format!(in alloc; "shardId[[{index}][{shard}]]")?))
+    let mut digits = Buffer::new();
+    let shard = digits.format(shard);
+    let mut text = String::with_capacity(alloc, index.len() + shard.len() + BRACKETS)?;
+    text.push_str("shardId[[")?;
+    text.push_str(index)?;
+    text.push_str("][")?;
+    text.push_str(shard)?;
+    text.push_str("]]")?;
+    Ok(Text::new(text))
 }
 
 /// What a page of a context is called.

@@ -23,7 +23,7 @@ module _ (t : TaskId) where
   pub all_left : (o : Option Context) → can_clear (Some t) o ≡ false → without_owned t o ≡ o
   all_left o e = ap (λ b. cond b None o) e
 
-  unowned : (o : Option Context) → is_of t o ≡ false → can_clear (Some t) o ≡ false
+  pub unowned : (o : Option Context) → is_of t o ≡ false → can_clear (Some t) o ≡ false
   unowned None e = refl
   unowned (Some c) e = ap (λ b. b && not (is_busy c)) e
 

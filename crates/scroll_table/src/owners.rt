@@ -23,7 +23,7 @@ pub(crate) struct Owned {
     pub(crate) id: TaskId,
 }
 
-/// The contexts that have an owner. Each call costs a logarithm.
+/// The contexts that have an owner. Each change and each search costs a logarithm.
 #[derive(Drop)]
 pub(crate) struct Owners {
     pairs: BTreeSet<Owned>,
@@ -59,6 +59,13 @@ impl Owners {
         if let Some(owner) = owner {
             self.pairs.remove(&Owned { owner, id });
         }
+    }
+
+    /// Whether no context has an owner, which costs no search.
+    pub(crate) fn is_empty(&self) -> bool
+        ensures { result ≡ true → (owner id : TaskId) → owns self.now owner id ≡ false }
+    {
+        self.pairs.is_empty()
     }
 
     /// The next context of an owner in the order of ids: the first one after this id, or of all where there is none.

@@ -156,10 +156,14 @@ impl ScrollTable {
         )
     }
 
-    /// Takes each context away that belongs to this task, unless a task uses it. It looks at no other, and takes no memory.
+    /// Takes each context away that belongs to this task, unless a task uses it. It looks at no other, and takes no memory. It is called
+    /// whenever a task ends, and mostly no context belongs to any task: then it searches for none.
     pub fn clear_owned(&mut self, owner: TaskId)
         ensures { (id : TaskId) → finite.get self.new id ≡ without_owned owner (finite.get self.old id) }
     {
+        if self.owners.is_empty() {
+            return;
+        }
         clear_each(
             &mut self.contexts,
             &mut self.ends,
