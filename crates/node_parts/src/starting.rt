@@ -11,7 +11,7 @@ use crate::running::Running;
 use child_track::ChildTrack;
 use std::alloc::{AllocError, Global};
 use task_events::{Context, Request, ScrollAsk, Stop};
-use task_ids::{Cluster, Headers, NewTask, TaskId};
+use task_ids::{Boxed, Cluster, Headers, NewTask, TaskId};
 use task_table::Ticket;
 use task_work::Work;
 
@@ -47,6 +47,20 @@ fn page_in(request: &Request) -> Option<ScrollAsk>
     }
 }
 
+/// A task in an allocation of its own, so that a table of tasks moves no more of it than where it lies.
+fn boxed(alloc: Global, running: Running) -> Result<Boxed<Running>, Stop>
+    ensures running { IfOk result (λ boxed. boxed ≡ running) }
+    ensures err { IfErr result (λ stop. stop ≡ Stop.Memory) }
+{
+    match Boxed::new(alloc, running) {
+        Ok(boxed) => Ok(boxed),
+        Err(failed) => {
+            drop(failed);
+            Err(Stop::Memory)
+        }
+    }
+}
+
 /// The task of a ticket, with the work that is asked of it and what its request carried. A page is given the context that it shows.
 /// Where memory runs out (`Memory`) the ticket is given up.
 pub fn with_work(
@@ -57,7 +71,7 @@ pub fn with_work(
     context: Option<&Context>,
     is_new: bool,
     headers: Headers,
-) -> Result<Running, Stop>
+) -> Result<Boxed<Running>, Stop>
     requires given { is_some context ≡ is_page request.now }
     ensures running { IfOk result (λ running. running ≡ record {
       ticket = ticket;
@@ -75,14 +89,17 @@ pub fn with_work(
 {
     let task = ticket.id();
     match Work::new(alloc, task, request, cluster, context) {
-        Ok(work) => Ok(Running {
-            ticket,
-            track: ChildTrack::new(alloc, task),
-            work,
-            page: page_in(request),
-            is_new,
-            headers,
-        }),
+        Ok(work) => boxed(
+            alloc,
+            Running {
+                ticket,
+                track: ChildTrack::new(alloc, task),
+                work,
+                page: page_in(request),
+                is_new,
+                headers,
+            },
+        ),
         Err(_) => {
             drop(headers);
             ticket.give_up();

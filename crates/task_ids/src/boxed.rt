@@ -18,6 +18,9 @@ impl<X> Model for Boxed<X> {
 }
 
 impl<X> Boxed<X> {
+    ghost use Rattle.std.specs.Borrow.{sem, Lends};
+    ghost use Rattle.task_ids.specs.contracts.boxed.Boxed.{the_row};
+
     /// Moves a value into an allocation. Where memory runs out the value comes back.
     pub fn new(alloc: Global, value: X) -> Result<Boxed<X>, AllocFailed<X>>
         ensures ok { IfOk result (λ boxed. boxed ≡ value) }
@@ -37,6 +40,14 @@ impl<X> Boxed<X> {
         ensures { result.now ≡ self.now }
     {
         &self.held
+    }
+
+    /// The value, which may be changed.
+    pub fn get_mut(&mut self) -> &mut X
+        ensures* lent { sem 𝓛 (Lends (the_row X.row) X.row self.entry result (λ w. w)) }
+        ensures value { result.now ≡ self.old }
+    {
+        &mut self.held
     }
 
     /// The value, which moves out.

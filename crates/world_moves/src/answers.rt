@@ -86,6 +86,7 @@ pub fn deliver_answer(state: &mut State<'_>, nth: usize) -> Result<(), Stop>
     let Some(running) = state.tasks.get_mut(&parent) else {
         unreachable!()
     };
+    let running = running.get_mut();
     running.take_reply(receipt, reply, state.clock)?;
     append(
         &mut state.history,

@@ -41,6 +41,7 @@ pub fn ask(state: &mut State<'_>, task: TaskId, request: Request) -> Result<(), 
     let Some(running) = state.tasks.get_mut(&task) else {
         unreachable!()
     };
+    let running = running.get_mut();
     let Ok(headers) = running.headers.copy() else {
         drop(request);
         return Err(Stop::Memory);

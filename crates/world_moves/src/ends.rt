@@ -31,19 +31,19 @@ use node_parts::running::Running;
 use scroll_table::ScrollTable;
 use std::alloc::Global;
 use task_events::{Do, Event, Reply, Stop};
-use task_ids::TaskId;
+use task_ids::{Boxed, TaskId};
 use task_table::TaskTable;
 use task_work::Work;
 
 /// Takes a task out of the table of its node. Its receipt is left.
-fn end_in(table: &mut TaskTable, running: Running) -> Receipt
+fn end_in(table: &mut TaskTable, running: Boxed<Running>) -> Receipt
     requires live { IsLive table.old running.ticket.id }
     requires track { running.track.task ≡ running.ticket.id }
     requires answered { unanswered running.track ≡ 0 }
     ensures receipt { result ≡ sealed running.track running.ticket.token }
     ensures row { table.new ≡ without_task table.old running.ticket.id.number }
 {
-    let (ticket, track) = running.into_parts();
+    let (ticket, track) = running.into_inner().into_parts();
     let ended = table.end(ticket, track);
     ended.receipt
 }
@@ -64,7 +64,7 @@ fn tell_parent(flight: &mut Flight, receipt: Receipt, at: usize) -> Result<(), S
 fn note_end(
     alloc: Global,
     contexts: &mut Vec<ScrollTable>,
-    running: &Running,
+    running: &Boxed<Running>,
     task: TaskId,
     reply: &Reply,
     now: u64,
@@ -80,6 +80,7 @@ fn note_end(
     ensures as_many { OnOk result (length contexts.new.items ≡ length contexts.old.items) }
     ensures memory { IfErr result (λ stop. stop ≡ Stop.Memory) }
 {
+    let running = running.get();
     let Ok(after) = cursor_of(reply) else {
         return Err(Stop::Memory);
     };
@@ -94,13 +95,14 @@ fn note_end(
 
 /// Notes what it makes of contexts that a cancelled task leaves: the one that it uses is given back, and those go that belong to it. A
 /// child that has not passed has none.
-fn note_leave(contexts: &mut Vec<ScrollTable>, running: &Running, task: TaskId, now: u64)
+fn note_leave(contexts: &mut Vec<ScrollTable>, running: &Boxed<Running>, task: TaskId, now: u64)
     requires used { (id : TaskId) → used_by running.now ≡ Some id → IsSomeAnd (context_in contexts.old.items id) (λ c. IsSome c.busy) }
     ensures left { running.now.is_new ≡ false → (q : TaskId) → context_in contexts.new.items q
         ≡ without_owned task (after_return now (used_by running.now) None q (context_in contexts.old.items q)) }
     ensures refused { running.now.is_new ≡ true → contexts.new.items ≡ contexts.old.items }
     ensures as_many { length contexts.new.items ≡ length contexts.old.items }
 {
+    let running = running.get();
     if running.is_new {
         return;
     }
@@ -244,6 +246,6 @@ pub fn finish_cancelled(state: &mut State<'_>, task: TaskId, cancel: u32) -> Res
     let Some(running) = state.tasks.get(&task) else {
         unreachable!()
     };
-    let reply = running.work.cancelled(task, cancel);
+    let reply = running.get().work.cancelled(task, cancel);
     leave(state, task, Event::End { task, reply })
 }

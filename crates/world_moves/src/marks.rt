@@ -51,6 +51,7 @@ pub fn mark(
     let Some(running) = state.tasks.get_mut(&task) else {
         unreachable!()
     };
+    let running = running.get_mut();
     let asked = running.track.close(cancel);
     let _marked = state.tables[place].mark(task.number, cancel);
     let Ok(acts) = state.cores[place].begin(task, cancel, asked, waiter) else {

@@ -20,15 +20,15 @@ use node_parts::running::Running;
 use scroll_table::ScrollTable;
 use std::collections::BTreeMap;
 use task_events::{Event, MAX_EVENTS, Request, ScrollAsk, Stop};
-use task_ids::TaskId;
+use task_ids::{Boxed, TaskId};
 use task_work::Work;
 
 /// The page that a live task is asked for, where it is asked for one.
-fn page_of(tasks: &BTreeMap<TaskId, Running>, task: TaskId) -> Option<ScrollAsk>
+fn page_of(tasks: &BTreeMap<TaskId, Boxed<Running>>, task: TaskId) -> Option<ScrollAsk>
     ensures { result ≡ option_and_then (λ running. running.page) (task_at tasks.now task) }
 {
     match tasks.get(&task) {
-        Some(running) => running.page,
+        Some(running) => running.get().page,
         None => None,
     }
 }
@@ -57,7 +57,7 @@ fn page_work(state: &State<'_>, task: TaskId, page: Option<ScrollAsk>) -> Result
 }
 
 /// A task passes, and goes on with other work where this is given.
-fn let_pass(tasks: &mut BTreeMap<TaskId, Running>, task: TaskId, work: Option<Work>)
+fn let_pass(tasks: &mut BTreeMap<TaskId, Boxed<Running>>, task: TaskId, work: Option<Work>)
     ensures { (q : TaskId) → task_at tasks.new q
         ≡ cond (is_at (task_id_cmp task) q) (option_map (passed work) (task_at tasks.old q)) (task_at tasks.old q) }
 {
@@ -65,6 +65,7 @@ fn let_pass(tasks: &mut BTreeMap<TaskId, Running>, task: TaskId, work: Option<Wo
         drop(work);
         return;
     };
+    let running = running.get_mut();
     running.is_new = false;
     if let Some(work) = work {
         running.work = work;

@@ -16,7 +16,7 @@ use child_track::AskToken;
 use node_parts::running::Running;
 use std::collections::BTreeMap;
 use task_events::{Event, History, Stop};
-use task_ids::{NewTask, TaskId};
+use task_ids::{Boxed, NewTask, TaskId};
 use task_table::{PutError, TaskTable, Ticket};
 
 /// Puts a task into the table of a node, from 1 on, under the node's next number. It is refused where no slot is free (`Full`),
@@ -62,8 +62,8 @@ pub fn spend(token: Option<AskToken>) {
 /// was appended, and the task may be kept.
 pub fn keep_started(
     history: &mut History,
-    tasks: &mut BTreeMap<TaskId, Running>,
-    running: Running,
+    tasks: &mut BTreeMap<TaskId, Boxed<Running>>,
+    running: Boxed<Running>,
     event: Event,
 ) -> Result<(), Stop>
     ensures happened { OnOk result (history.new ≡ event ∷ history.old) }
@@ -74,7 +74,7 @@ pub fn keep_started(
     ensures numbers { result ≡ Err Stop.NumbersSpent → ⊥ }
     ensures room { OnOk result (length history.new ≤ MAX_EVENTS) }
 {
-    let task = running.ticket.id();
+    let task = running.get().ticket.id();
     match tasks.insert(task, running) {
         Ok(before) => drop(before),
         Err(refused) => {

@@ -10,7 +10,7 @@ use scroll_table::ScrollTable;
 use std::alloc::Global;
 use std::collections::BTreeMap;
 use task_events::History;
-use task_ids::{Cluster, Corpus, TaskId};
+use task_ids::{Boxed, Cluster, Corpus, TaskId};
 use task_table::TaskTable;
 
 /// What the world knows: what has happened, and the tables that say of it what the next step needs.
@@ -30,7 +30,7 @@ pub struct State<'a> {
     /// The clock, in milliseconds.
     pub clock: u64,
     /// The live tasks.
-    pub tasks: BTreeMap<TaskId, Running>,
+    pub tasks: BTreeMap<TaskId, Boxed<Running>>,
     /// The table of each node, from the first on.
     pub tables: Vec<TaskTable>,
     /// The messages that were sent and have not come.

@@ -93,6 +93,7 @@ pub fn turn(state: &mut State<'_>, task: TaskId) -> Result<(), Stop>
     let Some(running) = state.tasks.get_mut(&task) else {
         unreachable!()
     };
+    let running = running.get_mut();
     let Some((index, number)) = running.work.place() else {
         unreachable!()
     };

@@ -35,7 +35,7 @@ fn ban_over(state: &State<'_>, task: TaskId) -> Option<u32>
     ensures { result ≡ ban_over task state.now.history }
 {
     let running = state.tasks.get(&task)?;
-    let parent = running.ticket.parent()?;
+    let parent = running.get().ticket.parent()?;
     state.bans[task.node as usize - 1].find(parent)
 }
 
@@ -129,6 +129,7 @@ pub(crate) fn act(state: &mut State<'_>, task: TaskId) -> Result<Stepped, Stop>
     let Some(running) = state.tasks.get(&task) else {
         return Ok(Stepped::NotRunning);
     };
+    let running = running.get();
     if running.is_new {
         return first_step(state, task);
     }

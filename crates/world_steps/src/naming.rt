@@ -27,7 +27,7 @@ fn is_marked(state: &State<'_>, task: TaskId) -> bool
     ensures { result ≡ is_some (mark_of task state.now.history) }
 {
     match state.tasks.get(&task) {
-        Some(running) => running.track.closed().is_some(),
+        Some(running) => running.get().track.closed().is_some(),
         None => unreachable!(),
     }
 }

@@ -6,7 +6,8 @@ ghost use Rattle.task_ids.specs.declared.doc.Doc.{Doc};
 ghost use Rattle.task_ids.specs.TaskIdOrder.{task_id_cmp};
 ghost use Rattle.task_events.specs.Same.{same_task};
 ghost use Rattle.world_moves.specs.Facts.{about};
-ghost use Rattle.world_moves.specs.Ties.{IsTied};
+ghost use Rattle.std.specs.Option.{option_copied};
+ghost use Rattle.world_moves.specs.Ties.{IsTied, task_at};
 ghost use Rattle.node_parts.specs.Running.{can_act};
 ghost use Rattle.world_steps.specs.Alarms.{AreAlarms, alarm_at};
 ghost use Rattle.world_steps.specs.World.{HasReady, HadReady, alarm_in, due_by, ready_in, HasAlarmed, HasNoted};
@@ -83,36 +84,54 @@ fn due(running: &Running, now: u64) -> Option<u64>
     running.work.due(now)
 }
 
-/// Whether a task is live and does not wait.
-fn is_ready(state: &State<'_>, task: TaskId) -> bool
-    requires tied { IsTied state.now }
-    ensures { result ≡ ready_in state.now task }
+/// A live task, as it is kept.
+fn kept<'s>(state: &'s State<'_>, task: TaskId) -> Option<&'s Running>
+    ensures { option_copied result ≡ task_at state.now.tasks task }
 {
     match state.tasks.get(&task) {
+        Some(running) => Some(running.get()),
+        None => None,
+    }
+}
+
+/// Whether a task is live and does not wait, which is kept as is given.
+fn is_ready(state: &State<'_>, task: TaskId, kept: Option<&Running>) -> bool
+    requires tied { IsTied state.now }
+    requires kept { option_copied kept.entry ≡ task_at state.now.tasks task }
+    ensures { result ≡ ready_in state.now task }
+{
+    match kept {
         Some(running) => can_act(running, state.clock),
         None => false,
     }
 }
 
-/// The moment for which a task waits, where it waits for one.
-fn alarm_of(state: &State<'_>, task: TaskId) -> Option<u64>
+/// The moment for which a task waits, where it waits for one, which is kept as is given.
+fn alarm_of(state: &State<'_>, task: TaskId, kept: Option<&Running>) -> Option<u64>
     requires tied { IsTied state.now }
+    requires kept { option_copied kept.entry ≡ task_at state.now.tasks task }
     ensures { result ≡ alarm_in state.now task }
 {
-    match state.tasks.get(&task) {
+    match kept {
         Some(running) => due(running, state.clock),
         None => None,
     }
 }
 
-/// Notes whether a task does not wait now.
-fn note_ready(state: &State<'_>, tasks: &mut RankedSet<TaskId>, task: TaskId) -> Result<(), Stop>
+/// Notes whether a task does not wait now, which is kept as is given.
+fn note_ready(
+    state: &State<'_>,
+    tasks: &mut RankedSet<TaskId>,
+    task: TaskId,
+    kept: Option<&Running>,
+) -> Result<(), Stop>
     requires tied { IsTied state.now }
+    requires kept { option_copied kept.entry ≡ task_at state.now.tasks task }
     ensures known { OnOk result ((q : TaskId) → contains task_id_cmp tasks.new q
         ≡ (if same_task task q then ready_in state.now q else contains task_id_cmp tasks.old q)) }
     ensures memory { IfErr result (λ stop. stop ≡ Stop.Memory) }
 {
-    if !is_ready(state, task) {
+    if !is_ready(state, task, kept) {
         tasks.remove(&task);
         return Ok(());
     }
@@ -122,16 +141,22 @@ fn note_ready(state: &State<'_>, tasks: &mut RankedSet<TaskId>, task: TaskId) ->
     }
 }
 
-/// Notes for which moment a task waits now, if it waits for one.
-fn note_alarm(state: &State<'_>, alarms: &mut Alarms, task: TaskId) -> Result<(), Stop>
+/// Notes for which moment a task waits now, if it waits for one, which is kept as is given.
+fn note_alarm(
+    state: &State<'_>,
+    alarms: &mut Alarms,
+    task: TaskId,
+    kept: Option<&Running>,
+) -> Result<(), Stop>
     requires tied { IsTied state.now }
+    requires kept { option_copied kept.entry ≡ task_at state.now.tasks task }
     requires kept { AreAlarms alarms.old }
     ensures kept { AreAlarms alarms.new }
     ensures known { OnOk result ((q : TaskId) → alarm_at alarms.new q
         ≡ (if same_task task q then alarm_in state.now q else alarm_at alarms.old q)) }
     ensures memory { IfErr result (λ stop. stop ≡ Stop.Memory) }
 {
-    let Some(moment) = alarm_of(state, task) else {
+    let Some(moment) = alarm_of(state, task, kept) else {
         alarms.remove(task);
         return Ok(());
     };
@@ -154,8 +179,9 @@ fn note_events(state: &State<'_>, ready: &mut Ready, before: usize) -> Result<()
             unreachable!()
         };
         if let Some(task) = task_of(event) {
-            note_ready(state, &mut ready.tasks, task)?;
-            note_alarm(state, &mut ready.alarms, task)?;
+            let running = kept(state, task);
+            note_ready(state, &mut ready.tasks, task, running)?;
+            note_alarm(state, &mut ready.alarms, task, running)?;
         }
     }
     Ok(())
@@ -169,7 +195,7 @@ fn ring(state: &State<'_>, ready: &mut Ready) -> Result<(), Stop>
     ensures memory { IfErr result (λ stop. stop ≡ Stop.Memory) }
 {
     while let Some(task) = ready.alarms.take_due(state.clock) {
-        note_ready(state, &mut ready.tasks, task)?;
+        note_ready(state, &mut ready.tasks, task, kept(state, task))?;
     }
     Ok(())
 }

@@ -22,7 +22,7 @@ use shared_value::Shared;
 use std::alloc::Global;
 use std::collections::BTreeMap;
 use task_events::{Event, History, ReindexAsk, Request, ScrollAsk, SearchAsk, Stop};
-use task_ids::{Headers, NewTask, TaskId};
+use task_ids::{Boxed, Headers, NewTask, TaskId};
 use task_table::PutError;
 use world_moves::append::append;
 use world_moves::pages::{clear, page_asked, take};
@@ -70,10 +70,10 @@ pub(crate) fn begin(state: &mut State<'_>, command: u32) -> Result<(), Stop>
 /// Keeps the task of a root, and notes of which command it is and that it starts.
 fn keep_root(
     history: &mut History,
-    tasks: &mut BTreeMap<TaskId, Running>,
+    tasks: &mut BTreeMap<TaskId, Boxed<Running>>,
     roots: &mut BTreeMap<u32, TaskId>,
     command: u32,
-    running: Running,
+    running: Boxed<Running>,
 ) -> Result<(), Stop>
     ensures happened { OnOk result (history.new ≡ Event.Root command running.ticket.id ∷ history.old) }
     ensures kept { OnOk result ((q : TaskId) → task_at tasks.new q
@@ -85,7 +85,7 @@ fn keep_root(
     ensures numbers { result ≡ Err Stop.NumbersSpent → ⊥ }
     ensures room { OnOk result (length history.new ≤ MAX_EVENTS) }
 {
-    let task = running.ticket.id();
+    let task = running.get().ticket.id();
     match roots.insert(command, task) {
         Ok(_) => keep_started(history, tasks, running, Event::Root { command, task }),
         Err(_) => {

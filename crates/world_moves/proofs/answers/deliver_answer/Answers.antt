@@ -38,14 +38,14 @@ unreachable-requires-in_default-get_mut c =
 pub take_reply-requires-clause-own : goal.take_reply-requires-clause-own
 take_reply-requires-clause-own c =
     let s = c.args.state.now in
-    let was = sym c.get_mut.ensures.value ∙ ap option_copied_mut c.in-Some-get_mut.is in
-    own s.cluster s.corpus.now s.script.now s.history _ _ _ c.requires.tied.ties c.args.nth c.take_answer-receipt.result.0 c.take_answer-receipt.result.1 c.take_answer-receipt.ensures.taken c.in-Some.parent (sym c.parent.ensures ∙ c.in-Some.is) c.in_ok-reply.reply c.in_ok-reply.ensures.reply c.in-Some-get_mut.running.now was
+    let was = sym c.get_mut.ensures.value ∙ ap option_copied_mut c.in-Some-get_mut.is ∙ ap Some (sym c.get_mut-running.ensures.value) in
+    own s.cluster s.corpus.now s.script.now s.history _ _ _ c.requires.tied.ties c.args.nth c.take_answer-receipt.result.0 c.take_answer-receipt.result.1 c.take_answer-receipt.ensures.taken c.in-Some.parent (sym c.parent.ensures ∙ c.in-Some.is) c.in_ok-reply.reply c.in_ok-reply.ensures.reply c.get_mut-running.result.now was
 
 pub take_reply-requires-clause-takes : goal.take_reply-requires-clause-takes
 take_reply-requires-clause-takes c =
     let s = c.args.state.now in
-    let was = sym c.get_mut.ensures.value ∙ ap option_copied_mut c.in-Some-get_mut.is in
-    takes_reply s.cluster s.corpus.now s.script.now s.history _ _ _ c.requires.tied.ties c.args.nth c.take_answer-receipt.result.0 c.take_answer-receipt.result.1 c.take_answer-receipt.ensures.taken c.in-Some.parent (sym c.parent.ensures ∙ c.in-Some.is) c.in_ok-reply.reply c.in_ok-reply.ensures.reply c.in-Some-get_mut.running.now was
+    let was = sym c.get_mut.ensures.value ∙ ap option_copied_mut c.in-Some-get_mut.is ∙ ap Some (sym c.get_mut-running.ensures.value) in
+    takes_reply s.cluster s.corpus.now s.script.now s.history _ _ _ c.requires.tied.ties c.args.nth c.take_answer-receipt.result.0 c.take_answer-receipt.result.1 c.take_answer-receipt.ensures.taken c.in-Some.parent (sym c.parent.ensures ∙ c.in-Some.is) c.in_ok-reply.reply c.in_ok-reply.ensures.reply c.get_mut-running.result.now was
 
 pub take_reply-requires-clause-moment : goal.take_reply-requires-clause-moment
 take_reply-requires-clause-moment c = c.requires.tied.tells.clock_fits
@@ -60,14 +60,14 @@ returns-clause-delivered c =
 pub returns-clause-tied : goal.returns-clause-tied
 returns-clause-tied c =
     let s = c.args.state.now in
-    let was = sym c.get_mut.ensures.value ∙ ap option_copied_mut c.in-Some-get_mut.is in
+    let was = sym c.get_mut.ensures.value ∙ ap option_copied_mut c.in-Some-get_mut.is ∙ ap Some (sym c.get_mut-running.ensures.value) in
     let w = c.take_reply.new.self in
     let changed = ((c.get_mut.follows.holds w).3 (some_of _ _ was)).0 in
-    let here = at_changed c.in-Some.parent (Some w) (task_at s.tasks) _ changed ∙ ap Some (c.in_ok-take_reply.ensures.taken ∙ ap (running_with_answer c.in-Some-get_mut.running.now c.take_answer-receipt.result.0.ask c.in_ok-reply.reply) c.requires.tied.tells.clock_is) in
+    let here = at_changed c.in-Some.parent (Some w) (task_at s.tasks) _ changed ∙ ap Some (c.in_ok-take_reply.ensures.taken ∙ ap (running_with_answer c.get_mut-running.result.now c.take_answer-receipt.result.0.ask c.in_ok-reply.reply) c.requires.tied.tells.clock_is) in
     let others = off_changed c.in-Some.parent (Some w) (task_at s.tasks) _ changed in
     then_ok c.append.result _ _ c.append.ensures.ok (λ came. (let happened = came ∙ ap (λ k. Answered c.in-Some.parent k ∷ s.history) c.ask.ensures in record {
       ties = same_ties s.cluster s.corpus.now s.script.now _ _ _ _ _ _ _ happened refl c.take_answer-receipt.ensures.rest
-          (after_answer s.cluster s.corpus.now s.script.now s.history _ _ _ c.requires.tied.ties c.args.nth c.take_answer-receipt.result.0 c.take_answer-receipt.result.1 c.take_answer-receipt.ensures.taken c.in-Some.parent (sym c.parent.ensures ∙ c.in-Some.is) c.in_ok-reply.reply c.in_ok-reply.ensures.reply c.in-Some-get_mut.running.now was c.requires.tied.awaits _ here others);
+          (after_answer s.cluster s.corpus.now s.script.now s.history _ _ _ c.requires.tied.ties c.args.nth c.take_answer-receipt.result.0 c.take_answer-receipt.result.1 c.take_answer-receipt.ensures.taken c.in-Some.parent (sym c.parent.ensures ∙ c.in-Some.is) c.in_ok-reply.reply c.in_ok-reply.ensures.reply c.get_mut-running.result.now was c.requires.tied.awaits _ here others);
       cancels = same_cancels s.cluster _ _ _ _ _ _ _ _ happened refl
           (noted s.cluster (λ t. waiting_for t s.history) s.history _ _ _ _ _ c.requires.tied.cancels (Answered c.in-Some.parent c.take_answer-receipt.result.0.ask) refl refl);
       counts = rw happened (still_counts None (Answered c.in-Some.parent c.take_answer-receipt.result.0.ask) s.history _ refl c.requires.tied.counts);

@@ -22,29 +22,29 @@ use Rattle.world_moves.proofs.asks.ask.Goals as goal
 pub ask-requires-clause-few : goal.ask-requires-clause-few
 ask-requires-clause-few c =
     let s = c.args.state.now in
-    let was = sym c.get_mut.ensures.value ∙ ap option_copied_mut c.in-Some.is in
-    let planned : PlansToAsk (Some c.in-Some.running.now) s.clock c.args.request = rw was at c.requires.planned in
-    few_asks s.cluster s.corpus.now s.script.now s.history _ _ _ c.requires.tied.ties c.args.task c.args.request c.requires.live c.requires.passed s.clock c.in-Some.running.now was planned
+    let was = sym c.get_mut.ensures.value ∙ ap option_copied_mut c.in-Some.is ∙ ap Some (sym c.get_mut-running.ensures.value) in
+    let planned : PlansToAsk (Some c.get_mut-running.result.now) s.clock c.args.request = rw was at c.requires.planned in
+    few_asks s.cluster s.corpus.now s.script.now s.history _ _ _ c.requires.tied.ties c.args.task c.args.request c.requires.live c.requires.passed s.clock c.get_mut-running.result.now was planned
 
 pub ask-requires-clause-open : goal.ask-requires-clause-open
 ask-requires-clause-open c =
     let s = c.args.state.now in
-    let was = sym c.get_mut.ensures.value ∙ ap option_copied_mut c.in-Some.is in
-    let planned : PlansToAsk (Some c.in-Some.running.now) s.clock c.args.request = rw was at c.requires.planned in
-    track_open s.cluster s.corpus.now s.script.now s.history _ _ _ c.requires.tied.ties c.args.task c.args.request c.requires.live c.requires.passed s.clock c.in-Some.running.now was planned c.requires.unmarked
+    let was = sym c.get_mut.ensures.value ∙ ap option_copied_mut c.in-Some.is ∙ ap Some (sym c.get_mut-running.ensures.value) in
+    let planned : PlansToAsk (Some c.get_mut-running.result.now) s.clock c.args.request = rw was at c.requires.planned in
+    track_open s.cluster s.corpus.now s.script.now s.history _ _ _ c.requires.tied.ties c.args.task c.args.request c.requires.live c.requires.passed s.clock c.get_mut-running.result.now was planned c.requires.unmarked
 
 pub ask-requires-clause-can : goal.ask-requires-clause-can
 ask-requires-clause-can c =
     let s = c.args.state.now in
-    let was = sym c.get_mut.ensures.value ∙ ap option_copied_mut c.in-Some.is in
-    let planned : PlansToAsk (Some c.in-Some.running.now) s.clock c.args.request = rw was at c.requires.planned in
-    can_now s.cluster s.corpus.now s.script.now s.history _ _ _ c.requires.tied.ties c.args.task c.args.request c.requires.live c.requires.passed s.clock c.in-Some.running.now was planned
+    let was = sym c.get_mut.ensures.value ∙ ap option_copied_mut c.in-Some.is ∙ ap Some (sym c.get_mut-running.ensures.value) in
+    let planned : PlansToAsk (Some c.get_mut-running.result.now) s.clock c.args.request = rw was at c.requires.planned in
+    can_now s.cluster s.corpus.now s.script.now s.history _ _ _ c.requires.tied.ties c.args.task c.args.request c.requires.live c.requires.passed s.clock c.get_mut-running.result.now was planned
 
 pub returns-clause-happened : goal.returns-clause-happened
 returns-clause-happened c =
     let s = c.args.state.now in
-    let r = c.in-Some.running.now in
-    let was = sym c.get_mut.ensures.value ∙ ap option_copied_mut c.in-Some.is in
+    let r = c.get_mut-running.result.now in
+    let was = sym c.get_mut.ensures.value ∙ ap option_copied_mut c.in-Some.is ∙ ap Some (sym c.get_mut-running.ensures.value) in
     let planned : PlansToAsk (Some r) s.clock c.args.request = rw was at c.requires.planned in
     let next = number_is s.cluster s.corpus.now s.script.now s.history _ _ _ c.requires.tied.ties c.args.task c.args.request c.requires.live c.requires.passed s.clock r was planned in
     let number : c.ask-number.result ≡ last_ask c.args.task s.history + 1 = c.ask-number.ensures ∙ ap (λ t. t.ask) c.in-Ok-ask.ensures.token ∙ next in
@@ -53,8 +53,8 @@ returns-clause-happened c =
 pub returns-clause-tied : goal.returns-clause-tied
 returns-clause-tied c =
     let s = c.args.state.now in
-    let r = c.in-Some.running.now in
-    let was = sym c.get_mut.ensures.value ∙ ap option_copied_mut c.in-Some.is in
+    let r = c.get_mut-running.result.now in
+    let was = sym c.get_mut.ensures.value ∙ ap option_copied_mut c.in-Some.is ∙ ap Some (sym c.get_mut-running.ensures.value) in
     let planned : PlansToAsk (Some r) s.clock c.args.request = rw was at c.requires.planned in
     let next = number_is s.cluster s.corpus.now s.script.now s.history _ _ _ c.requires.tied.ties c.args.task c.args.request c.requires.live c.requires.passed s.clock r was planned in
     let number : c.ask-number.result ≡ last_ask c.args.task s.history + 1 = c.ask-number.ensures ∙ ap (λ t. t.ask) c.in-Ok-ask.ensures.token ∙ next in

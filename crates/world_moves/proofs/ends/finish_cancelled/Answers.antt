@@ -1,4 +1,4 @@
-use Rattle.std.proofs.Common.{◌≡◌, ◌∙◌, refl, ap, sym, subst}
+use Rattle.std.proofs.Common.{◌≡◌, ◌∙◌, Some, refl, ap, sym, subst}
 use Rattle.std.specs.Prelude.{option_map, OnOk, OnErr, Err}
 use Rattle.std.specs.Option.{option_copied}
 use Rattle.task_events.specs.declared.reply.Reply.TheVariants.{Cancelled}
@@ -21,7 +21,7 @@ pub leave-requires-clause-leaves : goal.leave-requires-clause-leaves
 leave-requires-clause-leaves c =
     let s = c.args.state.now in
     let t = c.args.task in
-    let was = sym c.get.ensures.value ∙ ap option_copied c.in-Some.is in
+    let was = sym c.get.ensures.value ∙ ap option_copied c.in-Some.is ∙ ap Some (sym c.get-2.ensures) in
     let counts = counted_so s.cluster s.corpus.now s.script.now s.history _ _ _ c.requires.tied.ties t c.requires.live c.requires.passed _ was in
     let says = c.cancelled-reply.ensures ∙ ap (Cancelled t c.args.cancel) (sym counts) in
     let allowed : EndAllowed t (Cancelled t c.args.cancel (counts_in s t)) s.history = record {
@@ -37,7 +37,7 @@ pub returns-clause-happened : goal.returns-clause-happened
 returns-clause-happened c =
     let s = c.args.state.now in
     let t = c.args.task in
-    let was = sym c.get.ensures.value ∙ ap option_copied c.in-Some.is in
+    let was = sym c.get.ensures.value ∙ ap option_copied c.in-Some.is ∙ ap Some (sym c.get-2.ensures) in
     let counts = counted_so s.cluster s.corpus.now s.script.now s.history _ _ _ c.requires.tied.ties t c.requires.live c.requires.passed _ was in
     let says = c.cancelled-reply.ensures ∙ ap (Cancelled t c.args.cancel) (sym counts) in
     subst (λ reply. OnOk c.leave.result (c.leave.new.state.history ≡ with_due (End t reply) s.history)) says c.leave.ensures.happened
@@ -46,7 +46,7 @@ pub returns-clause-part : goal.returns-clause-part
 returns-clause-part c =
     let s = c.args.state.now in
     let t = c.args.task in
-    let was = sym c.get.ensures.value ∙ ap option_copied c.in-Some.is in
+    let was = sym c.get.ensures.value ∙ ap option_copied c.in-Some.is ∙ ap Some (sym c.get-2.ensures) in
     let counts = counted_so s.cluster s.corpus.now s.script.now s.history _ _ _ c.requires.tied.ties t c.requires.live c.requires.passed _ was in
     let says = c.cancelled-reply.ensures ∙ ap (Cancelled t c.args.cancel) (sym counts) in
     subst (λ reply. OnErr c.leave.result (IsPartOf s.history c.leave.new.state.history (with_due (End t reply) s.history))) says c.leave.ensures.part
@@ -55,7 +55,7 @@ pub returns-clause-full : goal.returns-clause-full
 returns-clause-full c =
     let s = c.args.state.now in
     let t = c.args.task in
-    let was = sym c.get.ensures.value ∙ ap option_copied c.in-Some.is in
+    let was = sym c.get.ensures.value ∙ ap option_copied c.in-Some.is ∙ ap Some (sym c.get-2.ensures) in
     let counts = counted_so s.cluster s.corpus.now s.script.now s.history _ _ _ c.requires.tied.ties t c.requires.live c.requires.passed _ was in
     let says = c.cancelled-reply.ensures ∙ ap (Cancelled t c.args.cancel) (sym counts) in
     subst (λ reply. c.leave.result ≡ Err HistoryFull → IsCutShort (λ past. IsPartOf s.history past (with_due (End t reply) s.history)) c.leave.new.state.history) says c.leave.ensures.full

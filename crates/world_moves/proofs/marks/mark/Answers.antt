@@ -88,8 +88,8 @@ pub returns-clause-tied : goal.returns-clause-tied
 returns-clause-tied c =
     let s = c.args.state.now in
     let t = c.args.task in
-    let r = c.in-Some.running.now in
-    let was = sym c.get_mut.ensures.value ∙ ap option_copied_mut c.in-Some.is in
+    let r = c.get_mut-running.result.now in
+    let was = sym c.get_mut.ensures.value ∙ ap option_copied_mut c.in-Some.is ∙ ap Some (sym c.get_mut-running.ensures.value) in
     let track = (kept_running s.cluster s.corpus.now s.script.now s.history _ _ _ c.requires.ties t c.requires.lawful.0.live r was).track in
     let nodes = asked_nodes s.cluster t s.history c.requires.ties.lawful c.close-asked.result r.track c.close-asked.ensures.nodes (ap (λ track. track.asks) track) in
     let past = c.in_ok-append.ensures.ok in

@@ -16,62 +16,62 @@ use Rattle.command_roots.specs.Roots.{scripted}
 
 pub unreachable-requires-in_default-place : goal.unreachable-requires-in_default-place
 unreachable-requires-in_default-place c =
-    placed c.args.state.now c.requires.tied c.args.task c.in-Some.running.now c.requires.live c.requires.passed c.requires.unmarked (sym c.in-Some.ensures.value) c.requires.next (sym c.in_default-place.ensures)
+    placed c.args.state.now c.requires.tied c.args.task c.get_mut-running.result.now c.requires.live c.requires.passed c.requires.unmarked (sym c.in-Some.ensures.value ∙ ap Some (sym c.get_mut-running.ensures.value)) c.requires.next (sym c.in_default-place.ensures)
 
 -- nothing has come yet
 pub returns-in_default-copy-clause-part : goal.returns-in_default-copy-clause-part
-returns-in_default-copy-clause-part c = nothing_yet c.args.state.now c.requires.tied c.args.task c.in-Some.running.now c.requires.live c.requires.passed c.requires.unmarked (sym c.in-Some.ensures.value) c.requires.next
+returns-in_default-copy-clause-part c = nothing_yet c.args.state.now c.requires.tied c.args.task c.get_mut-running.result.now c.requires.live c.requires.passed c.requires.unmarked (sym c.in-Some.ensures.value ∙ ap Some (sym c.get_mut-running.ensures.value)) c.requires.next
 
 pub returns-in_default-make-clause-part : goal.returns-in_default-make-clause-part
-returns-in_default-make-clause-part c = nothing_yet c.args.state.now c.requires.tied c.args.task c.in-Some.running.now c.requires.live c.requires.passed c.requires.unmarked (sym c.in-Some.ensures.value) c.requires.next
+returns-in_default-make-clause-part c = nothing_yet c.args.state.now c.requires.tied c.args.task c.get_mut-running.result.now c.requires.live c.requires.passed c.requires.unmarked (sym c.in-Some.ensures.value ∙ ap Some (sym c.get_mut-running.ensures.value)) c.requires.next
 
 pub returns-in_default-turn-clause-part : goal.returns-in_default-turn-clause-part
-returns-in_default-turn-clause-part c = nothing_yet c.args.state.now c.requires.tied c.args.task c.in-Some.running.now c.requires.live c.requires.passed c.requires.unmarked (sym c.in-Some.ensures.value) c.requires.next
+returns-in_default-turn-clause-part c = nothing_yet c.args.state.now c.requires.tied c.args.task c.get_mut-running.result.now c.requires.live c.requires.passed c.requires.unmarked (sym c.in-Some.ensures.value ∙ ap Some (sym c.get_mut-running.ensures.value)) c.requires.next
 
 pub get_mut-requires-2 : goal.get_mut-requires-2
 get_mut-requires-2 c =
     let s = c.args.state.now in
     let name : c.as_str-2.result.now ≡ c.in-Some-place.index.now = c.as_str-2.ensures ∙ c.get-2.ensures ∙ c.in-Ok.ensures in
-    let place : place_of c.in-Some.running.now.work ≡ Some (c.as_str-2.result.now, c.in-Some-place.number) = sym c.in-Some-place.ensures ∙ ap (λ index. Some (index, c.in-Some-place.number)) (sym name) in
+    let place : place_of c.get_mut-running.result.now.work ≡ Some (c.as_str-2.result.now, c.in-Some-place.number) = sym c.in-Some-place.ensures ∙ ap (λ index. Some (index, c.in-Some-place.number)) (sym name) in
     let has = c.in-Ok-make.ensures.written (so_far s.corpus.now s.script.now s.history) s.cluster.shards c.requires.tied.oldest c.requires.tied.shards.has in
-    shard_there c.args.state.now c.requires.tied c.args.task c.in-Some.running.now c.requires.live c.requires.passed c.requires.unmarked (sym c.in-Some.ensures.value) c.requires.next c.as_str-2.result.now c.in-Some-place.number place c.make.new.self c.make.new.self has
+    shard_there c.args.state.now c.requires.tied c.args.task c.get_mut-running.result.now c.requires.live c.requires.passed c.requires.unmarked (sym c.in-Some.ensures.value ∙ ap Some (sym c.get_mut-running.ensures.value)) c.requires.next c.as_str-2.result.now c.in-Some-place.number place c.make.new.self c.make.new.self has
 
 pub returns-in_default-note_dead-clause-part : goal.returns-in_default-note_dead-clause-part
-returns-in_default-note_dead-clause-part c = nothing_yet c.args.state.now c.requires.tied c.args.task c.in-Some.running.now c.requires.live c.requires.passed c.requires.unmarked (sym c.in-Some.ensures.value) c.requires.next
+returns-in_default-note_dead-clause-part c = nothing_yet c.args.state.now c.requires.tied c.args.task c.get_mut-running.result.now c.requires.live c.requires.passed c.requires.unmarked (sym c.in-Some.ensures.value ∙ ap Some (sym c.get_mut-running.ensures.value)) c.requires.next
 
 pub turn-requires : goal.turn-requires
 turn-requires c =
     let s = c.args.state.now in
     let name : c.as_str-2.result.now ≡ c.in-Some-place.index.now = c.as_str-2.ensures ∙ c.get-2.ensures ∙ c.in-Ok.ensures in
-    let place : place_of c.in-Some.running.now.work ≡ Some (c.as_str-2.result.now, c.in-Some-place.number) = sym c.in-Some-place.ensures ∙ ap (λ index. Some (index, c.in-Some-place.number)) (sym name) in
+    let place : place_of c.get_mut-running.result.now.work ≡ Some (c.as_str-2.result.now, c.in-Some-place.number) = sym c.in-Some-place.ensures ∙ ap (λ index. Some (index, c.in-Some-place.number)) (sym name) in
     let has = c.in-Ok-make.ensures.written (so_far s.corpus.now s.script.now s.history) s.cluster.shards c.requires.tied.oldest c.requires.tied.shards.has in
-    turns_over c.args.state.now c.requires.tied c.args.task c.in-Some.running.now c.requires.live c.requires.passed c.requires.unmarked (sym c.in-Some.ensures.value) c.requires.next c.as_str-2.result.now c.in-Some-place.number place c.make.new.self c.make.new.self has c.in-Some-get_mut.shard.now c.in-Some-get_mut.ensures.writes
+    turns_over c.args.state.now c.requires.tied c.args.task c.get_mut-running.result.now c.requires.live c.requires.passed c.requires.unmarked (sym c.in-Some.ensures.value ∙ ap Some (sym c.get_mut-running.ensures.value)) c.requires.next c.as_str-2.result.now c.in-Some-place.number place c.make.new.self c.make.new.self has c.in-Some-get_mut.shard.now c.in-Some-get_mut.ensures.writes
 
 -- the notes are those of the turn
 noted : (c : goal.After-drop-notes-2) → turned_in c.args.state.now c.args.task ≡ with_notes c.as_slice.result.now (Work c.args.task ∷ c.args.state.now.history)
 noted c =
     let s = c.args.state.now in
     let name : c.as_str-2.result.now ≡ c.in-Some-place.index.now = c.as_str-2.ensures ∙ c.get-2.ensures ∙ c.in-Ok.ensures in
-    let place : place_of c.in-Some.running.now.work ≡ Some (c.as_str-2.result.now, c.in-Some-place.number) = sym c.in-Some-place.ensures ∙ ap (λ index. Some (index, c.in-Some-place.number)) (sym name) in
+    let place : place_of c.get_mut-running.result.now.work ≡ Some (c.as_str-2.result.now, c.in-Some-place.number) = sym c.in-Some-place.ensures ∙ ap (λ index. Some (index, c.in-Some-place.number)) (sym name) in
     let has = c.in-Ok-make.ensures.written (so_far s.corpus.now s.script.now s.history) s.cluster.shards c.requires.tied.oldest c.requires.tied.shards.has in
-    noted_is c.args.state.now c.requires.tied c.args.task c.in-Some.running.now c.requires.live c.requires.passed c.requires.unmarked (sym c.in-Some.ensures.value) c.requires.next c.as_str-2.result.now c.in-Some-place.number place c.make.new.self c.make.new.self has c.in-Some-get_mut.shard.now c.in-Some-get_mut.ensures.writes
+    noted_is c.args.state.now c.requires.tied c.args.task c.get_mut-running.result.now c.requires.live c.requires.passed c.requires.unmarked (sym c.in-Some.ensures.value ∙ ap Some (sym c.get_mut-running.ensures.value)) c.requires.next c.as_str-2.result.now c.in-Some-place.number place c.make.new.self c.make.new.self has c.in-Some-get_mut.shard.now c.in-Some-get_mut.ensures.writes
     c.as_slice.result.now (c.as_slice.ensures.value ∙ c.in-Ok-turn.ensures.notes)
 
 -- and the tables fit the past after all of it
 tied_then : (c : goal.After-drop-notes-2) → IsTied (record c.args.state.now {
   shards = c.note_dead.new.shards;
   history = turned_in c.args.state.now c.args.task;
-  tasks = c.get_mut.follows.lender (record c.in-Some.running.now { work = c.turn.new.self });
+  tasks = c.get_mut.follows.lender (record c.get_mut-running.result.now { work = c.turn.new.self });
 })
 tied_then c =
     let s = c.args.state.now in
-    let w = record c.in-Some.running.now { work = c.turn.new.self } in
-    let changed = ((c.get_mut.follows.holds w).3 (some_of _ _ (sym c.in-Some.ensures.value))).0 in
+    let w = record c.get_mut-running.result.now { work = c.turn.new.self } in
+    let changed = ((c.get_mut.follows.holds w).3 (some_of _ _ (sym c.in-Some.ensures.value ∙ ap Some (sym c.get_mut-running.ensures.value)))).0 in
     let name : c.as_str-2.result.now ≡ c.in-Some-place.index.now = c.as_str-2.ensures ∙ c.get-2.ensures ∙ c.in-Ok.ensures in
-    let place : place_of c.in-Some.running.now.work ≡ Some (c.as_str-2.result.now, c.in-Some-place.number) = sym c.in-Some-place.ensures ∙ ap (λ index. Some (index, c.in-Some-place.number)) (sym name) in
+    let place : place_of c.get_mut-running.result.now.work ≡ Some (c.as_str-2.result.now, c.in-Some-place.number) = sym c.in-Some-place.ensures ∙ ap (λ index. Some (index, c.in-Some-place.number)) (sym name) in
     let has = c.in-Ok-make.ensures.written (so_far s.corpus.now s.script.now s.history) s.cluster.shards c.requires.tied.oldest c.requires.tied.shards.has in
-    let was_on = works_on c.args.state.now c.requires.tied c.args.task c.in-Some.running.now c.requires.live c.requires.passed c.requires.unmarked (sym c.in-Some.ensures.value) c.requires.next c.as_str-2.result.now c.in-Some-place.number place c.make.new.self c.make.new.self has c.in-Some-get_mut.shard.now c.in-Some-get_mut.ensures.writes in
-    turn_tied c.args.state.now c.requires.tied c.args.task c.in-Some.running.now c.requires.live c.requires.passed c.requires.unmarked (sym c.in-Some.ensures.value) c.requires.next c.as_str-2.result.now c.in-Some-place.number place c.make.new.self (c.get_mut-2.follows.lender c.turn.new.shard) has c.in-Some-get_mut.shard.now c.in-Some-get_mut.ensures.writes
+    let was_on = works_on c.args.state.now c.requires.tied c.args.task c.get_mut-running.result.now c.requires.live c.requires.passed c.requires.unmarked (sym c.in-Some.ensures.value ∙ ap Some (sym c.get_mut-running.ensures.value)) c.requires.next c.as_str-2.result.now c.in-Some-place.number place c.make.new.self c.make.new.self has c.in-Some-get_mut.shard.now c.in-Some-get_mut.ensures.writes in
+    turn_tied c.args.state.now c.requires.tied c.args.task c.get_mut-running.result.now c.requires.live c.requires.passed c.requires.unmarked (sym c.in-Some.ensures.value ∙ ap Some (sym c.get_mut-running.ensures.value)) c.requires.next c.as_str-2.result.now c.in-Some-place.number place c.make.new.self (c.get_mut-2.follows.lender c.turn.new.shard) has c.in-Some-get_mut.shard.now c.in-Some-get_mut.ensures.writes
     c.turn.new.self c.turn.new.shard (c.in-Ok-turn.ensures.ok was_on) (c.in-Ok-turn.ensures.holds_on was_on) c.in-Ok-turn.ensures.written (search rules) (subst (λ o. OnSome o (Replaces c.as_str-2.result.now c.in-Some-place.number c.turn.new.shard c.make.new.self (c.get_mut-2.follows.lender c.turn.new.shard))) c.in-Some-get_mut.is (c.get_mut-2.follows.holds c.turn.new.shard)) c.make.ensures.from_start c.note_dead.new.shards c.note_dead.ensures (c.get_mut.follows.lender w)
     (at_changed c.args.task (Some w) (task_at s.tasks) _ changed) (off_changed c.args.task (Some w) (task_at s.tasks) _ changed)
 
@@ -81,7 +81,7 @@ returns-clause-tied c =
     then_ok c.note_turn.result _ _ c.note_turn.ensures.happened (λ happened. subst (λ past. IsTied (record s {
       shards = c.note_dead.new.shards;
       history = past;
-      tasks = c.get_mut.follows.lender (record c.in-Some.running.now { work = c.turn.new.self });
+      tasks = c.get_mut.follows.lender (record c.get_mut-running.result.now { work = c.turn.new.self });
     })) (noted c ∙ sym happened) (tied_then c))
 
 pub returns-clause-happened : goal.returns-clause-happened
