@@ -85,7 +85,7 @@ fn due(running: &Running, now: u64) -> Option<u64>
 }
 
 /// A live task, as it is kept.
-fn kept<'s>(state: &'s State<'_>, task: TaskId) -> Option<&'s Running>
+fn kept_at<'s>(state: &'s State<'_>, task: TaskId) -> Option<&'s Running>
     ensures { option_copied result ≡ task_at state.now.tasks task }
 {
     match state.tasks.get(&task) {
@@ -97,7 +97,7 @@ fn kept<'s>(state: &'s State<'_>, task: TaskId) -> Option<&'s Running>
 /// Whether a task is live and does not wait, which is kept as is given.
 fn is_ready(state: &State<'_>, task: TaskId, kept: Option<&Running>) -> bool
     requires tied { IsTied state.now }
-    requires kept { option_copied kept.entry ≡ task_at state.now.tasks task }
+    requires given { option_copied kept ≡ task_at state.now.tasks task }
     ensures { result ≡ ready_in state.now task }
 {
     match kept {
@@ -109,7 +109,7 @@ fn is_ready(state: &State<'_>, task: TaskId, kept: Option<&Running>) -> bool
 /// The moment for which a task waits, where it waits for one, which is kept as is given.
 fn alarm_of(state: &State<'_>, task: TaskId, kept: Option<&Running>) -> Option<u64>
     requires tied { IsTied state.now }
-    requires kept { option_copied kept.entry ≡ task_at state.now.tasks task }
+    requires given { option_copied kept ≡ task_at state.now.tasks task }
     ensures { result ≡ alarm_in state.now task }
 {
     match kept {
@@ -126,7 +126,7 @@ fn note_ready(
     kept: Option<&Running>,
 ) -> Result<(), Stop>
     requires tied { IsTied state.now }
-    requires kept { option_copied kept.entry ≡ task_at state.now.tasks task }
+    requires given { option_copied kept ≡ task_at state.now.tasks task }
     ensures known { OnOk result ((q : TaskId) → contains task_id_cmp tasks.new q
         ≡ (if same_task task q then ready_in state.now q else contains task_id_cmp tasks.old q)) }
     ensures memory { IfErr result (λ stop. stop ≡ Stop.Memory) }
@@ -149,7 +149,7 @@ fn note_alarm(
     kept: Option<&Running>,
 ) -> Result<(), Stop>
     requires tied { IsTied state.now }
-    requires kept { option_copied kept.entry ≡ task_at state.now.tasks task }
+    requires given { option_copied kept ≡ task_at state.now.tasks task }
     requires kept { AreAlarms alarms.old }
     ensures kept { AreAlarms alarms.new }
     ensures known { OnOk result ((q : TaskId) → alarm_at alarms.new q
@@ -179,7 +179,7 @@ fn note_events(state: &State<'_>, ready: &mut Ready, before: usize) -> Result<()
             unreachable!()
         };
         if let Some(task) = task_of(event) {
-            let running = kept(state, task);
+            let running = kept_at(state, task);
             note_ready(state, &mut ready.tasks, task, running)?;
             note_alarm(state, &mut ready.alarms, task, running)?;
         }
@@ -195,7 +195,7 @@ fn ring(state: &State<'_>, ready: &mut Ready) -> Result<(), Stop>
     ensures memory { IfErr result (λ stop. stop ≡ Stop.Memory) }
 {
     while let Some(task) = ready.alarms.take_due(state.clock) {
-        note_ready(state, &mut ready.tasks, task, kept(state, task))?;
+        note_ready(state, &mut ready.tasks, task, kept_at(state, task))?;
     }
     Ok(())
 }
