@@ -224,9 +224,9 @@ module _ {K : Type 0} {cmp : K → K → Ordering} (laws : IsTotalOrder cmp) whe
       remove_key_gap gap = remove_key_none (is_at (cmp k)) keys (contains_gap keys i gap)
 
     -- what a search answers is whether the key is there
-    pub contains_answer : (keys : List K) (r : Result ℕ ℕ) → IfOk r (IsFoundAt cmp keys k) → IfErr r (IsGapFor cmp keys k) → is_ok r ≡ list_any (is_at (cmp k)) keys
-    contains_answer keys (Ok i) found absent = sym (contains_found keys i found)
-    contains_answer keys (Err i) found absent = sym (contains_gap keys i absent)
+    pub contains_answer : {A E : Type 0} (keys : List K) (place : A → ℕ) (gap : E → ℕ) (r : Result A E) → IfOk r (λ a. IsFoundAt cmp keys k (place a)) → IfErr r (λ e. IsGapFor cmp keys k (gap e)) → is_ok r ≡ list_any (is_at (cmp k)) keys
+    contains_answer keys place gap (Ok a) found absent = sym (contains_found keys (place a) found)
+    contains_answer keys place gap (Err e) found absent = sym (contains_gap keys (gap e) absent)
 
   -- a key that is lent is one of the keys
   pub lent_is_member : (keys : List K) (n : ℕ) (r : Option (Bor K)) → option_copied r ≡ slice_get keys n → IfSome r (λ x. IsTrue (list_any (is_at (cmp x.now)) keys))

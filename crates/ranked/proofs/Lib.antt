@@ -1,3 +1,4 @@
+mod Changed
 mod Halves
 mod Joined
 mod Keys

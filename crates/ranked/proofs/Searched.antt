@@ -1,5 +1,5 @@
 -- What a search in pieces of ascending keys finds.
-use Rattle.std.proofs.Common.{◌≡◌, ℕ, ◌+◌, ◌-◌, ◌<◌, ◌≤◌, true, false, List, [], ◌∷◌, ◌++◌, length, get_or, take, drop, refl, sym, ◌∙◌, ap, subst, inl, inr, arith, Ordering, Less, Equal, Greater, length-append}
+use Rattle.std.proofs.Common.{◌≡◌, ℕ, ◌+◌, ◌-◌, ◌<◌, ◌≤◌, true, false, List, [], ◌∷◌, ◌++◌, length, get_or, take, drop, zero-add, refl, sym, ◌∙◌, ap, subst, inl, inr, arith, Ordering, Less, Equal, Greater, length-append}
 use Rattle.std.specs.Ordering.{is_lt, ordering_index}
 use Rattle.std.specs.Cmp.{IsTotalOrder}
 use Rattle.std.specs.List.{AllWithin}
@@ -98,10 +98,10 @@ module _ {K : Type 0} {cmp : K → K → Ordering} (laws : IsTotalOrder cmp) (pi
     ]
 
     -- all keys are smaller
-    pub absent_past : at_piece ≡ length pieces → IsGapFor cmp (joined pieces) k (offset pieces at_piece)
+    pub absent_past : at_piece ≡ length pieces → IsGapFor cmp (joined pieces) k (length (joined pieces))
     absent_past end =
         let whole = offset_all pieces at_piece end in
-        gap_from_neighbours laws (joined pieces) sorted k (offset pieces at_piece) (omega arith) (smaller_before (omega arith)) (λ d low. absurd (omega arith))
+        subst (IsGapFor cmp (joined pieces) k) whole (gap_from_neighbours laws (joined pieces) sorted k (offset pieces at_piece) (omega arith) (smaller_before (omega arith)) (λ d low. absurd (omega arith)))
 
     module _ (low : at_piece < length pieces) where
       fit : offset pieces at_piece + length (piece_at pieces at_piece) ≤ length (joined pieces)
@@ -115,28 +115,35 @@ module _ {K : Type 0} {cmp : K → K → Ordering} (laws : IsTotalOrder cmp) (pi
       rises : IsNonDecreasingBy (λ y. ordering_index (cmp y k)) (piece_at pieces at_piece)
       rises = searchable_from_sorted laws (λ y. y) (piece_at pieces at_piece) k (λ m d _ within. ap is_lt (greater_back laws _ _ (Less-from_sorted cmp (piece_at pieces at_piece) m (m + 1) d (sorted_piece at_piece low) (omega arith) within)))
 
-      pub absent_there : ends_below cmp k (piece_at pieces at_piece) ≡ false → (place : ℕ) → place ≤ length (piece_at pieces at_piece)
-          → (IsNonDecreasingBy (λ y. ordering_index (cmp y k)) (piece_at pieces at_piece) → IsPartitionPoint (λ y. cmp y k ≡ Less) (λ y. cmp y k ≡ Greater) (piece_at pieces at_piece) place)
-          → IsGapFor cmp (joined pieces) k (offset pieces at_piece + place)
-      absent_there ends place within parted =
-          let p = piece_at pieces at_piece in
-          let fits = fit in
-          let parts = parted rises in
-          let some = all at_piece [] low in
-          let inside : place < length p = elim (cases_lt place (length p)) [
-            | inl less ↦ less
-            | inr past ↦ absurd (false≢true (sym ends ∙ ends_is p k (omega arith) ∙ ap is_lt (parts.0 (length p - 1) k (omega arith) (omega arith))))
-          ] in
-          gap_from_neighbours laws (joined pieces) sorted k (offset pieces at_piece + place) (omega arith)
-          (λ d more. elim (cases_lt 0 place) [
-            | inl later ↦
-                let there : offset pieces at_piece + place - 1 ≡ offset pieces at_piece + (place - 1) = omega arith in
-                ap (λ q. cmp (get_or (joined pieces) q d) k) there ∙ ap (λ y. cmp y k) (item_at pieces at_piece low (place - 1) d (omega arith)) ∙ parts.0 (place - 1) d (omega arith) (omega arith)
-            | inr first ↦
-                let there : offset pieces at_piece + place - 1 ≡ offset pieces at_piece - 1 = omega arith in
-                ap (λ q. cmp (get_or (joined pieces) q d) k) there ∙ smaller_before (omega arith) d (omega arith)
-          ])
-          (λ d more. ap (λ y. cmp y k) (item_at pieces at_piece low place d inside) ∙ parts.1 place d (omega arith) inside)
+      module _ (ends : ends_below cmp k (piece_at pieces at_piece) ≡ false) (place : ℕ) (within : place ≤ length (piece_at pieces at_piece))
+          (parted : IsNonDecreasingBy (λ y. ordering_index (cmp y k)) (piece_at pieces at_piece) → IsPartitionPoint (λ y. cmp y k ≡ Less) (λ y. cmp y k ≡ Greater) (piece_at pieces at_piece) place) where
+        -- a key of the piece comes after it
+        pub inside_there : place < length (piece_at pieces at_piece)
+        inside_there =
+            let p = piece_at pieces at_piece in
+            let parts = parted rises in
+            let some = all at_piece [] low in
+            elim (cases_lt place (length p)) [
+              | inl less ↦ less
+              | inr past ↦ absurd (false≢true (sym ends ∙ ends_is p k (omega arith) ∙ ap is_lt (parts.0 (length p - 1) k (omega arith) (omega arith))))
+            ]
+
+        pub absent_there : IsGapFor cmp (joined pieces) k (offset pieces at_piece + place)
+        absent_there =
+            let p = piece_at pieces at_piece in
+            let fits = fit in
+            let parts = parted rises in
+            let inside = inside_there in
+            gap_from_neighbours laws (joined pieces) sorted k (offset pieces at_piece + place) (omega arith)
+            (λ d more. elim (cases_lt 0 place) [
+              | inl later ↦
+                  let there : offset pieces at_piece + place - 1 ≡ offset pieces at_piece + (place - 1) = omega arith in
+                  ap (λ q. cmp (get_or (joined pieces) q d) k) there ∙ ap (λ y. cmp y k) (item_at pieces at_piece low (place - 1) d (omega arith)) ∙ parts.0 (place - 1) d (omega arith) (omega arith)
+              | inr first ↦
+                  let there : offset pieces at_piece + place - 1 ≡ offset pieces at_piece - 1 = omega arith in
+                  ap (λ q. cmp (get_or (joined pieces) q d) k) there ∙ smaller_before (omega arith) d (omega arith)
+            ])
+            (λ d more. ap (λ y. cmp y k) (item_at pieces at_piece low place d inside) ∙ parts.1 place d (omega arith) inside)
 
 -- the items of a piece that is alone
 pub joined_alone : {X : Type 0} (pieces : List (List X)) → length pieces ≡ 1 → joined pieces ≡ piece_at pieces 0
@@ -148,17 +155,17 @@ module _ {K : Type 0} {cmp : K → K → Ordering} (laws : IsTotalOrder cmp) (pi
   alone_sorted : IsStrictlySortedBy cmp (piece_at pieces 0)
   alone_sorted = subst (IsStrictlySortedBy cmp) (joined_alone pieces one) sorted
 
-  pub found_alone : (place : ℕ) → place < length (piece_at pieces 0) → ((d : K) → cmp (get_or (piece_at pieces 0) place d) k ≡ Equal) → IsFoundAt cmp (joined pieces) k place
-  found_alone place within here = subst (λ keys. IsFoundAt cmp keys k place) (sym (joined_alone pieces one)) (found_from_equal laws (piece_at pieces 0) alone_sorted k place within here)
+  pub found_alone : (place : ℕ) → place < length (piece_at pieces 0) → ((d : K) → cmp (get_or (piece_at pieces 0) place d) k ≡ Equal) → IsFoundAt cmp (joined pieces) k (offset pieces 0 + place)
+  found_alone place within here = subst (λ keys. IsFoundAt cmp keys k (0 + place)) (sym (joined_alone pieces one)) (subst (IsFoundAt cmp (piece_at pieces 0) k) (sym (zero-add place)) (found_from_equal laws (piece_at pieces 0) alone_sorted k place within here))
 
   pub absent_alone : (place : ℕ) → place ≤ length (piece_at pieces 0)
       → (IsNonDecreasingBy (λ y. ordering_index (cmp y k)) (piece_at pieces 0) → IsPartitionPoint (λ y. cmp y k ≡ Less) (λ y. cmp y k ≡ Greater) (piece_at pieces 0) place)
-      → IsGapFor cmp (joined pieces) k place
+      → IsGapFor cmp (joined pieces) k (offset pieces 0 + place)
   absent_alone place within parted =
       let keys = piece_at pieces 0 in
       let parts = parted (searchable_from_sorted laws (λ y. y) keys k (λ m d _ high. ap is_lt (greater_back laws _ _ (Less-from_sorted cmp keys m (m + 1) d alone_sorted (omega arith) high)))) in
-      subst (λ ks. IsGapFor cmp ks k place) (sym (joined_alone pieces one)) (record {
-        in_range = within;
-        below = λ j d less. parts.0 j d (omega arith) less;
-        above = λ j d more high. parts.1 j d more high;
+      subst (λ ks. IsGapFor cmp ks k (0 + place)) (sym (joined_alone pieces one)) (record {
+        in_range = omega arith;
+        below = λ j d less. parts.0 j d (omega arith) (omega arith);
+        above = λ j d more high. parts.1 j d (omega arith) high;
       })

@@ -1,5 +1,5 @@
 -- A row of items that lies in pieces.
-use Rattle.std.specs.Prelude.{◌≡◌, ℕ, ◌+◌, ◌≤◌, ◌<◌, ◌⊎◌, List, [], ◌∷◌, length, take, slice_index_or, All}
+use Rattle.std.specs.Prelude.{◌≡◌, ℕ, ◌+◌, ◌≤◌, ◌<◌, ◌⊎◌, List, [], ◌∷◌, Option, Some, None, length, take, slice_index_or, All}
 use Rattle.std.specs.List.{flat_map}
 use Rattle.ranked.specs.declared.piece.TheConstants.{PIECE}
 use Rattle.ranked.specs.declared.pieces.Spot.{Spot}
@@ -28,6 +28,11 @@ module _ {X : Type 0} where
   -- how many items lie before a spot
   abbrev pub rank : List (List X) → Spot → ℕ
   rank pieces spot = length (joined (take spot.piece pieces)) + spot.place
+
+  -- the rank of a spot, or where there is none the one past all items
+  abbrev pub rank_or_end : List (List X) → Option Spot → ℕ
+  rank_or_end pieces (Some spot) = rank pieces spot
+  rank_or_end pieces None = length (joined pieces)
 
   -- an item lies at the spot
   abbrev pub IsSpot : List (List X) → Spot → Type 0

@@ -1,10 +1,9 @@
 //! Items that lie in pieces, which follow one another.
 
 ghost use Rattle.std.specs.Prelude.{◌≡◌, ◌+◌, ◌<◌, ◌≤◌, ◌∷◌, [], ◌++◌, length, take, drop, insert, remove, slice_set, slice_get, IfErr, IfOk, IfSome, IfNone, OnOk, OnErr, OnSome};
-ghost use Rattle.std.specs.Prelude.{◌^◌};
 ghost use Rattle.std.specs.List.Sorted.{IsStrictlySortedBy};
 ghost use Rattle.ranked.specs.Ranks.{IsFoundAt, IsGapFor};
-ghost use Rattle.ranked.specs.Pieces.{AreFilled, ArePieces, HasRoom, IsSpot, joined, piece_at, rank};
+ghost use Rattle.ranked.specs.Pieces.{AreFilled, ArePieces, HasRoom, IsSpot, joined, piece_at, rank, rank_or_end};
 
 use crate::piece::{PIECE, Piece};
 use std::alloc::{AllocError, AllocFailed, Global};
@@ -76,7 +75,7 @@ fn last_with_room<T>(pieces: &VecDeque<Piece<T>>) -> Option<usize>
 }
 
 /// Puts an item after all others. Where memory runs out it comes back.
-pub(crate) fn push_last<T: Drop>(
+fn push_last<T: Drop>(
     pieces: &mut VecDeque<Piece<T>>,
     alloc: Global,
     item: T,
@@ -139,7 +138,7 @@ fn with_room<T: Drop>(pieces: &mut VecDeque<Piece<T>>, spot: Spot) -> Result<Spo
 }
 
 /// Puts an item before the one of this spot. Where memory runs out it comes back.
-pub(crate) fn insert_at<T: Drop>(
+fn insert_at<T: Drop>(
     pieces: &mut VecDeque<Piece<T>>,
     spot: Spot,
     item: T,
@@ -160,51 +159,79 @@ pub(crate) fn insert_at<T: Drop>(
     }
 }
 
-/// How many items lie in the pieces before this one.
-fn items_before<T>(pieces: &VecDeque<Piece<T>>, at: usize) -> usize
-    requires within { at ≤ length pieces.now.items }
-    requires fits { length (joined pieces.now.items) < 2 ^ 64 }
-    ensures { result ≡ length (joined (take at pieces.now.items)) }
+/// Puts an item before the one of this spot, or after all others where there is none. Where memory runs out it comes back.
+pub(crate) fn put<T: Drop>(
+    pieces: &mut VecDeque<Piece<T>>,
+    alloc: Global,
+    spot: Option<Spot>,
+    item: T,
+) -> Result<(), AllocFailed<T>>
+    requires spot { IfSome spot (IsSpot pieces.old.items) }
+    requires pieces { ArePieces pieces.old.items }
+    ensures pieces { ArePieces pieces.new.items }
+    ensures ok { OnOk result (joined pieces.new.items ≡ insert (joined pieces.old.items) (rank_or_end pieces.old.items spot) item) }
+    ensures err { OnErr result (joined pieces.new.items ≡ joined pieces.old.items) }
+    ensures given_back { IfErr result (λ failed. failed.value ≡ item) }
 {
-    let mut before = 0;
-    for k in 0..at {
-        before += pieces[k].len();
+    match spot {
+        Some(spot) => insert_at(pieces, spot, item),
+        None => push_last(pieces, alloc, item),
     }
-    before
 }
 
-/// Where the key is among ascending ones, or where it would go, as `search` answers it. Each piece has an item.
-fn search_filled<K: Ord>(pieces: &VecDeque<Piece<K>>, key: &K) -> Result<usize, usize>
+/// Where the key is among ascending ones, or where it would go. Each piece has an item.
+fn search_filled<K: Ord>(pieces: &VecDeque<Piece<K>>, key: &K) -> Result<Spot, Option<Spot>>
     requires pieces { AreFilled pieces.now.items }
     requires ordered { IsStrictlySortedBy K.cmp (joined pieces.now.items) }
-    requires fits { length (joined pieces.now.items) < 2 ^ 64 }
-    ensures found { IfOk result (IsFoundAt K.cmp (joined pieces.now.items) key.now) }
-    ensures absent { IfErr result (IsGapFor K.cmp (joined pieces.now.items) key.now) }
+    ensures spot { IfOk result (IsSpot pieces.now.items) }
+    ensures found { IfOk result (λ spot. IsFoundAt K.cmp (joined pieces.now.items) key.now (rank pieces.now.items spot)) }
+    ensures gap { IfErr result (λ gap. IfSome gap (IsSpot pieces.now.items)) }
+    ensures absent { IfErr result (λ gap. IsGapFor K.cmp (joined pieces.now.items) key.now (rank_or_end pieces.now.items gap)) }
 {
-    let at = pieces.partition_point(|piece| piece.ends_below(key));
-    let before = items_before(pieces, at);
-    if at == pieces.len() {
-        return Err(before);
+    let piece = pieces.partition_point(|piece| piece.ends_below(key));
+    if piece == pieces.len() {
+        return Err(None);
     }
-    match pieces[at].search(key) {
-        Ok(place) => Ok(before + place),
-        Err(place) => Err(before + place),
+    match pieces[piece].search(key) {
+        Ok(place) => Ok(Spot { piece, place }),
+        Err(place) => Err(Some(Spot { piece, place })),
     }
 }
 
-/// Where the key is among ascending ones, or where it would go. One piece alone is searched at once.
-pub(crate) fn search<K: Ord>(pieces: &VecDeque<Piece<K>>, key: &K) -> Result<usize, usize>
+/// Where the key is among ascending ones, or where it would go. There is one piece, which may have no item.
+fn search_alone<K: Ord>(pieces: &VecDeque<Piece<K>>, key: &K) -> Result<Spot, Option<Spot>>
+    requires alone { length pieces.now.items ≡ 1 }
+    requires ordered { IsStrictlySortedBy K.cmp (joined pieces.now.items) }
+    ensures spot { IfOk result (IsSpot pieces.now.items) }
+    ensures found { IfOk result (λ spot. IsFoundAt K.cmp (joined pieces.now.items) key.now (rank pieces.now.items spot)) }
+    ensures gap { IfErr result (λ gap. IfSome gap (IsSpot pieces.now.items)) }
+    ensures absent { IfErr result (λ gap. IsGapFor K.cmp (joined pieces.now.items) key.now (rank_or_end pieces.now.items gap)) }
+{
+    let piece = &pieces[0];
+    match piece.search(key) {
+        Ok(place) => Ok(Spot { piece: 0, place }),
+        Err(place) => {
+            if place == piece.len() {
+                return Err(None);
+            }
+            Err(Some(Spot { piece: 0, place }))
+        }
+    }
+}
+
+/// Where the key is among ascending ones, or where it would go, with no spot for the place after all others.
+pub(crate) fn search<K: Ord>(pieces: &VecDeque<Piece<K>>, key: &K) -> Result<Spot, Option<Spot>>
     requires pieces { ArePieces pieces.now.items }
     requires ordered { IsStrictlySortedBy K.cmp (joined pieces.now.items) }
-    requires fits { length (joined pieces.now.items) < 2 ^ 64 }
-    ensures found { IfOk result (IsFoundAt K.cmp (joined pieces.now.items) key.now) }
-    ensures absent { IfErr result (IsGapFor K.cmp (joined pieces.now.items) key.now) }
+    ensures spot { IfOk result (IsSpot pieces.now.items) }
+    ensures found { IfOk result (λ spot. IsFoundAt K.cmp (joined pieces.now.items) key.now (rank pieces.now.items spot)) }
+    ensures gap { IfErr result (λ gap. IfSome gap (IsSpot pieces.now.items)) }
+    ensures absent { IfErr result (λ gap. IsGapFor K.cmp (joined pieces.now.items) key.now (rank_or_end pieces.now.items gap)) }
 {
-    if pieces.len() != 1 {
-        return search_filled(pieces, key);
-    }
-    match pieces[0].search(key) {
-        Ok(place) => Ok(place),
-        Err(place) => Err(place),
+    // The usual row has one piece, which needs no search for it.
+    if pieces.len() == 1 {
+        search_alone(pieces, key)
+    } else {
+        search_filled(pieces, key)
     }
 }

@@ -3,10 +3,12 @@
 ghost use Rattle.std.specs.Prelude.{◌≡◌, ◌<◌, ◌≤◌, ◌∷◌, [], ◌++◌, ◌==◌, length, insert, remove, slice_get, IfErr, IfOk, IfNone, IsSome, OnOk, OnErr, OnSome, ◌↔◌};
 ghost use Rattle.std.specs.List.Sorted.{IsStrictlySortedBy};
 ghost use Rattle.std.specs.Option.{option_copied};
-ghost use Rattle.ranked.specs.Ranks.{IsFoundAt, IsGapFor};
+ghost use Rattle.std.specs.List.{list_any};
+ghost use Rattle.std.specs.BTreeMap.{is_at};
+ghost use Rattle.ranked.specs.Ranks.{IsPutAnswer, IsTakeAnswer};
 
 use crate::piece::Piece;
-use crate::pieces::{insert_at, push_last, search, spot_of, take_at};
+use crate::pieces::{put, search, spot_of, take_at};
 use std::alloc::{AllocFailed, Global};
 use std::collections::VecDeque;
 use std::marker::Model;
@@ -72,16 +74,47 @@ impl<T> Queue<T> {
 }
 
 impl<K: Ord> Queue<K> {
-    /// The rank of the key among ascending ones, or the rank that it would have. It costs a binary search over the pieces
-    /// and one within a piece, and the lengths of the pieces before that.
-    pub(crate) fn search(&self, key: &K) -> Result<usize, usize>
+    /// Whether the key is among ascending ones. It costs a binary search over the pieces, where there is more than one, and
+    /// one within a piece.
+    pub(crate) fn has_key(&self, key: &K) -> bool
         requires { IsStrictlySortedBy K.cmp self.now }
-        ensures found { IfOk result (IsFoundAt K.cmp self.now key.now) }
-        ensures absent { IfErr result (IsGapFor K.cmp self.now key.now) }
+        ensures { result ≡ list_any (is_at (K.cmp key.now)) self.now }
     {
-        // The proof reads the length, which bounds every rank.
-        let _len = self.len;
-        search(&self.pieces, key)
+        search(&self.pieces, key).is_ok()
+    }
+}
+
+impl<K: Ord + Drop> Queue<K> {
+    /// Puts a key among ascending ones, and answers whether it is new; else the key that was there stays. Where memory runs
+    /// out it comes back. It costs a search and a move within a piece, and where the piece is full a cut of it in two.
+    pub(crate) fn insert_key(&mut self, key: K) -> Result<bool, AllocFailed<K>>
+        requires { IsStrictlySortedBy K.cmp self.old }
+        ensures put { IsPutAnswer K.cmp self.old self.new key result }
+        ensures given_back { IfErr result (λ failed. failed.value ≡ key) }
+    {
+        let gap = match search(&self.pieces, &key) {
+            Ok(_) => return Ok(false),
+            Err(gap) => gap,
+        };
+        let Some(len) = self.len.checked_add(1) else {
+            return Err(AllocFailed { value: key });
+        };
+        put(&mut self.pieces, self.alloc, gap, key)?;
+        self.len = len;
+        Ok(true)
+    }
+
+    /// Takes a key out of ascending ones, and answers whether it was there. It costs a search and a move within a piece.
+    pub(crate) fn take_key(&mut self, key: &K) -> bool
+        requires { IsStrictlySortedBy K.cmp self.old }
+        ensures { IsTakeAnswer K.cmp self.old self.new key.now result }
+    {
+        let Ok(spot) = search(&self.pieces, key) else {
+            return false;
+        };
+        let _gone = take_at(&mut self.pieces, spot);
+        self.len -= 1;
+        true
     }
 }
 
@@ -95,7 +128,7 @@ impl<T: Drop> Queue<T> {
         let Some(len) = self.len.checked_add(1) else {
             return Err(AllocFailed { value: item });
         };
-        push_last(&mut self.pieces, self.alloc, item)?;
+        put(&mut self.pieces, self.alloc, None, item)?;
         self.len = len;
         Ok(())
     }
@@ -111,10 +144,8 @@ impl<T: Drop> Queue<T> {
         let Some(len) = self.len.checked_add(1) else {
             return Err(AllocFailed { value: item });
         };
-        match spot_of(&self.pieces, nth) {
-            Some(spot) => insert_at(&mut self.pieces, spot, item)?,
-            None => push_last(&mut self.pieces, self.alloc, item)?,
-        }
+        let spot = spot_of(&self.pieces, nth);
+        put(&mut self.pieces, self.alloc, spot, item)?;
         self.len = len;
         Ok(())
     }

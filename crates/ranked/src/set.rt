@@ -16,7 +16,7 @@ use std::marker::Model;
 /// A set of keys in ascending order, which are also found by rank. Contracts see it as they see a `BTreeSet`, by its keys.
 ///
 /// The keys lie in pieces of at most 512. A key is found by a binary search over the pieces and one within its piece, and
-/// by rank by a walk over the lengths of the pieces before its own; a change costs both, and a move within one piece.
+/// by rank by a walk over the lengths of the pieces before its own; a change costs such searches, and a move within one piece.
 #[derive(Drop)]
 pub struct RankedSet<K: Ord> {
     keys: Queue<K>,
@@ -81,17 +81,17 @@ impl<K: Ord> RankedSet<K> {
         self.keys.get(0)
     }
 
-    /// Whether a key is there. It costs two binary searches, and the lengths of the pieces before its own.
+    /// Whether a key is there. It costs two binary searches, or one where there is one piece.
     pub fn contains(&self, key: &K) -> bool
         ensures { result ≡ contains K.cmp self.now key.now }
     {
-        self.keys.search(key).is_ok()
+        self.keys.has_key(key)
     }
 }
 
 impl<K: Ord + Drop> RankedSet<K> {
     /// Puts a key, and answers whether it is new; else the key that was there stays. Where memory runs out the key comes
-    /// back, and the set has not changed. It costs a search, a walk and a move within a piece.
+    /// back, and the set has not changed. It costs a search and a move within a piece.
     pub fn insert(&mut self, key: K) -> Result<bool, AllocFailed<K>>
         // On success the set has `key`, other keys stay, and the result says if it was new.
         ensures added { IfOk result (λ added. added ≡ not (contains K.cmp self.old key)) }
@@ -108,16 +108,10 @@ impl<K: Ord + Drop> RankedSet<K> {
         // The keys ascend.
         ensures ordered { IsOrdered K.cmp self.new }
     {
-        match self.keys.search(&key) {
-            Ok(_) => Ok(false),
-            Err(rank) => {
-                self.keys.insert(rank, key)?;
-                Ok(true)
-            }
-        }
+        self.keys.insert_key(key)
     }
 
-    /// Takes a key out, and answers whether it was there. It costs a search, a walk and a move within a piece.
+    /// Takes a key out, and answers whether it was there. It costs a search and a move within a piece.
     pub fn remove(&mut self, key: &K) -> bool
         ensures test { result ≡ contains K.cmp self.old key.now }
         ensures updates { Updates K.cmp self.old self.new key.now false }
@@ -126,12 +120,6 @@ impl<K: Ord + Drop> RankedSet<K> {
         ensures len { btree_set_len self.new + (if result then 1 else 0) ≡ btree_set_len self.old }
         ensures ordered { IsOrdered K.cmp self.new }
     {
-        match self.keys.search(key) {
-            Ok(rank) => {
-                let _gone = self.keys.take(rank);
-                true
-            }
-            Err(_) => false,
-        }
+        self.keys.take_key(key)
     }
 }
