@@ -1,8 +1,8 @@
 -- How the replies of tasks are found by the places of the events with which they ended.
-use Rattle.std.proofs.Common.{◌≡◌, ℕ, ◌+◌, ◌<◌, get_or, Bool, true, false, cond, ◌&&◌, ◌==◌, List, [], ◌∷◌, ◌++◌, reverse, take, length, slice_get, Option, Some, None, option_map, option_and_then, refl, sym, ap, ◌∙◌}
+use Rattle.std.proofs.Common.{◌≡◌, ℕ, ◌+◌, ◌<◌, Bool, true, false, cond, ◌&&◌, ◌==◌, List, [], ◌∷◌, ◌++◌, reverse, take, length, slice_get, Option, Some, None, option_map, option_and_then, refl, sym, ap, ◌∙◌}
 use Rattle.std.specs.Cmp.{nat_eq_equiv}
 use Rattle.std.proofs.lemmas.List.{reverse-append, take_more}
-use Rattle.std.proofs.lemmas.Option.{get_or_from_slice_get, slice_get-get_or}
+use Rattle.std.proofs.lemmas.Option.{get_or_from_slice_get, slice_get_within}
 use Rattle.task_ids.specs.declared.task_id.TaskId.{TaskId}
 use Rattle.task_events.specs.declared.event.Event.{Event}
 use Rattle.task_events.specs.declared.event.Event.TheVariants.{Refuse, End}
@@ -52,19 +52,15 @@ no_end : (t : TaskId) (end : Option (TaskId × Reply)) (old : Option Reply) → 
 no_end t None old h = refl
 no_end t (Some end) old h = cc
 
-standing : (es : List Event) (at : ℕ) (e : Event) → at < length es → e ≡ get_or es at e → slice_get es at ≡ Some e
-standing es at e h is = slice_get-get_or es at e h ∙ ap Some (sym is)
-
 -- the place of one more event, with which a task ends
-pub ended_more : (es : List Event) (at : ℕ) (e : Event) (t task : TaskId) (old new : Option ℕ) → at < length es → e ≡ get_or es at e → Some task ≡ option_map (λ end. end.0) (ending e) → new ≡ cond (same_id task t) (Some at) old
+pub ended_more : (es : List Event) (at : ℕ) (e : Event) (t task : TaskId) (old new : Option ℕ) → slice_get es at ≡ Some e → Some task ≡ option_map (λ end. end.0) (ending e) → new ≡ cond (same_id task t) (Some at) old
     → reply_at es old ≡ reply_of t (reverse (take at es)) → reply_at es new ≡ reply_of t (reverse (take (at + 1) es))
-ended_more es at e t task old new h is ends puts so_far =
-    let s = standing es at e h is in
+ended_more es at e t task old new s ends puts so_far =
     put_end es at t task old new (ending e) ends (sym (ap (λ o. option_map (λ end. end.1) (option_and_then ending o)) s)) puts
-    ∙ ap (newer (ending e) t) so_far ∙ sym (reply_more es at e t h s)
+    ∙ ap (newer (ending e) t) so_far ∙ sym (reply_more es at e t (slice_get_within es at e s) s)
 
 -- one more event, with which none does
-pub not_ended_more : (es : List Event) (at : ℕ) (e : Event) (t : TaskId) (old : Option ℕ) → at < length es → e ≡ get_or es at e → None ≡ option_map (λ end. end.0) (ending e)
+pub not_ended_more : (es : List Event) (at : ℕ) (e : Event) (t : TaskId) (old : Option ℕ) → slice_get es at ≡ Some e → None ≡ option_map (λ end. end.0) (ending e)
     → reply_at es old ≡ reply_of t (reverse (take at es)) → reply_at es old ≡ reply_of t (reverse (take (at + 1) es))
-not_ended_more es at e t old h is ends so_far =
-    so_far ∙ no_end t (ending e) (reply_of t (reverse (take at es))) ends ∙ sym (reply_more es at e t h (standing es at e h is))
+not_ended_more es at e t old s ends so_far =
+    so_far ∙ no_end t (ending e) (reply_of t (reverse (take at es))) ends ∙ sym (reply_more es at e t (slice_get_within es at e s) s)

@@ -1,10 +1,10 @@
 -- The events of each command, where the events are read from the oldest on.
-use Rattle.std.proofs.Common.{◌≡◌, ℕ, zero, suc, ◌+◌, ◌<◌, ◌≤◌, Bool, true, false, cond, not, ◌&&◌, ◌||◌, flat_map, get_or, slice_get, ◌==◌, nat_lt, List, [], ◌∷◌, ◌++◌, reverse, take, drop, length, position, Option, Some, None, unwrap_or, Bor, refl, sym, ap, ◌∙◌, append_assoc, append-nil, map, zero-add, add-one, one-add, arith}
+use Rattle.std.proofs.Common.{◌≡◌, ℕ, zero, suc, ◌+◌, ◌<◌, ◌≤◌, Bool, true, false, cond, not, ◌&&◌, ◌||◌, flat_map, get_or, slice_get, ◌==◌, nat_lt, List, [], ◌∷◌, ◌++◌, reverse, take, drop, length, Option, Some, None, Bor, refl, sym, ap, ◌∙◌, append_assoc, append-nil, map, zero-add, add-one, one-add, arith}
 use mathlib.Core.List.{reverse-cons}
 use Rattle.std.specs.Iterator.{YieldsFirstRef}
 use Rattle.std.specs.List.{position_or_len, before_first, after_first, range_with_len}
 use Rattle.std.proofs.lemmas.Bool.Decides.{nat_tests}
-use Rattle.std.proofs.lemmas.Bool.{ltb-false, le-ltb, eqb-true}
+use Rattle.std.proofs.lemmas.Bool.{le-ltb, eqb-true}
 use Rattle.std.proofs.lemmas.List.Sums.{prefix_len-le-length}
 use Rattle.std.proofs.lemmas.List.FromFn.{map-range_with_len_more, take-map-range_with_len, length-map-range_with_len, get_or-map-range_with_len}
 use Rattle.std.proofs.lemmas.Option.{slice_get-get_or, get_or_from_slice_get}
@@ -28,15 +28,6 @@ before_cons e es = taken (is_begin e) (position_or_len is_begin es) e es
 
 after_cons : (e : Event) (es : List Event) → after_first is_begin (e ∷ es) ≡ cond (is_begin e) es (after_first is_begin es)
 after_cons e es = dropped (is_begin e) (position_or_len is_begin es) e es
-
-place_or : (b : Bool) (place length : ℕ) → (b ≡ false → length ≡ place) → unwrap_or (cond b (Some place) None) length ≡ place
-place_or true place length h = refl
-place_or false place length h = h refl
-
--- the place of the first, or the length
-pub place_or_len : (es : List Event) → unwrap_or (position is_begin es) (length es) ≡ position_or_len is_begin es
-place_or_len es =
-    place_or (nat_lt (position_or_len is_begin es) (length es)) (position_or_len is_begin es) (length es) (λ past. omega (arith, ltb-false (position_or_len is_begin es) (length es) past, prefix_len-le-length (λ e. not (is_begin e)) es))
 
 pub place_within : (es : List Event) → position_or_len is_begin es ≤ length es
 place_within es = prefix_len-le-length (λ e. not (is_begin e)) es

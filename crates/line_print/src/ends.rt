@@ -1,15 +1,13 @@
 //! How each task ended.
 
-ghost use Rattle.std.specs.Prelude.{◌≡◌, IfOk, reverse, option_map};
-ghost use Rattle.std.specs.HashMap.{get};
-ghost use Rattle.task_ids.specs.declared.task_id.TaskId.{TaskId};
-ghost use Rattle.task_events.specs.Tasks.{reply_of};
+ghost use Rattle.std.specs.Prelude.{◌≡◌, ◌+◌, List, Some, OnOk, slice_get, option_map};
+ghost use Rattle.task_events.specs.declared.event.Event.{Event};
 ghost use Rattle.line_print.specs.Lines.{ending};
-ghost use Rattle.line_print.specs.Ends.{same_id, reply_at};
+ghost use Rattle.line_print.specs.Ends.{AreEndsOfFirst};
 
-use std::alloc::{AllocError, Global};
+use std::alloc::AllocError;
 use std::collections::HashMap;
-use task_events::{Event, History};
+use task_events::Event;
 use task_ids::TaskId;
 
 /// The task that ends with an event.
@@ -22,21 +20,17 @@ fn ended(event: &Event) -> Option<TaskId>
     }
 }
 
-/// For each task that has ended, the place of the event with which it did, from the oldest at 0.
-pub(crate) fn ends_of(
-    alloc: Global,
-    history: &History,
-) -> Result<HashMap<TaskId, usize>, AllocError>
-    ensures { IfOk result (λ ends. (t : TaskId) → reply_at (reverse history.now) (get same_id ends t) ≡ reply_of t history.now) }
+/// Notes the place of an event, from the oldest at 0, for the task that ends with it, where one does.
+pub(crate) fn note_end(
+    event: &Event,
+    at: usize,
+    ends: &mut HashMap<TaskId, usize>,
+) -> Result<(), AllocError>
+    ensures { OnOk result ((events : List Event) → slice_get events at ≡ Some event.now
+        → AreEndsOfFirst at events ends.old → AreEndsOfFirst (at + 1) events ends.new) }
 {
-    let mut ends = HashMap::new(alloc);
-    for at in 0..history.len() {
-        let Some(event) = history.get(at) else {
-            unreachable!()
-        };
-        if let Some(task) = ended(event) {
-            ends.insert(task, at)?;
-        }
+    if let Some(task) = ended(event) {
+        ends.insert(task, at)?;
     }
-    Ok(ends)
+    Ok(())
 }

@@ -6,7 +6,6 @@ ghost use Rattle.line_print.specs.Lines.{line_of, printed, printed_by, IsFound};
 ghost use Rattle.line_print.specs.Looked.{IsReady};
 
 use crate::cancel_lines::cancel_line;
-use crate::ends::ends_of;
 use crate::known::indices_of;
 use crate::list_lines::list_line;
 use crate::moves::{moved_line, settled_line};
@@ -80,13 +79,14 @@ fn run_of<'a>(
     ensures ready { IfOk result (λ run. IsReady run) }
     ensures same { IfOk result (λ run. (run.cluster.now ≡ cluster.now) × (run.corpus.now ≡ corpus.now) × (run.script.now ≡ script.now) × (run.history.now ≡ history.now)) }
 {
+    let (turns, ends) = turns_of(alloc, history, script.len())?;
     Ok(Run {
         cluster,
         corpus,
         script,
         history,
-        turns: turns_of(alloc, history, script.len())?,
-        ends: ends_of(alloc, history)?,
+        turns,
+        ends,
         known: indices_of(alloc, corpus, dests)?,
     })
 }
