@@ -1,4 +1,4 @@
-use Rattle.std.proofs.Common.{◌∙◌, ap, sym, arith}
+use Rattle.std.proofs.Common.{◌∙◌, Some, ap, sym, arith}
 use Rattle.std.specs.Option.{option_copied}
 use Rattle.child_track.specs.Token.{token_parent}
 use Rattle.world_moves.specs.Facts.{facts_of}
@@ -15,8 +15,8 @@ returns-in_err-running c =
 pub returns-in_err-parent : goal.returns-in_err-parent
 returns-in_err-parent c =
     let s = c.args.state.now in
-    let kept = sym c.get.ensures.value ∙ ap option_copied c.in_ok-running.was in
-    let runs = runs_of s.cluster s.corpus.now s.script.now s.history _ _ _ c.requires.tied.ties c.args.task c.in_ok-running.running.now kept in
+    let kept = sym c.get.ensures.value ∙ ap option_copied c.in_ok-running.was ∙ ap Some (sym c.get-2.ensures) in
+    let runs = runs_of s.cluster s.corpus.now s.script.now s.history _ _ _ c.requires.tied.ties c.args.task c.get-2.result.now kept in
     let parent = sym (parent_told (facts_of (scripted s.script.now) c.args.task s.history)) ∙ ap token_parent (sym runs.token) ∙ sym c.parent.ensures ∙ c.in_err-parent.was in
     c.from_residual-in_err-parent.ensures ∙ sym (no_parent c.args.task s.history parent)
 
@@ -29,8 +29,8 @@ index-requires c =
 pub returns : goal.returns
 returns c =
     let s = c.args.state.now in
-    let kept = sym c.get.ensures.value ∙ ap option_copied c.in_ok-running.was in
-    let runs = runs_of s.cluster s.corpus.now s.script.now s.history _ _ _ c.requires.tied.ties c.args.task c.in_ok-running.running.now kept in
+    let kept = sym c.get.ensures.value ∙ ap option_copied c.in_ok-running.was ∙ ap Some (sym c.get-2.ensures) in
+    let runs = runs_of s.cluster s.corpus.now s.script.now s.history _ _ _ c.requires.tied.ties c.args.task c.get-2.result.now kept in
     let parent = sym (parent_told (facts_of (scripted s.script.now) c.args.task s.history)) ∙ ap token_parent (sym runs.token) ∙ sym c.parent.ensures ∙ c.in_ok-parent.was in
     let bans = found s.cluster s.history s.bans.items c.requires.tied.ties.lawful c.requires.tied.cancels.bans_are c.args.task c.requires.live c.index.result.now c.index.ensures c.in_ok-parent.parent in
     c.find.ensures.found ∙ bans ∙ sym (with_parent c.args.task s.history c.in_ok-parent.parent parent)
