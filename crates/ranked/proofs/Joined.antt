@@ -161,6 +161,12 @@ pub filled_by_item : {X : Type 0} (pieces : List (List X)) (k place : ℕ) → p
 filled_by_item pieces k place there (inl filled) = filled
 filled_by_item pieces k place there (inr alone) = absurd (let none : length (piece_at pieces k) ≡ 0 = ap (λ ps. length (piece_at ps k)) alone ∙ none_alone _ k in omega arith)
 
+-- the first of all items is the first one of the first piece
+pub first_of_first : {X : Type 0} (pieces : List (List X)) → ArePieces pieces → 0 < length pieces → slice_get (joined pieces) 0 ≡ slice_get (piece_at pieces 0) 0
+first_of_first [] all some = absurd (omega arith)
+first_of_first (p ∷ ps) (inl filled) some = slice_get-append_left p (joined ps) 0 (let one = filled 0 [] some in omega arith)
+first_of_first (p ∷ ps) (inr alone) some = subst (λ pieces. slice_get (joined pieces) 0 ≡ slice_get (piece_at pieces 0) 0) (sym alone) refl
+
 -- a piece that is alone and loses its last item
 pub emptied_alone : {X : Type 0} (pieces : List (List X)) (k : ℕ) (p : List X) → k < length pieces → length pieces ≤ 1 → length p ≡ 0 → set pieces k p ≡ [] ∷ []
 emptied_alone [] k p low few none = absurd (omega arith)

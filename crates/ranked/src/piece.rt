@@ -66,6 +66,10 @@ impl<T> Piece<T> {
         ensures err { OnErr result (self.new ≡ self.old) }
         ensures given_back { IfErr result (λ failed. failed.value ≡ item) }
     {
+        // Before all others it goes without a move of them.
+        if place == 0 {
+            return self.items.push_front(item);
+        }
         self.items.insert(place, item)
     }
 
@@ -75,6 +79,10 @@ impl<T> Piece<T> {
         ensures rest { OnSome result (self.new ≡ remove self.old place) }
         ensures none { IfNone result (self.new ≡ self.old) }
     {
+        // The first item goes without a move of the others.
+        if place == 0 {
+            return self.items.pop_front();
+        }
         self.items.remove(place)
     }
 

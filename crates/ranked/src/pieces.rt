@@ -75,7 +75,7 @@ fn last_with_room<T>(pieces: &VecDeque<Piece<T>>) -> Option<usize>
 }
 
 /// Puts an item after all others. Where memory runs out it comes back.
-fn push_last<T: Drop>(
+pub(crate) fn push_last<T: Drop>(
     pieces: &mut VecDeque<Piece<T>>,
     alloc: Global,
     item: T,

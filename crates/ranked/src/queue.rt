@@ -8,7 +8,7 @@ ghost use Rattle.std.specs.BTreeMap.{is_at};
 ghost use Rattle.ranked.specs.Ranks.{IsPutAnswer, IsTakeAnswer};
 
 use crate::piece::Piece;
-use crate::pieces::{put, search, spot_of, take_at};
+use crate::pieces::{push_last, put, search, spot_of, take_at};
 use std::alloc::{AllocFailed, Global};
 use std::collections::VecDeque;
 use std::marker::Model;
@@ -61,6 +61,14 @@ impl<T> Queue<T> {
         ensures { result ≡ (length self.now == 0) }
     {
         self.len == 0
+    }
+
+    /// The first item. It costs no walk.
+    pub(crate) fn first(&self) -> Option<&T>
+        ensures found { option_copied result ≡ slice_get self.now 0 }
+        ensures variant { IsSome result ↔ (0 < length self.now) }
+    {
+        self.pieces.front()?.get(0)
     }
 
     /// The item of this rank, counted from 0. It costs the walk.
@@ -128,7 +136,7 @@ impl<T: Drop> Queue<T> {
         let Some(len) = self.len.checked_add(1) else {
             return Err(AllocFailed { value: item });
         };
-        put(&mut self.pieces, self.alloc, None, item)?;
+        push_last(&mut self.pieces, self.alloc, item)?;
         self.len = len;
         Ok(())
     }

@@ -78,7 +78,7 @@ impl<K: Ord> RankedSet<K> {
         ensures least { IfSome result (λ k. IsLowerBound K.cmp self.now k.now) }
         ensures all_from { IfSome result (λ k. All (IsLeBy K.cmp k.now) self.now.keys) }
     {
-        self.keys.get(0)
+        self.keys.first()
     }
 
     /// Whether a key is there. It costs two binary searches, or one where there is one piece.

@@ -7,12 +7,12 @@ use Rattle.ranked.proofs.set.RankedSet.first.Goals as goal
 
 pub returns-clause-member : goal.returns-clause-member
 returns-clause-member g c =
-    subst (λ s. IfSome c.get.result (λ k. IsTrue (contains g.K.Ord.cmp s k.now))) c.self.view_is (lent_is_member g.met.K.Ord.total c.self.inside.keys 0 c.get.result c.get.ensures.found)
+    subst (λ s. IfSome c.first.result (λ k. IsTrue (contains g.K.Ord.cmp s k.now))) c.self.view_is (lent_is_member g.met.K.Ord.total c.self.inside.keys 0 c.first.result c.first.ensures.found)
 
 pub returns-clause-least : goal.returns-clause-least
 returns-clause-least g c =
-    subst (λ s. IfSome c.get.result (λ k. IsLowerBound g.K.Ord.cmp s k.now)) c.self.view_is (first_is_least g.met.K.Ord.total c.self.inside.keys c.self.invariant c.get.result c.get.ensures.found)
+    subst (λ s. IfSome c.first.result (λ k. IsLowerBound g.K.Ord.cmp s k.now)) c.self.view_is (first_is_least g.met.K.Ord.total c.self.inside.keys c.self.invariant c.first.result c.first.ensures.found)
 
 pub returns-clause-all_from : goal.returns-clause-all_from
 returns-clause-all_from g c =
-    subst (λ s. IfSome c.get.result (λ k. All (IsLeBy g.K.Ord.cmp k.now) s.keys)) c.self.view_is (all_from_first g.met.K.Ord.total c.self.inside.keys c.self.invariant c.get.result c.get.ensures.found)
+    subst (λ s. IfSome c.first.result (λ k. All (IsLeBy g.K.Ord.cmp k.now) s.keys)) c.self.view_is (all_from_first g.met.K.Ord.total c.self.inside.keys c.self.invariant c.first.result c.first.ensures.found)
