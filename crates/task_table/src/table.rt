@@ -1,4 +1,4 @@
-ghost use Rattle.std.specs.Prelude.{◌≡◌, ◌+◌, ◌<◌, ◌≤◌, ◌↔◌, length, IsErrOf, IfOk, IfErr, OnErr, IfSome, IfNone, All, Any};
+ghost use Rattle.std.specs.Prelude.{◌≡◌, ◌+◌, ◌++◌, ◌<◌, ◌≤◌, ◌↔◌, length, IsErrOf, IfOk, IfErr, OnErr, IfSome, IfNone, All, Any};
 ghost use Rattle.task_ids.specs.Limits.{IsNode, IsCancel};
 ghost use Rattle.child_track.specs.Token.{token_parent};
 ghost use Rattle.child_track.specs.Track.{unanswered, sealed};
@@ -11,6 +11,7 @@ use crate::rows::{is_unmarked_child, place_of, row_of_task, take_row};
 use crate::ticket::Ticket;
 use child_track::{AskToken, ChildTrack};
 use std::alloc::{AllocError, Global};
+use std::collections::VecDeque;
 use std::marker::Model;
 use task_ids::{NewTask, TaskId, TaskInfo};
 
@@ -23,7 +24,7 @@ pub struct TaskTable {
     node: u32,
     slots: u32,
     last: u32,
-    rows: Vec<TaskInfo>,
+    rows: VecDeque<TaskInfo>,
 }
 
 impl Model for TaskTable {
@@ -42,7 +43,7 @@ impl TaskTable {
         requires { IsNode node }
         ensures { IfOk result (λ table. table ≡ new_table node slots) }
     {
-        let rows = Vec::with_capacity(alloc, slots as usize)?;
+        let rows = VecDeque::with_capacity(alloc, slots as usize)?;
         Ok(TaskTable {
             node,
             slots,
@@ -79,7 +80,7 @@ impl TaskTable {
             node: self.node,
             number: self.last + 1,
         };
-        if self.rows.push(row_of_task(id, task)).is_err() {
+        if self.rows.push_back(row_of_task(id, task)).is_err() {
             return Err(PutError::Memory(token));
         }
         self.last = id.number;
@@ -107,7 +108,7 @@ impl TaskTable {
         ensures answer { result ≡ mark_answer (row_of number self.old) }
         ensures after { self.new ≡ after_mark result self.old number cancel }
     {
-        let Some(place) = place_of(self.rows.as_slice(), number) else {
+        let Some(place) = place_of(&self.rows, number) else {
             return MarkAnswer::NotFound;
         };
         if let Some(earlier) = self.rows[place].cancelled {
@@ -125,7 +126,8 @@ impl TaskTable {
             All (λ row. IsUnmarkedChild parent row → number ≤ row.id.number) self.now.live) }
         ensures none { IfNone result (All (λ row. ¬ IsUnmarkedChild parent row) self.now.live) }
     {
-        for row in &self.rows {
+        for place in 0..self.rows.len() {
+            let row = &self.rows[place];
             if is_unmarked_child(row, parent) {
                 return Some(row.id.number);
             }
@@ -133,12 +135,12 @@ impl TaskTable {
         None
     }
 
-    /// The live tasks, by ascending number.
-    pub fn live(&self) -> &[TaskInfo]
-        ensures live { result.now ≡ self.now.live }
+    /// The live tasks, by ascending number, in two parts, the second after the first.
+    pub fn live(&self) -> (&[TaskInfo], &[TaskInfo])
+        ensures live { result.0.now ++ result.1.now ≡ self.now.live }
         ensures table { IsTable self.now }
     {
-        self.rows.as_slice()
+        self.rows.as_slices()
     }
 
     /// Copies of the live tasks, by ascending number. It fails only for want of memory.
@@ -147,8 +149,8 @@ impl TaskTable {
         ensures table { IsTable self.now }
     {
         let mut rows = Vec::with_capacity(*self.rows.allocator(), self.rows.len())?;
-        for row in &self.rows {
-            rows.push(row.copy()?)?;
+        for place in 0..self.rows.len() {
+            rows.push(self.rows[place].copy()?)?;
         }
         Ok(rows)
     }

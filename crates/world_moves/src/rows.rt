@@ -14,7 +14,7 @@ use task_ids::{TaskId, TaskInfo};
 use task_table::TaskTable;
 use tasks_api::Filter;
 
-/// Adds copies of the rows of one node that a filter lets through.
+/// Adds copies of those of some rows that a filter lets through.
 fn add_rows(found: &mut Vec<TaskInfo>, rows: &[TaskInfo], wanted: &Filter) -> Result<(), AllocError>
     ensures { OnOk result (found.new.items ≡ found.old.items ++ shown wanted.now rows.now) }
 {
@@ -26,7 +26,16 @@ fn add_rows(found: &mut Vec<TaskInfo>, rows: &[TaskInfo], wanted: &Filter) -> Re
     Ok(())
 }
 
-/// Adds the ids of the rows of one node that a filter lets through.
+/// Adds copies of the rows of a table that a filter lets through.
+fn add_live(found: &mut Vec<TaskInfo>, table: &TaskTable, wanted: &Filter) -> Result<(), AllocError>
+    ensures { OnOk result (found.new.items ≡ found.old.items ++ shown wanted.now table.now.live) }
+{
+    let (first, rest) = table.live();
+    add_rows(found, first, wanted)?;
+    add_rows(found, rest, wanted)
+}
+
+/// Adds the ids of those of some rows that a filter lets through.
 fn add_ids(found: &mut Vec<TaskId>, rows: &[TaskInfo], wanted: &Filter) -> Result<(), AllocError>
     ensures { OnOk result (found.new.items ≡ found.old.items ++ map (λ row. row.id) (shown wanted.now rows.now)) }
 {
@@ -36,6 +45,19 @@ fn add_ids(found: &mut Vec<TaskId>, rows: &[TaskInfo], wanted: &Filter) -> Resul
         }
     }
     Ok(())
+}
+
+/// Adds the ids of the rows of a table that a filter lets through.
+fn add_live_ids(
+    found: &mut Vec<TaskId>,
+    table: &TaskTable,
+    wanted: &Filter,
+) -> Result<(), AllocError>
+    ensures { OnOk result (found.new.items ≡ found.old.items ++ map (λ row. row.id) (shown wanted.now table.now.live)) }
+{
+    let (first, rest) = table.live();
+    add_ids(found, first, wanted)?;
+    add_ids(found, rest, wanted)
 }
 
 /// The rows of all tables that a filter lets through, copied.
@@ -48,7 +70,7 @@ fn rows_in(
 {
     let mut found = Vec::new(alloc);
     for table in tables {
-        add_rows(&mut found, table.live(), wanted)?;
+        add_live(&mut found, table, wanted)?;
     }
     Ok(found)
 }
@@ -59,7 +81,7 @@ fn ids_in(alloc: Global, tables: &[TaskTable], wanted: &Filter) -> Result<Vec<Ta
 {
     let mut found = Vec::new(alloc);
     for table in tables {
-        add_ids(&mut found, table.live(), wanted)?;
+        add_live_ids(&mut found, table, wanted)?;
     }
     Ok(found)
 }

@@ -1,5 +1,5 @@
 use Rattle.std.proofs.Common.{◌≡◌, take}
 use Rattle.task_table.proofs.table.TaskTable.rows.Given as goal
 
-abbrev pub invariant-loop-row : goal.invariant-loop-row
-invariant-loop-row l = l.rows.items ≡ take l.row-index l.self.live
+abbrev pub invariant-loop-place : goal.invariant-loop-place
+invariant-loop-place l = l.rows.items ≡ take l.place l.self.live
