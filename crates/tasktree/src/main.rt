@@ -9,6 +9,7 @@ ghost use Rattle.std.specs.Prelude.{◌≡◌, ◌⊎◌, IfErr};
 use es_io::{StdSink, StdSource};
 use std::env;
 use std::io::ErrorKind;
+use std::mem::forget;
 use std::process::ExitCode;
 use std::rt::Env;
 use task_top::{Plan, PlanError, Status, gen_top, plan, sim_top};
@@ -49,7 +50,9 @@ fn main(rt: HostRuntime) -> ExitCode {
         Ok(Plan::Sim(cluster)) => {
             let mut input = StdSource::new(rt.stdin());
             let mut out = StdSink::new(rt.stdout());
-            let (status, _) = sim_top(rt.alloc(), &cluster, &mut input, &mut out);
+            let (status, kept) = sim_top(rt.alloc(), &cluster, &mut input, &mut out);
+            // The process ends, and all of its memory with it; to free it piece by piece before that is work for nothing.
+            forget(kept);
             status
         }
         Ok(Plan::Gen(number)) => {
