@@ -1,4 +1,5 @@
 pub mod Each
+pub mod Jsons
 pub mod LastStar
 pub mod Members
 pub mod OneValue

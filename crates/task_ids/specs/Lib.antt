@@ -2,6 +2,7 @@ pub mod Action
 pub mod Cause
 pub mod DataCode
 pub mod Headers
+pub mod Json
 pub mod Limits
 pub mod Pattern
 pub mod Placing
