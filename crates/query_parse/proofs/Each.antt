@@ -5,8 +5,8 @@ use Rattle.std.proofs.lemmas.List.{append-nil, drop_all}
 use Rattle.std.proofs.Math.Seq.{drop-cons}
 use Rattle.serde_json.specs.Data.{Data, Items, no_items, item}
 use Rattle.query_parse.specs.declared.fault.QueryError.{QueryError}
-use Rattle.serde_json.specs.View.{view, items_view}
-use Rattle.serde_json.specs.declared.value.Value.{Value}
+use Rattle.task_ids.specs.Json.{json_view, json_items}
+use Rattle.task_ids.specs.declared.json_value.Json.{Json}
 use Rattle.query_parse.specs.declared.fault.QueryFault.{QueryFault}
 use Rattle.query_parse.specs.declared.fault.QueryFault.TheVariants.{BadValue}
 use Rattle.query_parse.specs.declared.fault.QueryError.TheVariants.{Bad, Memory}
@@ -37,26 +37,26 @@ is_done reads path front i total so_far = sym so_far ∙ ap Ok (append-nil front
 
 -- ---- the same for a list of values, at a place
 
-pub drop_here : (vs : List Value) (i : ℕ) (v : Value) → i < length vs → v ≡ get_or vs i v → drop i vs ≡ v ∷ drop (i + 1) vs
+pub drop_here : (vs : List Json) (i : ℕ) (v : Json) → i < length vs → v ≡ get_or vs i v → drop i vs ≡ v ∷ drop (i + 1) vs
 drop_here vs i v lt is = drop-cons vs i v lt ∙ rw (← is, add-one) refl
 
-pub goes_on_at : {A : Type 0} (reads : Data → Option A) (path : List ℕ) (front : List A) (i : ℕ) (vs : List Value) (v : Value) (x : A) (total : Result (List A) QueryError)
-    → i < length vs → v ≡ get_or vs i v → Some x ≡ reads (view v) → with_front front (each_at reads path i (items_view (drop i vs))) ≡ total
-    → with_front (front ++ x ∷ []) (each_at reads path (i + 1) (items_view (drop (i + 1) vs))) ≡ total
+pub goes_on_at : {A : Type 0} (reads : Data → Option A) (path : List ℕ) (front : List A) (i : ℕ) (vs : List Json) (v : Json) (x : A) (total : Result (List A) QueryError)
+    → i < length vs → v ≡ get_or vs i v → Some x ≡ reads (json_view v) → with_front front (each_at reads path i (json_items (drop i vs))) ≡ total
+    → with_front (front ++ x ∷ []) (each_at reads path (i + 1) (json_items (drop (i + 1) vs))) ≡ total
 goes_on_at reads path front i vs v x total lt is h so_far =
-    goes_on reads path front i (view v) (items_view (drop (i + 1) vs)) x total (sym h) (ap (λ ws. with_front front (each_at reads path i (items_view ws))) (sym (drop_here vs i v lt is)) ∙ so_far)
+    goes_on reads path front i (json_view v) (json_items (drop (i + 1) vs)) x total (sym h) (ap (λ ws. with_front front (each_at reads path i (json_items ws))) (sym (drop_here vs i v lt is)) ∙ so_far)
 
 pub fails_of_fault : {Y : Type 0} (e : QueryError) (path : List ℕ) (kind : QueryFault) (read : Result Y QueryError) → IsFault e path kind → read ≡ Err (Bad path kind) → Fails e read
 fails_of_fault Memory path kind read h is = tt
 fails_of_fault (Bad p k) path kind read h is = is ∙ (λ i. Err (Bad (sym h.0 i) (sym h.1 i)))
 
-pub ends_at : {A : Type 0} (reads : Data → Option A) (path : List ℕ) (front : List A) (i : ℕ) (vs : List Value) (v : Value) (total : Result (List A) QueryError) (e : QueryError) (place : List ℕ)
-    → i < length vs → v ≡ get_or vs i v → None ≡ reads (view v) → with_front front (each_at reads path i (items_view (drop i vs))) ≡ total
+pub ends_at : {A : Type 0} (reads : Data → Option A) (path : List ℕ) (front : List A) (i : ℕ) (vs : List Json) (v : Json) (total : Result (List A) QueryError) (e : QueryError) (place : List ℕ)
+    → i < length vs → v ≡ get_or vs i v → None ≡ reads (json_view v) → with_front front (each_at reads path i (json_items (drop i vs))) ≡ total
     → place ≡ under path (decimal i) → IsFault e place BadValue → Fails e total
 ends_at reads path front i vs v total e place lt is h so_far at fault =
-    let first = ap (λ ws. with_front front (each_at reads path i (items_view ws))) (sym (drop_here vs i v lt is)) ∙ so_far in
-    fails_of_fault e place BadValue total fault (ends reads path front i (view v) (items_view (drop (i + 1) vs)) total (sym h) first ∙ rw at refl)
+    let first = ap (λ ws. with_front front (each_at reads path i (json_items ws))) (sym (drop_here vs i v lt is)) ∙ so_far in
+    fails_of_fault e place BadValue total fault (ends reads path front i (json_view v) (json_items (drop (i + 1) vs)) total (sym h) first ∙ rw at refl)
 
-pub is_done_at : {A : Type 0} (reads : Data → Option A) (path : List ℕ) (front : List A) (i : ℕ) (vs : List Value) (total : Result (List A) QueryError)
-    → length vs ≤ i → with_front front (each_at reads path i (items_view (drop i vs))) ≡ total → total ≡ Ok front
-is_done_at reads path front i vs total le so_far = is_done reads path front i total (ap (λ ws. with_front front (each_at reads path i (items_view ws))) (sym (drop_all i vs le)) ∙ so_far)
+pub is_done_at : {A : Type 0} (reads : Data → Option A) (path : List ℕ) (front : List A) (i : ℕ) (vs : List Json) (total : Result (List A) QueryError)
+    → length vs ≤ i → with_front front (each_at reads path i (json_items (drop i vs))) ≡ total → total ≡ Ok front
+is_done_at reads path front i vs total le so_far = is_done reads path front i total (ap (λ ws. with_front front (each_at reads path i (json_items ws))) (sym (drop_all i vs le)) ∙ so_far)

@@ -8,8 +8,8 @@ use Rattle.std.proofs.lemmas.List.{drop_all}
 use Rattle.std.proofs.lemmas.Bool.Decides.{nat_tests}
 use Rattle.serde_json.specs.Data.{Data, item, Members, no_members, member}
 use Rattle.serde_json.specs.Find.{get_member}
-use Rattle.serde_json.specs.View.{view, items_view}
-use Rattle.serde_json.specs.declared.value.Value.{Value}
+use Rattle.task_ids.specs.Json.{json_view, json_items}
+use Rattle.task_ids.specs.declared.json_value.Json.{Json}
 use Rattle.query_parse.specs.declared.fault.QueryFault.TheVariants.{NotOneKey}
 use Rattle.query_parse.specs.declared.fault.QueryError.{QueryError}
 use Rattle.query_parse.specs.declared.fault.QueryError.TheVariants.{Bad, Memory}
@@ -120,23 +120,23 @@ with_nodes-push : (ns : List Node) (n : Node) (read : Result Queries QueryError)
 with_nodes-push ns n (Ok qs) = ap Ok (sym (before-push ns n qs))
 with_nodes-push ns n (Err e) = refl
 
-at_place : (path : List ℕ) (i : ℕ) (vs : List Value) (v : Value) (ns : List Node) (total : Result Queries QueryError) → i < length vs → v ≡ get_or vs i v
-    → with_nodes ns (queries_at path i (items_view (drop i vs))) ≡ total → with_nodes ns (queries_at path i (item (view v) (items_view (drop (i + 1) vs)))) ≡ total
-at_place path i vs v ns total lt is so_far = ap (λ ws. with_nodes ns (queries_at path i (items_view ws))) (sym (drop_here vs i v lt is)) ∙ so_far
+at_place : (path : List ℕ) (i : ℕ) (vs : List Json) (v : Json) (ns : List Node) (total : Result Queries QueryError) → i < length vs → v ≡ get_or vs i v
+    → with_nodes ns (queries_at path i (json_items (drop i vs))) ≡ total → with_nodes ns (queries_at path i (item (json_view v) (json_items (drop (i + 1) vs)))) ≡ total
+at_place path i vs v ns total lt is so_far = ap (λ ws. with_nodes ns (queries_at path i (json_items ws))) (sym (drop_here vs i v lt is)) ∙ so_far
 
-pub goes_on : (path : List ℕ) (i : ℕ) (vs : List Value) (v : Value) (ns : List Node) (n : Node) (place : List ℕ) (total : Result Queries QueryError) → i < length vs → v ≡ get_or vs i v
-    → with_nodes ns (queries_at path i (items_view (drop i vs))) ≡ total → place ≡ under path (decimal i) → query_at place (view v) ≡ Ok (query_view n)
-    → with_nodes (ns ++ n ∷ []) (queries_at path (i + 1) (items_view (drop (i + 1) vs))) ≡ total
+pub goes_on : (path : List ℕ) (i : ℕ) (vs : List Json) (v : Json) (ns : List Node) (n : Node) (place : List ℕ) (total : Result Queries QueryError) → i < length vs → v ≡ get_or vs i v
+    → with_nodes ns (queries_at path i (json_items (drop i vs))) ≡ total → place ≡ under path (decimal i) → query_at place (json_view v) ≡ Ok (query_view n)
+    → with_nodes (ns ++ n ∷ []) (queries_at path (i + 1) (json_items (drop (i + 1) vs))) ≡ total
 goes_on path i vs v ns n place total lt is so_far at h =
-    let here : query_at (under path (decimal i)) (view v) ≡ Ok (query_view n) = rw (← at) h in
-    sym (with_nodes-push ns n (queries_at path (i + 1) (items_view (drop (i + 1) vs)))) ∙ (rw here at (at_place path i vs v ns total lt is so_far))
+    let here : query_at (under path (decimal i)) (json_view v) ≡ Ok (query_view n) = rw (← at) h in
+    sym (with_nodes-push ns n (queries_at path (i + 1) (json_items (drop (i + 1) vs)))) ∙ (rw here at (at_place path i vs v ns total lt is so_far))
 
-pub ends : (e : QueryError) (path : List ℕ) (i : ℕ) (vs : List Value) (v : Value) (ns : List Node) (place : List ℕ) (total : Result Queries QueryError) → i < length vs → v ≡ get_or vs i v
-    → with_nodes ns (queries_at path i (items_view (drop i vs))) ≡ total → place ≡ under path (decimal i) → Fails e (query_at place (view v)) → Fails e total
+pub ends : (e : QueryError) (path : List ℕ) (i : ℕ) (vs : List Json) (v : Json) (ns : List Node) (place : List ℕ) (total : Result Queries QueryError) → i < length vs → v ≡ get_or vs i v
+    → with_nodes ns (queries_at path i (json_items (drop i vs))) ≡ total → place ≡ under path (decimal i) → Fails e (query_at place (json_view v)) → Fails e total
 ends Memory path i vs v ns place total lt is so_far at h = tt
 ends (Bad p k) path i vs v ns place total lt is so_far at h =
-    let here : query_at (under path (decimal i)) (view v) ≡ Err (Bad p k) = rw (← at) h in
+    let here : query_at (under path (decimal i)) (json_view v) ≡ Err (Bad p k) = rw (← at) h in
     sym (rw here at (at_place path i vs v ns total lt is so_far))
 
-pub is_done : (path : List ℕ) (i : ℕ) (vs : List Value) (ns : List Node) (total : Result Queries QueryError) → length vs ≤ i → with_nodes ns (queries_at path i (items_view (drop i vs))) ≡ total → total ≡ Ok (queries_view ns)
-is_done path i vs ns total le so_far = sym so_far ∙ ap (λ ws. with_nodes ns (queries_at path i (items_view ws))) (drop_all i vs le) ∙ ap Ok (before-none ns)
+pub is_done : (path : List ℕ) (i : ℕ) (vs : List Json) (ns : List Node) (total : Result Queries QueryError) → length vs ≤ i → with_nodes ns (queries_at path i (json_items (drop i vs))) ≡ total → total ≡ Ok (queries_view ns)
+is_done path i vs ns total le so_far = sym so_far ∙ ap (λ ws. with_nodes ns (queries_at path i (json_items ws))) (drop_all i vs le) ∙ ap Ok (before-none ns)

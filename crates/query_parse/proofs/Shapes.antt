@@ -1,22 +1,28 @@
--- An object with one key.
-use Rattle.std.proofs.Common.{◌≡◌, ℕ, List, [], ◌∷◌, length, Some, None, string_bytes, refl, sym, ap, arith}
-use Rattle.std.specs.Prelude.{slice_get, option_map}
-use Rattle.serde_json.specs.Data.{Data, object}
-use Rattle.serde_json.specs.View.{view, members_view}
-use Rattle.serde_json.proofs.Views.{Entry}
+-- The members of an object, one after the other.
+use Rattle.std.proofs.Common.{◌≡◌, ℕ, ◌+◌, ◌<◌, Bool, cond, List, [], ◌∷◌, length, drop, get_or, Some, None, refl, sym, ap, ◌∙◌}
+use Rattle.std.specs.Bool.{nat_eq}
+use Rattle.std.specs.Cmp.Lexicographic.{pointwise}
+use Rattle.std.proofs.lemmas.List.{drop_more}
+use Rattle.serde_json.specs.Data.{object}
+use Rattle.serde_json.specs.Find.{get_member}
+use Rattle.task_ids.specs.declared.json_value.JsonMember.{JsonMember}
+use Rattle.task_ids.specs.Json.{json_view, json_members}
+use Rattle.task_ids.proofs.Members.{look}
 use Rattle.query_parse.specs.Reading.{only_entry, empty_at, bad_value}
 
-pub only_entry-one : (es : List Entry) (e : Entry) → length es ≡ 1 → slice_get es 0 ≡ Some e → Some (string_bytes e.0, view e.1) ≡ only_entry (members_view es)
-only_entry-one [] e n h = absurd (omega arith)
-only_entry-one (x ∷ []) e n h = let shown : Entry → List ℕ × Data = λ m. (string_bytes m.0, view m.1) in ap (option_map shown) (sym h)
-only_entry-one (x ∷ y ∷ es) e n h = absurd (omega arith)
-
-pub only_entry-other : (es : List Entry) → (length es ≡ 1 → ⊥) → None ≡ only_entry (members_view es)
+pub only_entry-other : (ms : List JsonMember) → (length ms ≡ 1 → ⊥) → None ≡ only_entry (json_members ms)
 only_entry-other [] n = refl
 only_entry-other (x ∷ []) n = absurd (n refl)
-only_entry-other (x ∷ y ∷ es) n = refl
+only_entry-other (x ∷ y ∷ ms) n = refl
 
-pub empty-other : (path : List ℕ) (es : List Entry) → (length es ≡ 0 → ⊥) → empty_at path (object (members_view es)) ≡ bad_value path
+pub empty-other : (path : List ℕ) (ms : List JsonMember) → (length ms ≡ 0 → ⊥) → empty_at path (object (json_members ms)) ≡ bad_value path
 unfolding empty_at
 empty-other path [] n = absurd (n refl)
-empty-other path (x ∷ es) n = refl
+empty-other path (x ∷ ms) n = refl
+
+-- the next member is the one that is looked for, or it is passed over
+pub one_look : (k : List ℕ) (ms : List JsonMember) (i : ℕ) (m : JsonMember) (b : Bool) → i < length ms → m ≡ get_or ms i m → b ≡ pointwise nat_eq k m.key
+    → get_member k (json_members (drop i ms)) ≡ cond b (Some (json_view m.value)) (get_member k (json_members (drop (i + 1) ms)))
+one_look k ms i m b l is same =
+    ap (λ xs. get_member k (json_members xs)) (drop_more ms i m l ∙ ap (λ x. x ∷ drop (i + 1) ms) (sym is))
+    ∙ look k m.key (json_view m.value) (json_members (drop (i + 1) ms)) b (sym same)

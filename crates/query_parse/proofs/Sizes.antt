@@ -4,8 +4,8 @@ use Rattle.std.specs.Ordering.{match_ordering}
 use Rattle.std.specs.Cmp.Lexicographic.{slice_cmp}
 use Rattle.serde_json.specs.Data.{Data, null, boolean, number, string, array, object, Items, no_items, item, Members, no_members, member}
 use Rattle.serde_json.specs.Find.{get_member}
-use Rattle.serde_json.specs.View.{view, items_view}
-use Rattle.serde_json.specs.declared.value.Value.{Value}
+use Rattle.task_ids.specs.Json.{json_view, json_items}
+use Rattle.task_ids.specs.declared.json_value.Json.{Json}
 
 abbrev mutual
   pub data_size : Data → ℕ
@@ -33,7 +33,7 @@ pub size-get_member : (k : List ℕ) (d : Data) (ms : Members) → Some d ≡ ge
 size-get_member k d no_members h = absurd cc
 size-get_member k d (member l e ms) h = found_or (slice_cmp nat_cmp k l) k d e ms h (size-get_member k d ms)
 
-pub size-item : (vs : List Value) (i : ℕ) (d : Value) → i < length vs → data_size (view (get_or vs i d)) < items_size (items_view vs)
+pub size-item : (vs : List Json) (i : ℕ) (d : Json) → i < length vs → data_size (json_view (get_or vs i d)) < items_size (json_items vs)
 size-item [] i d h = absurd (omega arith)
 size-item (v ∷ vs) zero d h = omega arith
-size-item (v ∷ vs) (suc i) d h = let lt : data_size (view (get_or vs i d)) < items_size (items_view vs) = size-item vs i d (omega arith) in omega arith
+size-item (v ∷ vs) (suc i) d h = let lt : data_size (json_view (get_or vs i d)) < items_size (json_items vs) = size-item vs i d (omega arith) in omega arith

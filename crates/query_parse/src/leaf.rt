@@ -2,7 +2,7 @@
 
 ghost use Rattle.std.specs.Prelude.{◌≡◌, option_map, Ok};
 ghost use Rattle.serde_json.specs.Find.{as_str};
-ghost use Rattle.serde_json.specs.View.{view, items_view, members_view};
+ghost use Rattle.task_ids.specs.Json.{json_view, json_items, json_members};
 ghost use Rattle.query_parse.specs.Answers.{Gives};
 ghost use Rattle.query_match.specs.Found.{found_view};
 ghost use Rattle.query_parse.specs.Paths.{path_text};
@@ -14,10 +14,10 @@ ghost use Rattle.query_match.specs.View.{query_view};
 use crate::fault::{QueryError, QueryFault};
 use crate::form::Form;
 use crate::path::Path;
-use crate::shape::{has_bounds_alone, member, only_member, only_named, unwrapped};
-use query_match::{Found, Items, Node, Range, Scalar, Test, Text, value_in};
-use serde_json::{Map, Value};
+use crate::shape::{has_bounds_alone, member, only_member, only_named, unwrapped, value_in};
+use query_match::{Found, Items, Node, Range, Scalar, Test, Text};
 use std::alloc::Global;
+use task_ids::{Json, JsonMember};
 
 /// What a query asks of a field.
 #[derive(Clone, Copy)]
@@ -43,8 +43,8 @@ fn on_field(alloc: Global, name: &str, test: Test) -> Result<Node, QueryError>
 
 /// `v` or `{"value": v}`, at the path of a field.
 #[tactic(auto, unfolding(crate::specs::Reading::equals_at))]
-fn read_equals(alloc: Global, path: &Path<'_>, value: &Value) -> Result<Test, QueryError>
-    ensures { Gives (λ t. t) result (equals_at (path_text path.now) (view value.now)) }
+fn read_equals(alloc: Global, path: &Path<'_>, value: &Json) -> Result<Test, QueryError>
+    ensures { Gives (λ t. t) result (equals_at (path_text path.now) (json_view value.now)) }
 {
     let (path, value) = unwrapped(path, value);
     match value_in(value) {
@@ -56,9 +56,9 @@ fn read_equals(alloc: Global, path: &Path<'_>, value: &Value) -> Result<Test, Qu
 fn read_scalars(
     alloc: Global,
     path: &Path<'_>,
-    values: &[Value],
+    values: &[Json],
 ) -> Result<Items<Scalar>, QueryError>
-    ensures { Gives (λ xs. xs) result (each_at value_of (path_text path.now) 0 (items_view values.now)) }
+    ensures { Gives (λ xs. xs) result (each_at value_of (path_text path.now) 0 (json_items values.now)) }
 {
     let mut read = Vec::with_capacity(alloc, values.len())?;
     for (i, value) in values.iter().enumerate() {
@@ -70,8 +70,8 @@ fn read_scalars(
     Ok(Items::from_vec(read))
 }
 
-fn read_texts(alloc: Global, path: &Path<'_>, values: &[Value]) -> Result<Items<Text>, QueryError>
-    ensures { Gives (λ xs. xs) result (each_at as_str (path_text path.now) 0 (items_view values.now)) }
+fn read_texts(alloc: Global, path: &Path<'_>, values: &[Json]) -> Result<Items<Text>, QueryError>
+    ensures { Gives (λ xs. xs) result (each_at as_str (path_text path.now) 0 (json_items values.now)) }
 {
     let mut read = Vec::with_capacity(alloc, values.len())?;
     for (i, value) in values.iter().enumerate() {
@@ -85,21 +85,21 @@ fn read_texts(alloc: Global, path: &Path<'_>, values: &[Value]) -> Result<Items<
 
 /// `[v, v]`, at the path of a field.
 #[tactic(auto, unfolding(crate::specs::Reading::one_of_at))]
-fn read_one_of(alloc: Global, path: &Path<'_>, value: &Value) -> Result<Test, QueryError>
-    ensures { Gives (λ t. t) result (one_of_at (path_text path.now) (view value.now)) }
+fn read_one_of(alloc: Global, path: &Path<'_>, value: &Json) -> Result<Test, QueryError>
+    ensures { Gives (λ t. t) result (one_of_at (path_text path.now) (json_view value.now)) }
 {
     match value.as_array() {
-        Some(values) => Ok(Test::OneOf(read_scalars(alloc, path, values.as_slice())?)),
+        Some(values) => Ok(Test::OneOf(read_scalars(alloc, path, values)?)),
         None => Err(path.fault(alloc, QueryFault::BadValue)),
     }
 }
 
 /// A whole number or a text.
-fn bound_in(value: &Value) -> Option<Found<'_>>
-    ensures { option_map found_view result ≡ bound_of (view value.now) }
+fn bound_in(value: &Json) -> Option<Found<'_>>
+    ensures { option_map found_view result ≡ bound_of (json_view value.now) }
 {
     match value {
-        Value::Bool(_) => None,
+        Json::Bool(_) => None,
         _ => value_in(value),
     }
 }
@@ -109,10 +109,10 @@ fn read_bound(
     alloc: Global,
     path: &Path<'_>,
     name: &str,
-    members: &Map<String, Value>,
+    members: &[JsonMember],
 ) -> Result<Option<Scalar>, QueryError>
     ensures { Gives (λ x. x) result
-        (bound_at (path_text path.now) name.now (members_view members.now.entries)) }
+        (bound_at (path_text path.now) name.now (json_members members.now)) }
 {
     match member(members, name) {
         None => Ok(None),
@@ -130,10 +130,10 @@ fn read_side(
     path: &Path<'_>,
     strict: &str,
     weak: &str,
-    members: &Map<String, Value>,
+    members: &[JsonMember],
 ) -> Result<(Option<Scalar>, Option<Scalar>), QueryError>
     ensures { Gives (λ s. s) result
-        (side_at (path_text path.now) strict.now weak.now (members_view members.now.entries)) }
+        (side_at (path_text path.now) strict.now weak.now (json_members members.now)) }
 {
     let first = read_bound(alloc, path, strict, members)?;
     match read_bound(alloc, path, weak, members) {
@@ -146,12 +146,8 @@ fn read_side(
 }
 
 #[tactic(auto, unfolding(crate::specs::Reading::bounds_at))]
-fn read_bounds(
-    alloc: Global,
-    path: &Path<'_>,
-    members: &Map<String, Value>,
-) -> Result<Range, QueryError>
-    ensures { Gives (λ x. x) result (bounds_at (path_text path.now) (members_view members.now.entries)) }
+fn read_bounds(alloc: Global, path: &Path<'_>, members: &[JsonMember]) -> Result<Range, QueryError>
+    ensures { Gives (λ x. x) result (bounds_at (path_text path.now) (json_members members.now)) }
 {
     if !has_bounds_alone(members) {
         return Err(path.fault(alloc, QueryFault::BadValue));
@@ -180,8 +176,8 @@ fn range_of(low: (Option<Scalar>, Option<Scalar>), high: (Option<Scalar>, Option
 
 /// `{"gte", "gt", "lte", "lt"}`, at the path of a field.
 #[tactic(auto, unfolding(crate::specs::Reading::within_at))]
-fn read_within(alloc: Global, path: &Path<'_>, value: &Value) -> Result<Test, QueryError>
-    ensures { Gives (λ t. t) result (within_at (path_text path.now) (view value.now)) }
+fn read_within(alloc: Global, path: &Path<'_>, value: &Json) -> Result<Test, QueryError>
+    ensures { Gives (λ t. t) result (within_at (path_text path.now) (json_view value.now)) }
 {
     match value.as_object() {
         Some(members) => Ok(Test::Within(read_bounds(alloc, path, members)?)),
@@ -191,8 +187,8 @@ fn read_within(alloc: Global, path: &Path<'_>, value: &Value) -> Result<Test, Qu
 
 /// `t` or `{"value": t}`, at the path of a field.
 #[tactic(auto, unfolding(crate::specs::Reading::starts_at))]
-fn read_starts(alloc: Global, path: &Path<'_>, value: &Value) -> Result<Test, QueryError>
-    ensures { Gives (λ t. t) result (starts_at (path_text path.now) (view value.now)) }
+fn read_starts(alloc: Global, path: &Path<'_>, value: &Json) -> Result<Test, QueryError>
+    ensures { Gives (λ t. t) result (starts_at (path_text path.now) (json_view value.now)) }
 {
     let (path, value) = unwrapped(path, value);
     match value.as_str() {
@@ -202,13 +198,8 @@ fn read_starts(alloc: Global, path: &Path<'_>, value: &Value) -> Result<Test, Qu
 }
 
 /// What a query asks of a field, from what stands at the field.
-fn read_test(
-    alloc: Global,
-    asked: Asked,
-    path: &Path<'_>,
-    value: &Value,
-) -> Result<Test, QueryError>
-    ensures { Gives (λ t. t) result (test_at asked (path_text path.now) (view value.now)) }
+fn read_test(alloc: Global, asked: Asked, path: &Path<'_>, value: &Json) -> Result<Test, QueryError>
+    ensures { Gives (λ t. t) result (test_at asked (path_text path.now) (json_view value.now)) }
 {
     match asked {
         Asked::Equal => read_equals(alloc, path, value),
@@ -224,9 +215,9 @@ fn read_field(
     alloc: Global,
     asked: Asked,
     path: &Path<'_>,
-    value: &Value,
+    value: &Json,
 ) -> Result<Node, QueryError>
-    ensures { Gives query_view result (field_at asked (path_text path.now) (view value.now)) }
+    ensures { Gives query_view result (field_at asked (path_text path.now) (json_view value.now)) }
 {
     match only_member(value) {
         None => Err(path.fault(alloc, QueryFault::BadValue)),
@@ -239,8 +230,8 @@ fn read_field(
 
 /// `{"field": f}`.
 #[tactic(auto, unfolding(crate::specs::Reading::exists_at))]
-fn read_exists(alloc: Global, path: &Path<'_>, value: &Value) -> Result<Node, QueryError>
-    ensures { Gives query_view result (exists_at (path_text path.now) (view value.now)) }
+fn read_exists(alloc: Global, path: &Path<'_>, value: &Json) -> Result<Node, QueryError>
+    ensures { Gives query_view result (exists_at (path_text path.now) (json_view value.now)) }
 {
     let Some(inner) = only_named("field", value) else {
         return Err(path.fault(alloc, QueryFault::BadValue));
@@ -253,8 +244,8 @@ fn read_exists(alloc: Global, path: &Path<'_>, value: &Value) -> Result<Node, Qu
 
 /// `{"values": [t, t]}`.
 #[tactic(auto, unfolding(crate::specs::Reading::ids_at))]
-fn read_ids(alloc: Global, path: &Path<'_>, value: &Value) -> Result<Node, QueryError>
-    ensures { Gives query_view result (ids_at (path_text path.now) (view value.now)) }
+fn read_ids(alloc: Global, path: &Path<'_>, value: &Json) -> Result<Node, QueryError>
+    ensures { Gives query_view result (ids_at (path_text path.now) (json_view value.now)) }
 {
     let Some(inner) = only_named("values", value) else {
         return Err(path.fault(alloc, QueryFault::BadValue));
@@ -263,15 +254,15 @@ fn read_ids(alloc: Global, path: &Path<'_>, value: &Value) -> Result<Node, Query
     let Some(values) = inner.as_array() else {
         return Err(at_values.fault(alloc, QueryFault::BadValue));
     };
-    Ok(Node::Ids(read_texts(alloc, &at_values, values.as_slice())?))
+    Ok(Node::Ids(read_texts(alloc, &at_values, values)?))
 }
 
 #[tactic(auto, unfolding(crate::specs::Reading::empty_at))]
-fn read_empty(alloc: Global, path: &Path<'_>, value: &Value) -> Result<(), QueryError>
-    ensures { Gives (λ x. x) result (empty_at (path_text path.now) (view value.now)) }
+fn read_empty(alloc: Global, path: &Path<'_>, value: &Json) -> Result<(), QueryError>
+    ensures { Gives (λ x. x) result (empty_at (path_text path.now) (json_view value.now)) }
 {
     match value {
-        Value::Object(members) => {
+        Json::Object(members) => {
             if members.is_empty() {
                 Ok(())
             } else {
@@ -287,9 +278,9 @@ pub(crate) fn read_leaf(
     alloc: Global,
     form: Option<Form>,
     path: &Path<'_>,
-    value: &Value,
+    value: &Json,
 ) -> Result<Node, QueryError>
-    ensures { Gives query_view result (leaf_at form (path_text path.now) (view value.now)) }
+    ensures { Gives query_view result (leaf_at form (path_text path.now) (json_view value.now)) }
 {
     let Some(form) = form else {
         return Err(path.fault(alloc, QueryFault::UnknownQuery));

@@ -1,7 +1,7 @@
 //! Reading a query from a JSON value.
 
 ghost use Rattle.std.specs.Prelude.{◌≡◌, [], ◌∷◌, Ok, codes};
-ghost use Rattle.serde_json.specs.View.{view, items_view, members_view};
+ghost use Rattle.task_ids.specs.Json.{json_view, json_items, json_members};
 ghost use Rattle.query_parse.specs.Answers.{Gives};
 ghost use Rattle.query_parse.specs.Paths.{path_text};
 ghost use Rattle.query_parse.specs.Reading.{query_at, query_in, query_of, are_none, least_of, bool_at, clause_in, clause_at, queries_at, minimum_at};
@@ -13,17 +13,17 @@ use crate::leaf::read_leaf;
 use crate::path::Path;
 use crate::shape::{has_clauses_alone, member, only_entry};
 use query_match::{Node, Query};
-use serde_json::{Map, Value};
 use std::alloc::Global;
+use task_ids::{Json, JsonMember};
 
 /// A whole number from 0 to 1,024 at `minimum_should_match`, if it is there.
 #[tactic(auto, unfolding(crate::specs::Reading::minimum_at))]
 fn read_minimum(
     alloc: Global,
     path: &Path<'_>,
-    members: &Map<String, Value>,
+    members: &[JsonMember],
 ) -> Result<Option<u32>, QueryError>
-    ensures { Gives (λ x. x) result (minimum_at (path_text path.now) (members_view members.now.entries)) }
+    ensures { Gives (λ x. x) result (minimum_at (path_text path.now) (json_members members.now)) }
 {
     match member(members, "minimum_should_match") {
         None => Ok(None),
@@ -76,23 +76,20 @@ fn one_node(alloc: Global, node: Node) -> Result<Vec<Node>, QueryError>
 
 /// A query.
 #[cycle(read)]
-fn read_node(alloc: Global, path: &Path<'_>, value: &Value) -> Result<Node, QueryError>
-    ensures { Gives query_view result (query_at (path_text path.now) (view value.now)) }
+#[tactic(auto, using(task_ids::proofs::Jsons::objects))]
+fn read_node(alloc: Global, path: &Path<'_>, value: &Json) -> Result<Node, QueryError>
+    ensures { Gives query_view result (query_at (path_text path.now) (json_view value.now)) }
 {
     match value {
-        Value::Object(members) => read_entry(alloc, path, members),
+        Json::Object(members) => read_entry(alloc, path, members.as_slice()),
         _ => Err(path.fault(alloc, QueryFault::BadValue)),
     }
 }
 
 /// A query, from its object.
 #[cycle(read)]
-fn read_entry(
-    alloc: Global,
-    path: &Path<'_>,
-    members: &Map<String, Value>,
-) -> Result<Node, QueryError>
-    ensures { Gives query_view result (query_in (path_text path.now) (members_view members.now.entries)) }
+fn read_entry(alloc: Global, path: &Path<'_>, members: &[JsonMember]) -> Result<Node, QueryError>
+    ensures { Gives query_view result (query_in (path_text path.now) (json_members members.now)) }
 {
     match only_entry(members) {
         None => Err(path.fault(alloc, QueryFault::NotOneKey)),
@@ -102,28 +99,25 @@ fn read_entry(
 
 /// A query, from what stands at its key.
 #[cycle(read)]
+#[tactic(auto, using(task_ids::proofs::Jsons::objects))]
 fn read_named(
     alloc: Global,
     path: &Path<'_>,
     form: Option<Form>,
-    value: &Value,
+    value: &Json,
 ) -> Result<Node, QueryError>
-    ensures { Gives query_view result (query_of form (path_text path.now) (view value.now)) }
+    ensures { Gives query_view result (query_of form (path_text path.now) (json_view value.now)) }
 {
     match (form, value) {
-        (Some(Form::Bool), Value::Object(members)) => read_bool(alloc, path, members),
+        (Some(Form::Bool), Json::Object(members)) => read_bool(alloc, path, members.as_slice()),
         _ => read_leaf(alloc, form, path, value),
     }
 }
 
 #[cycle(read)]
 #[tactic(auto, unfolding(crate::specs::Reading::bool_of))]
-fn read_bool(
-    alloc: Global,
-    path: &Path<'_>,
-    members: &Map<String, Value>,
-) -> Result<Node, QueryError>
-    ensures { Gives query_view result (bool_at (path_text path.now) (members_view members.now.entries)) }
+fn read_bool(alloc: Global, path: &Path<'_>, members: &[JsonMember]) -> Result<Node, QueryError>
+    ensures { Gives query_view result (bool_at (path_text path.now) (json_members members.now)) }
 {
     if !has_clauses_alone(members) {
         return Err(path.fault(alloc, QueryFault::BadValue));
@@ -149,10 +143,10 @@ fn read_clause(
     alloc: Global,
     path: &Path<'_>,
     name: &str,
-    members: &Map<String, Value>,
+    members: &[JsonMember],
 ) -> Result<Vec<Node>, QueryError>
     ensures { Gives (λ ns. queries_view ns.items) result
-        (clause_in (path_text path.now) name.now (members_view members.now.entries)) }
+        (clause_in (path_text path.now) name.now (json_members members.now)) }
 {
     match member(members, name) {
         None => Ok(Vec::new(alloc)),
@@ -162,19 +156,20 @@ fn read_clause(
 
 /// One query or a list of them.
 #[cycle(read)]
-fn read_queries(alloc: Global, path: &Path<'_>, value: &Value) -> Result<Vec<Node>, QueryError>
-    ensures { Gives (λ ns. queries_view ns.items) result (clause_at (path_text path.now) (view value.now)) }
+#[tactic(auto, using(task_ids::proofs::Jsons::objects))]
+fn read_queries(alloc: Global, path: &Path<'_>, value: &Json) -> Result<Vec<Node>, QueryError>
+    ensures { Gives (λ ns. queries_view ns.items) result (clause_at (path_text path.now) (json_view value.now)) }
 {
     match value {
-        Value::Object(members) => one_node(alloc, read_entry(alloc, path, members)?),
-        Value::Array(values) => read_list(alloc, path, values.as_slice()),
+        Json::Object(members) => one_node(alloc, read_entry(alloc, path, members.as_slice())?),
+        Json::Array(values) => read_list(alloc, path, values.as_slice()),
         _ => Err(path.fault(alloc, QueryFault::BadValue)),
     }
 }
 
 #[cycle(read)]
-fn read_list(alloc: Global, path: &Path<'_>, values: &[Value]) -> Result<Vec<Node>, QueryError>
-    ensures { Gives (λ ns. queries_view ns.items) result (queries_at (path_text path.now) 0 (items_view values.now)) }
+fn read_list(alloc: Global, path: &Path<'_>, values: &[Json]) -> Result<Vec<Node>, QueryError>
+    ensures { Gives (λ ns. queries_view ns.items) result (queries_at (path_text path.now) 0 (json_items values.now)) }
 {
     let mut nodes = Vec::with_capacity(alloc, values.len())?;
     for (i, value) in values.iter().enumerate() {
@@ -187,8 +182,8 @@ fn read_list(alloc: Global, path: &Path<'_>, values: &[Value]) -> Result<Vec<Nod
 /// The query that a JSON value is, after Elasticsearch's Query DSL.
 ///
 /// An error tells the first fault: depth first, an object's keys in the order of their bytes. `Memory` comes only for want of memory. A number with a fraction or an exponent is a wrong value.
-pub fn read_query(alloc: Global, value: &Value) -> Result<Query, QueryError>
-    ensures { Gives (λ q. q) result (query_at (codes "query") (view value.now)) }
+pub fn read_query(alloc: Global, value: &Json) -> Result<Query, QueryError>
+    ensures { Gives (λ q. q) result (query_at (codes "query") (json_view value.now)) }
 {
     Ok(Query::new(alloc, read_node(alloc, &Path::Query, value)?)?)
 }

@@ -2,7 +2,7 @@
 
 ghost use Rattle.std.specs.Prelude.{◌≡◌, ◌≢◌, ◌≤◌, map, option_map, option_and_then, IfOk, IfSome};
 ghost use Rattle.serde_json.specs.Find.{get_member, as_object, as_str};
-ghost use Rattle.serde_json.specs.View.{view, members_view};
+ghost use Rattle.task_ids.specs.Json.{json_view, json_members};
 ghost use Rattle.query_parse.specs.Reading.{under};
 ghost use Rattle.query_parse.specs.Reindexes.{Gives, IsBad, refuses, first_unknown_in, fields_at, source_at, is_op_type, dest_at, query_of, batch_of, reading_at, known_reindex_at, reindex_at};
 
@@ -11,8 +11,8 @@ use crate::reading::read_query;
 use crate::reindex_body::ReindexBody;
 use crate::shape::{first_unknown, member};
 use query_match::{Query, Text};
-use serde_json::{Map, Value};
 use std::alloc::{AllocError, Global};
+use task_ids::{Json, JsonMember};
 
 const DEFAULT_BATCH: u32 = 1000;
 
@@ -46,9 +46,9 @@ fn path_in(alloc: Global, part: &str, field: &str) -> Result<Text, AllocError>
 }
 
 /// The object at a key.
-fn part_of<'v>(members: &'v Map<String, Value>, name: &str) -> Option<&'v Map<String, Value>>
-    ensures { option_map (λ m. members_view m.now.entries) result
-        ≡ option_and_then as_object (get_member name.now (members_view members.now.entries)) }
+fn part_of<'v>(members: &'v [JsonMember], name: &str) -> Option<&'v [JsonMember]>
+    ensures { option_map (λ m. json_members m.now) result
+        ≡ option_and_then as_object (get_member name.now (json_members members.now)) }
 {
     match member(members, name) {
         Some(value) => value.as_object(),
@@ -57,9 +57,9 @@ fn part_of<'v>(members: &'v Map<String, Value>, name: &str) -> Option<&'v Map<St
 }
 
 /// The text at a key.
-fn text_of<'v>(members: &'v Map<String, Value>, name: &str) -> Option<&'v str>
+fn text_of<'v>(members: &'v [JsonMember], name: &str) -> Option<&'v str>
     ensures { option_map (λ t. t.now) result
-        ≡ option_and_then as_str (get_member name.now (members_view members.now.entries)) }
+        ≡ option_and_then as_str (get_member name.now (json_members members.now)) }
 {
     match member(members, name) {
         Some(value) => value.as_str(),
@@ -70,12 +70,12 @@ fn text_of<'v>(members: &'v Map<String, Value>, name: &str) -> Option<&'v str>
 /// No unknown field stands in a part of the body.
 fn know_part(
     alloc: Global,
-    members: &Map<String, Value>,
+    members: &[JsonMember],
     part: &str,
     known: &[&str],
 ) -> Result<(), ReindexError>
     ensures { Gives (λ u. u) result
-        (refuses (first_unknown_in part.now (map (λ n. n.now) known.now) (members_view members.now.entries))) }
+        (refuses (first_unknown_in part.now (map (λ n. n.now) known.now) (json_members members.now))) }
 {
     let Some(inner) = part_of(members, part) else {
         return Ok(());
@@ -88,8 +88,8 @@ fn know_part(
 
 /// No unknown field stands in the body, then in `source`, then in `dest`.
 #[tactic(auto, unfolding(crate::specs::Reindexes::fields_at))]
-fn know_fields(alloc: Global, members: &Map<String, Value>) -> Result<(), ReindexError>
-    ensures { Gives (λ u. u) result (fields_at (members_view members.now.entries)) }
+fn know_fields(alloc: Global, members: &[JsonMember]) -> Result<(), ReindexError>
+    ensures { Gives (λ u. u) result (fields_at (json_members members.now)) }
 {
     if let Some(field) = first_unknown(members, &BODY_FIELDS) {
         return Err(ReindexError::UnknownField(Text::from_str(alloc, field)?));
@@ -102,10 +102,10 @@ fn know_fields(alloc: Global, members: &Map<String, Value>) -> Result<(), Reinde
 #[tactic(auto, unfolding(crate::specs::Reindexes::source_at))]
 fn read_source<'v>(
     alloc: Global,
-    members: &'v Map<String, Value>,
-) -> Result<(&'v Map<String, Value>, &'v str), ReindexError>
-    ensures { Gives (λ s. (members_view s.0.now.entries, s.1.now)) result
-        (source_at (members_view members.now.entries)) }
+    members: &'v [JsonMember],
+) -> Result<(&'v [JsonMember], &'v str), ReindexError>
+    ensures { Gives (λ s. (json_members s.0.now, s.1.now)) result
+        (source_at (json_members members.now)) }
 {
     let Some(part) = part_of(members, "source") else {
         return Err(bad(alloc, "source"));
@@ -117,8 +117,8 @@ fn read_source<'v>(
 }
 
 /// Whether a document replaces another of its id, which `index` says and is the default.
-fn is_op_type(value: Option<&Value>) -> bool
-    ensures { result ≡ is_op_type (option_map (λ v. view v.now) value.entry) }
+fn is_op_type(value: Option<&Json>) -> bool
+    ensures { result ≡ is_op_type (option_map (λ v. json_view v.now) value.entry) }
 {
     match value {
         None => true,
@@ -134,9 +134,9 @@ fn is_op_type(value: Option<&Value>) -> bool
 fn read_dest<'v>(
     alloc: Global,
     source: &str,
-    members: &'v Map<String, Value>,
+    members: &'v [JsonMember],
 ) -> Result<&'v str, ReindexError>
-    ensures value { Gives (λ d. d.now) result (dest_at source.now (members_view members.now.entries)) }
+    ensures value { Gives (λ d. d.now) result (dest_at source.now (json_members members.now)) }
     ensures apart { IfOk result (λ d. source.now ≢ d.now) }
 {
     let Some(part) = part_of(members, "dest") else {
@@ -156,8 +156,8 @@ fn read_dest<'v>(
 
 /// The query, which finds all documents where none is given.
 #[tactic(auto, unfolding(crate::specs::Reindexes::query_of))]
-fn query_or_all(alloc: Global, value: Option<&Value>) -> Result<Query, ReindexError>
-    ensures { Gives (λ q. q) result (query_of (option_map (λ v. view v.now) value.entry)) }
+fn query_or_all(alloc: Global, value: Option<&Json>) -> Result<Query, ReindexError>
+    ensures { Gives (λ q. q) result (query_of (option_map (λ v. json_view v.now) value.entry)) }
 {
     match value {
         None => Ok(Query::all(alloc)?),
@@ -166,8 +166,8 @@ fn query_or_all(alloc: Global, value: Option<&Value>) -> Result<Query, ReindexEr
 }
 
 /// A whole number from 1 to 10,000, and 1,000 where none is given.
-fn batch_of(value: Option<&Value>) -> Option<u32>
-    ensures value { result ≡ batch_of (option_map (λ v. view v.now) value.entry) }
+fn batch_of(value: Option<&Json>) -> Option<u32>
+    ensures value { result ≡ batch_of (option_map (λ v. json_view v.now) value.entry) }
     ensures in_range { IfSome result (λ n. (1 ≤ n) × (n ≤ 10000)) }
 {
     match value {
@@ -181,8 +181,8 @@ fn batch_of(value: Option<&Value>) -> Option<u32>
 
 /// The query and the batch at `source`.
 #[tactic(auto, unfolding(crate::specs::Reindexes::reading_at))]
-fn read_reading(alloc: Global, source: &Map<String, Value>) -> Result<(Query, u32), ReindexError>
-    ensures value { Gives (λ r. r) result (reading_at (members_view source.now.entries)) }
+fn read_reading(alloc: Global, source: &[JsonMember]) -> Result<(Query, u32), ReindexError>
+    ensures value { Gives (λ r. r) result (reading_at (json_members source.now)) }
     ensures in_range { IfOk result (λ r. (1 ≤ r.1) × (r.1 ≤ 10000)) }
 {
     let query = query_or_all(alloc, member(source, "query"))?;
@@ -197,8 +197,8 @@ fn read_reading(alloc: Global, source: &Map<String, Value>) -> Result<(Query, u3
 
 /// A body without unknown fields.
 #[tactic(auto, unfolding(crate::specs::Reindexes::known_reindex_at))]
-fn read_known(alloc: Global, members: &Map<String, Value>) -> Result<ReindexBody, ReindexError>
-    ensures value { Gives (λ b. b) result (known_reindex_at (members_view members.now.entries)) }
+fn read_known(alloc: Global, members: &[JsonMember]) -> Result<ReindexBody, ReindexError>
+    ensures value { Gives (λ b. b) result (known_reindex_at (json_members members.now)) }
     ensures batch { IfOk result (λ b. (1 ≤ b.batch) × (b.batch ≤ 10000)) }
     ensures apart { IfOk result (λ b. b.source ≢ b.dest) }
 {
@@ -218,14 +218,15 @@ fn read_known(alloc: Global, members: &Map<String, Value>) -> Result<ReindexBody
 /// The body of a reindex that a JSON value is, after Elasticsearch's reindex API: `source` with `index`, `query` and `size`, and `dest` with `index` and `op_type`, of which `query`, `size` and `op_type` may be missing.
 ///
 /// An error tells the first fault, looked for in the order of unknown fields (of the body, of `source`, of `dest`), `source` and its index, `dest`, its index and its `op_type`, the query, and `size`. `Memory` comes only for want of memory.
-pub fn read_reindex(alloc: Global, value: &Value) -> Result<ReindexBody, ReindexError>
-    ensures value { Gives (λ b. b) result (reindex_at (view value.now)) }
+pub fn read_reindex(alloc: Global, value: &Json) -> Result<ReindexBody, ReindexError>
+    ensures value { Gives (λ b. b) result (reindex_at (json_view value.now)) }
     ensures batch { IfOk result (λ b. (1 ≤ b.batch) × (b.batch ≤ 10000)) }
     ensures apart { IfOk result (λ b. b.source ≢ b.dest) }
 {
-    let Value::Object(members) = value else {
+    let Json::Object(members) = value else {
         return Err(bad(alloc, ""));
     };
+    let members = members.as_slice();
     know_fields(alloc, members)?;
     read_known(alloc, members)
 }

@@ -1,14 +1,14 @@
 //! Reading a sort from a JSON value.
 
 ghost use Rattle.std.specs.Prelude.{◌≡◌, option_map};
-ghost use Rattle.serde_json.specs.View.{view, items_view};
+ghost use Rattle.task_ids.specs.Json.{json_view, json_items};
 ghost use Rattle.query_parse.specs.Bodies.{Gives, direction_named, direction_of, named_entry, entry_of, entries_of, listed_entries, all_entries, is_doc_alone, without_doc, sort_of};
 
 use crate::fault::BodyError;
 use crate::shape::{only_member, only_named};
 use query_match::{Items, SortBy, Text};
-use serde_json::Value;
 use std::alloc::Global;
+use task_ids::Json;
 
 const MOST_ENTRIES: usize = 8;
 
@@ -23,8 +23,8 @@ fn direction_named(name: &str) -> Option<bool>
 }
 
 /// Whether an entry descends, for `"asc"`, `"desc"` or one of them at the key `order` alone.
-fn direction_of(value: &Value) -> Option<bool>
-    ensures { result ≡ direction_of (view value.now) }
+fn direction_of(value: &Json) -> Option<bool>
+    ensures { result ≡ direction_of (json_view value.now) }
 {
     match only_named("order", value) {
         Some(inner) => match inner.as_str() {
@@ -39,12 +39,12 @@ fn direction_of(value: &Value) -> Option<bool>
 }
 
 /// The field that an entry names, and its direction, if that is one.
-fn named_entry(value: &Value) -> Option<(&str, Option<bool>)>
-    ensures { option_map (λ e. (e.0.now, e.1)) result ≡ named_entry (view value.now) }
+fn named_entry(value: &Json) -> Option<(&str, Option<bool>)>
+    ensures { option_map (λ e. (e.0.now, e.1)) result ≡ named_entry (json_view value.now) }
 {
     match value {
-        Value::String(field) => Some((field.as_str(), Some(false))),
-        Value::Object(_) => match only_member(value) {
+        Json::String(field) => Some((field.as_str(), Some(false))),
+        Json::Object(_) => match only_member(value) {
             Some((field, inner)) => Some((field, direction_of(inner))),
             None => None,
         },
@@ -52,8 +52,8 @@ fn named_entry(value: &Value) -> Option<(&str, Option<bool>)>
     }
 }
 
-fn read_entry(alloc: Global, value: &Value) -> Result<SortBy, BodyError>
-    ensures { Gives (λ e. e) result (entry_of (view value.now)) }
+fn read_entry(alloc: Global, value: &Json) -> Result<SortBy, BodyError>
+    ensures { Gives (λ e. e) result (entry_of (json_view value.now)) }
 {
     match named_entry(value) {
         None => Err(BodyError::BadSort(Text::from_str(alloc, "sort")?)),
@@ -69,8 +69,8 @@ fn read_entry(alloc: Global, value: &Value) -> Result<SortBy, BodyError>
     }
 }
 
-fn read_entries(alloc: Global, values: &[Value]) -> Result<Vec<SortBy>, BodyError>
-    ensures { Gives (λ es. es.items) result (entries_of (items_view values.now)) }
+fn read_entries(alloc: Global, values: &[Json]) -> Result<Vec<SortBy>, BodyError>
+    ensures { Gives (λ es. es.items) result (entries_of (json_items values.now)) }
 {
     let mut entries = Vec::with_capacity(alloc, values.len())?;
     for value in values {
@@ -80,8 +80,8 @@ fn read_entries(alloc: Global, values: &[Value]) -> Result<Vec<SortBy>, BodyErro
 }
 
 #[tactic(auto, using(crate::proofs::Entries::lengths))]
-fn listed_entries(alloc: Global, values: &[Value]) -> Result<Vec<SortBy>, BodyError>
-    ensures { Gives (λ es. es.items) result (listed_entries (items_view values.now)) }
+fn listed_entries(alloc: Global, values: &[Json]) -> Result<Vec<SortBy>, BodyError>
+    ensures { Gives (λ es. es.items) result (listed_entries (json_items values.now)) }
 {
     if values.len() <= MOST_ENTRIES {
         read_entries(alloc, values)
@@ -91,11 +91,11 @@ fn listed_entries(alloc: Global, values: &[Value]) -> Result<Vec<SortBy>, BodyEr
 }
 
 /// One entry, or a list of at most 8.
-fn all_entries(alloc: Global, value: &Value) -> Result<Vec<SortBy>, BodyError>
-    ensures { Gives (λ es. es.items) result (all_entries (view value.now)) }
+fn all_entries(alloc: Global, value: &Json) -> Result<Vec<SortBy>, BodyError>
+    ensures { Gives (λ es. es.items) result (all_entries (json_view value.now)) }
 {
     match value {
-        Value::Array(values) => listed_entries(alloc, values.as_slice()),
+        Json::Array(values) => listed_entries(alloc, values.as_slice()),
         _ => {
             let entry = read_entry(alloc, value)?;
             let mut entries = Vec::with_capacity(alloc, 1)?;
@@ -126,8 +126,8 @@ fn is_doc_alone(entries: &[SortBy]) -> bool
 
 /// The entries of a sort, none where there is no sort.
 #[tactic(auto, unfolding(crate::specs::Bodies::sort_of))]
-pub(crate) fn read_sort(alloc: Global, value: Option<&Value>) -> Result<Items<SortBy>, BodyError>
-    ensures { Gives (λ es. es) result (sort_of (option_map (λ v. view v.now) value.entry)) }
+pub(crate) fn read_sort(alloc: Global, value: Option<&Json>) -> Result<Items<SortBy>, BodyError>
+    ensures { Gives (λ es. es) result (sort_of (option_map (λ v. json_view v.now) value.entry)) }
 {
     match value {
         None => Ok(Items::new(alloc)),

@@ -1,6 +1,7 @@
-use Rattle.std.proofs.Common.{ap, ◌∙◌, true≢false, sym}
-use Rattle.serde_json.specs.View.{view}
-use Rattle.serde_json.proofs.Views.{view-Object}
+use Rattle.std.proofs.Common.{ap, ◌∙◌, arith}
+use Rattle.std.proofs.lemmas.Bool.Decides.{nat_tests}
+use Rattle.task_ids.specs.Json.{json_view}
+use Rattle.task_ids.proofs.Jsons.{json_view-Object}
 use Rattle.query_parse.specs.declared.fault.QueryFault.TheVariants.{BadValue}
 use Rattle.query_parse.specs.Paths.{path_text}
 use Rattle.query_parse.specs.Reading.{empty_at}
@@ -13,4 +14,4 @@ returns-else-is_empty c =
     let path = path_text c.args.path.now in
     let m = c.in-Object.members in
     fails_of_fault c.fault.result path BadValue _ c.fault.ensures
-    (ap (empty_at path) (ap view c.in-Object.is ∙ view-Object m) ∙ empty-other path m.entries (λ e. true≢false (sym (c.if-is_empty.ensures.1 e))))
+    (ap (empty_at path) (ap json_view c.in-Object.is ∙ json_view-Object m) ∙ empty-other path m.items (λ e. grind (arith, nat_tests)))

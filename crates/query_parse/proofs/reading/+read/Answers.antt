@@ -1,7 +1,7 @@
 use Rattle.std.proofs.Common.{◌≡◌, ◌<◌, true, Ok, sym, ap, ◌∙◌, arith}
 use Rattle.std.specs.List.{list_all}
 use Rattle.std.proofs.lemmas.Result.{err_from_is_err_and}
-use Rattle.serde_json.specs.View.{view, items_view, members_view}
+use Rattle.task_ids.specs.Json.{json_view, json_items, json_members}
 use Rattle.query_parse.specs.Paths.{path_text}
 use Rattle.query_parse.specs.Reading.{member_keys, is_clause_name, least_of, bool_of}
 use Rattle.query_match.specs.View.{queries_view}
@@ -13,36 +13,36 @@ pub read_bool-returns-in_err-filter : goal.read_bool-returns-in_err-filter
 read_bool-returns-in_err-filter t c =
     let p = err_from_is_err_and c.from_residual.result c.from_residual.ensures.1 in
     rw (p.1, p.2)
-    (fails_at_filter c.in_err-filter.field-0.0 (path_text c.args.path.now) (members_view c.args.members.now.entries) _ _ _ _ (sym c.has_clauses_alone.ensures ∙ c.if-not-has_clauses_alone.false) c.in_err-filter.ensures)
+    (fails_at_filter c.in_err-filter.field-0.0 (path_text c.args.path.now) (json_members c.args.members.now) _ _ _ _ (sym c.has_clauses_alone.ensures ∙ c.if-not-has_clauses_alone.false) c.in_err-filter.ensures)
 
 pub read_bool-returns-in_err-minimum : goal.read_bool-returns-in_err-minimum
 read_bool-returns-in_err-minimum t c =
     let p = err_from_is_err_and c.from_residual-in_err-minimum.result c.from_residual-in_err-minimum.ensures.1 in
     rw (p.1, p.2)
-    (fails_at_minimum c.in_err-minimum.field-0.0 (path_text c.args.path.now) (members_view c.args.members.now.entries) _ _ _ _ _ (sym c.has_clauses_alone.ensures ∙ c.if-not-has_clauses_alone.false) c.in_ok-filter.ensures c.in_err-minimum.ensures)
+    (fails_at_minimum c.in_err-minimum.field-0.0 (path_text c.args.path.now) (json_members c.args.members.now) _ _ _ _ _ (sym c.has_clauses_alone.ensures ∙ c.if-not-has_clauses_alone.false) c.in_ok-filter.ensures c.in_err-minimum.ensures)
 
 pub read_bool-returns-in_err-must : goal.read_bool-returns-in_err-must
 read_bool-returns-in_err-must t c =
     let p = err_from_is_err_and c.from_residual-in_err-must.result c.from_residual-in_err-must.ensures.1 in
     rw (p.1, p.2)
-    (fails_at_must c.in_err-must.field-0.0 (path_text c.args.path.now) (members_view c.args.members.now.entries) _ _ _ _ _ _ (sym c.has_clauses_alone.ensures ∙ c.if-not-has_clauses_alone.false) c.in_ok-filter.ensures c.in_ok-minimum.ensures c.in_err-must.ensures)
+    (fails_at_must c.in_err-must.field-0.0 (path_text c.args.path.now) (json_members c.args.members.now) _ _ _ _ _ _ (sym c.has_clauses_alone.ensures ∙ c.if-not-has_clauses_alone.false) c.in_ok-filter.ensures c.in_ok-minimum.ensures c.in_err-must.ensures)
 
 pub read_bool-returns-in_err-must_not : goal.read_bool-returns-in_err-must_not
 read_bool-returns-in_err-must_not t c =
     let p = err_from_is_err_and c.from_residual-in_err-must_not.result c.from_residual-in_err-must_not.ensures.1 in
     rw (p.1, p.2)
-    (fails_at_must_not c.in_err-must_not.field-0.0 (path_text c.args.path.now) (members_view c.args.members.now.entries) _ _ _ _ _ _ _ (sym c.has_clauses_alone.ensures ∙ c.if-not-has_clauses_alone.false) c.in_ok-filter.ensures c.in_ok-minimum.ensures c.in_ok-must.ensures c.in_err-must_not.ensures)
+    (fails_at_must_not c.in_err-must_not.field-0.0 (path_text c.args.path.now) (json_members c.args.members.now) _ _ _ _ _ _ _ (sym c.has_clauses_alone.ensures ∙ c.if-not-has_clauses_alone.false) c.in_ok-filter.ensures c.in_ok-minimum.ensures c.in_ok-must.ensures c.in_err-must_not.ensures)
 
 pub read_bool-returns-in_err-should : goal.read_bool-returns-in_err-should
 read_bool-returns-in_err-should t c =
     let p = err_from_is_err_and c.from_residual-in_err-should.result c.from_residual-in_err-should.ensures.1 in
     rw (p.1, p.2)
-    (fails_at_should c.in_err-should.field-0.0 (path_text c.args.path.now) (members_view c.args.members.now.entries) _ _ _ _ _ _ _ _ (sym c.has_clauses_alone.ensures ∙ c.if-not-has_clauses_alone.false) c.in_ok-filter.ensures c.in_ok-minimum.ensures c.in_ok-must.ensures c.in_ok-must_not.ensures c.in_err-should.ensures)
+    (fails_at_should c.in_err-should.field-0.0 (path_text c.args.path.now) (json_members c.args.members.now) _ _ _ _ _ _ _ _ (sym c.has_clauses_alone.ensures ∙ c.if-not-has_clauses_alone.false) c.in_ok-filter.ensures c.in_ok-minimum.ensures c.in_ok-must.ensures c.in_ok-must_not.ensures c.in_err-should.ensures)
 
 pub read_bool-returns : goal.read_bool-returns
 unfolding bool_of
 read_bool-returns t c =
-    let ms = members_view c.args.members.now.entries in
+    let ms = json_members c.args.members.now in
     let known : list_all is_clause_name (member_keys ms) ≡ true = sym c.has_clauses_alone.ensures ∙ c.if-not-has_clauses_alone.false in
     let least : c.least_of-least.result ≡ least_of c.in_ok-minimum.minimum (queries_view c.in_ok-must.must.items) (queries_view c.in_ok-filter.filter.items) (queries_view c.in_ok-should.should.items) =
     rw (← c.deref.ensures.value, ← c.deref-2.ensures.value, ← c.deref-3.ensures.value) c.least_of-least.ensures in
@@ -51,23 +51,23 @@ read_bool-returns t c =
 
 pub read_clause-read_queries-requires : goal.read_clause-read_queries-requires
 read_clause-read_queries-requires t c =
-    let lt : data_size (view c.in-Some.value.now) < members_size (members_view c.args.members.now.entries) = size-get_member c.args.name.now (view c.in-Some.value.now) (members_view c.args.members.now.entries) c.in-Some.ensures in
+    let lt : data_size (json_view c.in-Some.value.now) < members_size (json_members c.args.members.now) = size-get_member c.args.name.now (json_view c.in-Some.value.now) (json_members c.args.members.now) c.in-Some.ensures in
     (omega arith, tt)
 
 pub read_clause-returns-in-None : goal.read_clause-returns-in-None
-read_clause-returns-in-None t c = clause_in-none (path_text c.args.path.now) c.args.name.now (members_view c.args.members.now.entries) c.in-None.ensures ∙ ap (λ ns. Ok (queries_view ns)) (sym c.new.ensures.items)
+read_clause-returns-in-None t c = clause_in-none (path_text c.args.path.now) c.args.name.now (json_members c.args.members.now) c.in-None.ensures ∙ ap (λ ns. Ok (queries_view ns)) (sym c.new.ensures.items)
 
 pub read_clause-returns-in-Some : goal.read_clause-returns-in-Some
 read_clause-returns-in-Some t c =
-    rw (clause_in-some (path_text c.args.path.now) c.args.name.now (members_view c.args.members.now.entries) (view c.in-Some.value.now) c.in-Some.ensures, ← c.key.ensures) c.read_queries.ensures
+    rw (clause_in-some (path_text c.args.path.now) c.args.name.now (json_members c.args.members.now) (json_view c.in-Some.value.now) c.in-Some.ensures, ← c.key.ensures) c.read_queries.ensures
 
 pub read_entry-returns-in-Some : goal.read_entry-returns-in-Some
 read_entry-returns-in-Some t c =
-    rw (query_in-some (path_text c.args.path.now) (members_view c.args.members.now.entries) c.in-Some.name.now (view c.in-Some.value.now) c.in-Some.ensures, ← c.key.ensures, ← c.named.ensures) c.read_named.ensures
+    rw (query_in-some (path_text c.args.path.now) (json_members c.args.members.now) c.in-Some.name.now (json_view c.in-Some.value.now) c.in-Some.ensures, ← c.key.ensures, ← c.named.ensures) c.read_named.ensures
 
 pub read_list-read_node-requires : goal.read_list-read_node-requires
 read_list-read_node-requires t c =
-    let lt : data_size (view c.index-values-i.result) < items_size (items_view c.args.values.now) = rw c.index-values-i.is (size-item c.args.values.now c.loop-i.i c.index-values-i.result c.loop-i-test.true) in
+    let lt : data_size (json_view c.index-values-i.result) < items_size (json_items c.args.values.now) = rw c.index-values-i.is (size-item c.args.values.now c.loop-i.i c.index-values-i.result c.loop-i-test.true) in
     (omega arith, tt)
 
 pub read_list-loop-i-preserved : goal.read_list-loop-i-preserved

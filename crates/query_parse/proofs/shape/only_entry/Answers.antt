@@ -1,12 +1,9 @@
-use Rattle.std.proofs.Common.{Some, ap, ◌∙◌, arith}
-use Rattle.serde_json.specs.View.{view}
-use Rattle.query_parse.proofs.Shapes.{only_entry-one, only_entry-other}
+use Rattle.std.proofs.Common.{arith}
+use Rattle.std.proofs.lemmas.Bool.Decides.{nat_tests}
+use Rattle.query_parse.proofs.Shapes.{only_entry-other}
 use Rattle.query_parse.proofs.shape.only_entry.Goals as goal
+use Rattle.query_parse.proofs.shape.only_entry.Goals.{in_default-via-then-members-lt1, in_default-via-else-members-lt1+else-members-lt2}
 
-pub returns-then-len-ne1 : goal.returns-then-len-ne1
-returns-then-len-ne1 c = only_entry-other c.args.members.now.entries (λ e. omega arith)
-
-pub returns-in-Some : goal.returns-in-Some
-returns-in-Some c =
-    ap (λ s. Some (s, view c.in-Some.value.now)) c.as_str.ensures.value
-    ∙ only_entry-one c.args.members.now.entries (c.in-Some.key.now, c.in-Some.value.now) (omega arith) c.in-Some.ensures.first
+pub returns-in_default : goal.returns-in_default
+returns-in_default c =
+    only_entry-other c.args.members.now (λ e. elim c.in_default.branch [ in_default-via-then-members-lt1 w ↦ grind (arith, nat_tests) | in_default-via-else-members-lt1+else-members-lt2 w ↦ grind (arith, nat_tests) ])
