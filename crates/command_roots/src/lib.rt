@@ -27,7 +27,7 @@ fn lacks_memory(fault: &BodyError) -> bool
 pub fn body_of(alloc: Global, body: &Body, scrolls: bool) -> Result<Option<SearchBody>, AllocError>
     ensures { IfOk result (λ found. found ≡ body_or_none (body_at scrolls (if scrolls then 1 else 0) body.now)) }
 {
-    match read_body(alloc, body.as_value(), scrolls, u32::from(scrolls)) {
+    match read_body(alloc, body.as_json(), scrolls, u32::from(scrolls)) {
         Ok(body) => Ok(Some(body)),
         Err(fault) => {
             let spent = lacks_memory(&fault);

@@ -19,7 +19,7 @@ pub fn reindex_body(alloc: Global, body: &Body) -> Result<Option<ReindexBody>, A
     ensures value { IfOk result (λ found. found ≡ result_ok (reindex_at body.now)) }
     ensures batch { IfOk result (λ found. IfSome found (λ read. (1 ≤ read.batch) × (read.batch ≤ 10000))) }
 {
-    match read_reindex(alloc, body.as_value()) {
+    match read_reindex(alloc, body.as_json()) {
         Ok(read) => Ok(Some(read)),
         Err(ReindexError::Memory) => Err(AllocError),
         Err(fault) => {

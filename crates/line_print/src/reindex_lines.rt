@@ -34,7 +34,7 @@ fn refusal(
     ensures { IfOk result (λ error. option_map view error
         ≡ reindex_refusal (is_known run.now.corpus.now run.now.script.now) (reindex_at body.now) (first_in full_node_in turn.now)) }
 {
-    match read_reindex(alloc, body.as_value()) {
+    match read_reindex(alloc, body.as_json()) {
         Ok(read) => {
             let source = read.source.as_str();
             let error = start_refusal(alloc, source, run.known.contains(source), full_node(turn));

@@ -69,7 +69,7 @@ pub(crate) fn full_node(turn: &Events<'_>) -> Option<u32>
 fn body_refusal(alloc: Global, scrolls: bool, body: &Body) -> Result<Option<Value>, AllocError>
     ensures { IfOk result (λ error. option_map view error ≡ option_map body_error (fault_in (body_at scrolls (if scrolls then 1 else 0) body.now))) }
 {
-    match read_body(alloc, body.as_value(), scrolls, u32::from(scrolls)) {
+    match read_body(alloc, body.as_json(), scrolls, u32::from(scrolls)) {
         Ok(read) => {
             drop(read);
             Ok(None)

@@ -66,7 +66,7 @@ pub(crate) fn reindex_in(alloc: Global, nodes: u32, value: &Value) -> Result<Com
     let parts = reindex_parts(nodes, value)?;
     Ok(Command::Reindex {
         node: parts.node,
-        body: Body::new(parts.body.clone()?),
+        body: Body::new(alloc, parts.body)?,
         slices: parts.slices,
         rate: parts.rate,
         opaque_id: shared_from(alloc, parts.opaque_id)?,

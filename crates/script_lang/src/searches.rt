@@ -17,7 +17,7 @@ use crate::fields::{
     body_in, both, field, fields_of, node_or_first, optional_keep_alive, optional_text, text_of,
 };
 use crate::texts::{shared_from, text_from};
-use serde_json::{Map, Value};
+use serde_json::Value;
 use std::alloc::Global;
 use task_ids::{Body, Cause};
 
@@ -40,8 +40,8 @@ fn body_from(alloc: Global, value: Option<&Value>) -> Result<Body, CommandError>
     ensures { Reads (λ b. b) result (Ok (body_or_empty (option_map (λ v. view v.now) value.entry))) }
 {
     match value {
-        Some(body) => Ok(Body::new(body.clone()?)),
-        None => Ok(Body::new(Value::Object(Map::new(alloc)))),
+        Some(body) => Ok(Body::new(alloc, body)?),
+        None => Ok(Body::empty(alloc)),
     }
 }
 

@@ -3,10 +3,12 @@
 use query_parse::{QueryFault, ReindexBody, ReindexError, read_reindex};
 use serde_json::Value;
 use std::alloc::Global;
+use task_ids::Json;
 
 fn read(alloc: Global, body: &str) -> Option<Result<ReindexBody, ReindexError>> {
     let value = Value::from_str(alloc, body).ok()?;
-    Some(read_reindex(alloc, &value))
+    let body = Json::of(alloc, &value).ok()?;
+    Some(read_reindex(alloc, &body))
 }
 
 /// Whether the field at this path is told as unknown.

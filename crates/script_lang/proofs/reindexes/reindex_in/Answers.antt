@@ -1,10 +1,8 @@
-use Rattle.std.proofs.Common.{sym, subst}
+use Rattle.std.proofs.Common.{sym}
 use Rattle.serde_json.specs.View.{view}
-use Rattle.task_ids.specs.Source.{IsSource}
 use Rattle.script_lang.proofs.Sources.{reindex_body_is_source}
 use Rattle.script_lang.proofs.reindexes.reindex_in.Goals as goal
 
 pub new-requires : goal.new-requires
 new-requires c =
-    subst IsSource (sym c.in_ok-clone.ensures.cases)
-    (reindex_body_is_source c.args.nodes (view c.args.value.now) _ _ _ _ _ c.requires.whole c.requires.nests (sym c.in_ok-parts.ensures))
+    reindex_body_is_source c.args.nodes (view c.args.value.now) _ _ _ _ _ c.requires.whole c.requires.nests (sym c.in_ok-parts.ensures)
