@@ -85,9 +85,9 @@ fn replied_line(
     ensures { OnOk result (out.new.items ≡ out.old.items ++ wrote_line script.now command (Some reply.now)) }
 {
     let told = match reply {
-        Reply::Wrote(counts) => done_json(alloc, *counts)?,
+        Reply::Wrote(counts) => done_json(alloc, counts.get())?,
         Reply::Cancelled { cancel, counts, .. } => {
-            cancelled_json(alloc, reason_of(script, *cancel), *counts)?
+            cancelled_json(alloc, reason_of(script, *cancel), counts.get())?
         }
         _ => return Ok(()),
     };

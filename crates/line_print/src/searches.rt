@@ -150,7 +150,7 @@ fn replied_line(
     match reply {
         Reply::Search(reply) => hits_line(alloc, out, shards, command, reply.get()),
         Reply::AllFailed(failed) => {
-            let error = errors::all_shards_failed(alloc, failed.as_slice())?;
+            let error = errors::all_shards_failed(alloc, failed.get().as_slice())?;
             error_line(alloc, out, command, error)
         }
         Reply::Cancelled { task, cancel, .. } => {

@@ -106,7 +106,7 @@ pub fn description_of(alloc: Global, request: &Request) -> Result<Text, AllocErr
             let ask = ask.get();
             shard_description(alloc, ask.index.get().as_str(), ask.shard)
         }
-        Request::Scroll(ask) => scroll_description(alloc, ask.id),
+        Request::Scroll(ask) => scroll_description(alloc, ask.get().id),
         Request::Reindex(ask) => reindex_description(alloc, ask.get()),
         Request::Slice(ask) => slice_description(alloc, ask.get()),
         Request::Bulk(ask) => bulk_description(alloc, ask.get()),

@@ -42,7 +42,7 @@ fn page_in(request: &Request) -> Option<ScrollAsk>
     ensures { result ≡ page_in request.now }
 {
     match request {
-        Request::Scroll(ask) => Some(*ask),
+        Request::Scroll(ask) => Some(*ask.get()),
         _ => None,
     }
 }

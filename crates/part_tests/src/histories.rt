@@ -3,7 +3,7 @@
 use event_text::print_event;
 use shared_value::Shared;
 use std::alloc::{AllocError, Global};
-use task_events::{Counts, Event, FetchAsk, History, Outcome, Reply, Request, Summary};
+use task_events::{Event, FetchAsk, History, Outcome, Reply, Request, Summary, Tally};
 use task_ids::{Items, TaskId, Text};
 
 /// Whether this text is told of a refusal.
@@ -112,7 +112,7 @@ fn cut_short(alloc: Global) -> Option<History> {
     history
         .push(Event::End {
             task: root,
-            reply: Reply::Wrote(Counts::none()),
+            reply: Reply::Wrote(Tally::none()),
         })
         .ok()?;
     history

@@ -12,7 +12,7 @@ use crate::told::{with_written, writer_can_have};
 use shared_value::Shared;
 use std::alloc::{AllocError, Global};
 use std::marker::Model;
-use task_events::{BulkAsk, BulkShardAsk, Counts, Do, Reply, Request};
+use task_events::{BulkAsk, BulkShardAsk, Counts, Do, Reply, Request, Tally};
 
 /// Each number that a part of a bulk counts is below this.
 const PART_LIMIT: u64 = 1 << 18;
@@ -75,7 +75,10 @@ impl Bulk {
     {
         match self.parts.get(self.made) {
             Some(part) => Ok(Do::AskNext(Request::BulkShard(part.copy()?))),
-            None if self.open.is_empty() => Ok(Do::Finish(Reply::Wrote(self.counts))),
+            None if self.open.is_empty() => {
+                let counts = Tally::of(*self.open.allocator(), self.counts)?;
+                Ok(Do::Finish(Reply::Wrote(counts)))
+            }
             None => Ok(Do::Wait(None)),
         }
     }

@@ -57,7 +57,7 @@ pub(crate) fn search_can_have(shards: u32, ask: &SearchAsk, reply: &Reply) -> bo
 {
     match reply {
         Reply::Search(page) => is_answer_for(shards, ask, page.get()),
-        Reply::Cancelled { counts, .. } => are_below(*counts, 1),
+        Reply::Cancelled { counts, .. } => are_below(counts.get(), 1),
         Reply::AllFailed(_) | Reply::Rejected { .. } => true,
         Reply::Top(_) | Reply::Hits(_) | Reply::Wrote(_) => false,
     }
@@ -69,7 +69,7 @@ pub(crate) fn scroll_can_have(shards: u32, ask: &ScrollAsk, reply: &Reply) -> bo
 {
     match reply {
         Reply::Search(page) => is_page_for(shards, ask, page.get()),
-        Reply::Cancelled { counts, .. } => are_below(*counts, 1),
+        Reply::Cancelled { counts, .. } => are_below(counts.get(), 1),
         Reply::AllFailed(_) | Reply::Rejected { .. } => true,
         Reply::Top(_) | Reply::Hits(_) | Reply::Wrote(_) => false,
     }

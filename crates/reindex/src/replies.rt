@@ -29,7 +29,7 @@ pub(crate) fn is_clean(reply: &Reply) -> bool
     ensures { result ≡ is_clean reply.now }
 {
     match reply {
-        Reply::Wrote(counts) => counts.failures == 0,
+        Reply::Wrote(counts) => counts.get().failures == 0,
         _ => false,
     }
 }

@@ -10,7 +10,7 @@ use shared_value::Shared;
 use std::alloc::{AllocError, Global};
 use std::collections::VecDeque;
 use std::marker::Model;
-use task_events::{BulkShardAsk, Counts, Do, Reply, WriteNote};
+use task_events::{BulkShardAsk, Counts, Do, Reply, Tally, WriteNote};
 use task_ids::{Doc, Text};
 
 /// The documents of a batch that lie in one shard, after Elasticsearch's bulk API: they are written there in order, turn
@@ -100,14 +100,15 @@ impl BulkShardWork {
     }
 
     /// What it does next: it takes a turn, or ends with its counts once a turn has left no document. Before the first
-    /// turn it does not end, also where there is no document. It takes no memory.
-    pub fn next(&self) -> Do
-        ensures { result ≡ writing_next self.now }
+    /// turn it does not end, also where there is no document. It fails only for want of memory.
+    pub fn next(&self) -> Result<Do, AllocError>
+        ensures { IfOk result (λ step. step ≡ writing_next self.now) }
     {
         if self.has_turned && self.left.is_empty() {
-            Do::Finish(Reply::Wrote(self.counts()))
+            let counts = Tally::of(self.alloc, self.counts())?;
+            Ok(Do::Finish(Reply::Wrote(counts)))
         } else {
-            Do::Turn
+            Ok(Do::Turn)
         }
     }
 

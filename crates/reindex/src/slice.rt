@@ -19,7 +19,8 @@ use std::alloc::{AllocError, Global};
 use std::marker::Model;
 use std::mem::replace;
 use task_events::{
-    BulkAsk, Counts, Do, ReindexAsk, Reply, Request, ScrollAsk, SearchAsk, SliceAsk, copy_docs,
+    BulkAsk, Counts, Do, ReindexAsk, Reply, Request, ScrollAsk, SearchAsk, SliceAsk, Tally,
+    copy_docs,
 };
 use task_ids::{Doc, Items, TaskId, Text};
 use throttle::{Rate, wait_ms};
@@ -114,14 +115,23 @@ fn later_page(task: TaskId, context: TaskId) -> ScrollAsk
     }
 }
 
-/// The next page of a context, from a moment on.
-fn page_from(task: TaskId, context: Option<TaskId>, due: u64, now: u64) -> Do
-    ensures { result ≡ page_from task context due now }
+/// The next page of a context, from a moment on. It fails only for want of memory.
+fn page_from(
+    alloc: Global,
+    task: TaskId,
+    context: Option<TaskId>,
+    due: u64,
+    now: u64,
+) -> Result<Do, AllocError>
+    ensures { IfOk result (λ step. step ≡ page_from task context due now) }
 {
     match context {
-        None => Do::Wait(None),
-        Some(context) if due <= now => Do::AskNext(Request::Scroll(later_page(task, context))),
-        Some(_) => Do::Wait(Some(due)),
+        None => Ok(Do::Wait(None)),
+        Some(context) if due <= now => {
+            let page = Shared::new(alloc, later_page(task, context))?;
+            Ok(Do::AskNext(Request::Scroll(page)))
+        }
+        Some(_) => Ok(Do::Wait(Some(due))),
     }
 }
 
@@ -223,13 +233,14 @@ impl Slice {
     pub fn next(&self, now: u64) -> Result<Do, AllocError>
         ensures { IfOk result (λ step. step ≡ slice_next self.now now) }
     {
+        let alloc = self.first.get().body.get().sort.allocator();
         match &self.phase {
             Phase::First => Ok(Do::AskNext(Request::Search(self.first.copy()?))),
             Phase::Holds { docs, .. } => bulk_of(&self.dest, docs),
             Phase::Rests { until } if self.made < MAX_ASKS => {
-                Ok(page_from(self.task, self.context, *until, now))
+                page_from(alloc, self.task, self.context, *until, now)
             }
-            Phase::Over => Ok(Do::Finish(Reply::Wrote(self.counts))),
+            Phase::Over => Ok(Do::Finish(Reply::Wrote(Tally::of(alloc, self.counts)?))),
             Phase::Reads { .. } | Phase::Writes { .. } | Phase::Rests { .. } => Ok(Do::Wait(None)),
         }
     }

@@ -12,7 +12,7 @@ use crate::told::writer_can_have;
 use shared_value::Shared;
 use std::alloc::{AllocError, Global};
 use std::marker::Model;
-use task_events::{Counts, Do, ReindexAsk, Reply, Request, SliceAsk};
+use task_events::{Counts, Do, ReindexAsk, Reply, Request, SliceAsk, Tally};
 
 /// Each number that a slice counts is below this.
 const SLICE_LIMIT: u64 = 1 << 50;
@@ -74,7 +74,8 @@ impl Slices {
             return Ok(Do::AskNext(Request::Slice(slice)));
         }
         if self.open.is_empty() {
-            Ok(Do::Finish(Reply::Wrote(self.counts)))
+            let counts = Tally::of(*self.open.allocator(), self.counts)?;
+            Ok(Do::Finish(Reply::Wrote(counts)))
         } else {
             Ok(Do::Wait(None))
         }

@@ -23,8 +23,8 @@ pub(crate) fn writer_can_have(reply: &Reply, limit: u64) -> bool
     ensures { result ≡ writer_can_have limit reply.now }
 {
     match reply {
-        Reply::Wrote(counts) => are_below(*counts, limit),
-        Reply::Cancelled { counts, .. } => are_below(*counts, limit),
+        Reply::Wrote(counts) => are_below(counts.get(), limit),
+        Reply::Cancelled { counts, .. } => are_below(counts.get(), limit),
         Reply::Rejected { .. } => true,
         Reply::Search(_) | Reply::Top(_) | Reply::Hits(_) | Reply::AllFailed(_) => false,
     }
@@ -35,8 +35,8 @@ pub(crate) fn carried(reply: &Reply) -> Counts
     ensures { result ≡ carried reply.now }
 {
     match reply {
-        Reply::Wrote(counts) => *counts,
-        Reply::Cancelled { counts, .. } => *counts,
+        Reply::Wrote(counts) => counts.get(),
+        Reply::Cancelled { counts, .. } => counts.get(),
         Reply::Search(_)
         | Reply::Top(_)
         | Reply::Hits(_)
@@ -53,8 +53,8 @@ pub(crate) fn failures_of(reply: &Reply) -> u64
     match reply {
         Reply::Search(page) => page.get().failed.as_slice().len() as u64,
         Reply::AllFailed(_) | Reply::Rejected { .. } => 1,
-        Reply::Cancelled { counts, .. } => counts.failures + 1,
-        Reply::Wrote(counts) => counts.failures,
+        Reply::Cancelled { counts, .. } => counts.get().failures + 1,
+        Reply::Wrote(counts) => counts.get().failures,
         Reply::Top(_) | Reply::Hits(_) => 0,
     }
 }

@@ -80,7 +80,7 @@ pub(crate) fn query_can_have(reading: &Reading, at: ShardRead, reply: &Reply) ->
         result ≡ can_have shards (Request.Query (query_of reading.now at)) reply.now }
 {
     match reply {
-        Reply::Cancelled { counts, .. } => are_zero(*counts),
+        Reply::Cancelled { counts, .. } => are_zero(counts.get()),
         Reply::Rejected { .. } => true,
         Reply::Top(top) => is_top_for(reading, at, top.get()),
         Reply::Search(_) | Reply::Hits(_) | Reply::AllFailed(_) | Reply::Wrote(_) => false,
@@ -111,7 +111,7 @@ pub(crate) fn fetch_can_have(fetch: &FetchAsk, reply: &Reply) -> bool
     ensures { (shards : ℕ) → result ≡ can_have shards (Request.Fetch fetch.now) reply.now }
 {
     match reply {
-        Reply::Cancelled { counts, .. } => are_zero(*counts),
+        Reply::Cancelled { counts, .. } => are_zero(counts.get()),
         Reply::Rejected { .. } => true,
         Reply::Hits(hits) => {
             let hits = hits.get().as_slice();

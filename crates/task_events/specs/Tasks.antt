@@ -3,12 +3,12 @@
 use Rattle.std.specs.Prelude.{ℕ, ◌+◌, ◌-◌, Bool, true, false, List, [], ◌∷◌, Option, Some, None, filter, not, cond, if◌then◌else◌, ◌==◌}
 use Rattle.std.specs.List.{list_any}
 use Rattle.task_ids.specs.declared.task_id.TaskId.{TaskId}
-use Rattle.task_events.specs.declared.reply.Counts.{Counts}
 use Rattle.task_events.specs.declared.reply.Reply.{Reply}
 use Rattle.task_events.specs.declared.reply.Reply.TheVariants.{Cancelled}
 use Rattle.task_events.specs.declared.event.Event.{Event}
 use Rattle.task_events.specs.declared.event.Event.TheVariants.{Root, Put, Pass, Refuse, End}
 use Rattle.task_events.specs.Same.{same_task, same_pair}
+pub use Rattle.task_events.specs.NoCounts.{no_counts}
 
 -- a task is live from its root or put event up to its refusal or end
 abbrev pub is_live : TaskId → List Event → Bool
@@ -107,10 +107,6 @@ number_that test (Some t) = cond (test t) 1 0
 -- 1 where a task was put for the ask and is live, else 0
 abbrev pub live_child : TaskId → ℕ → List Event → ℕ
 live_child p k h = number_that (λ t. is_live t h) (child_of p k h)
-
--- the counts of a task that wrote nothing
-abbrev pub no_counts : Counts
-no_counts = record { total = 0; created = 0; updated = 0; batches = 0; failures = 0 }
 
 -- what the task answered when it ended
 abbrev pub reply_of : TaskId → List Event → Option Reply

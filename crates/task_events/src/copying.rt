@@ -186,7 +186,7 @@ impl Request {
             Request::Search(ask) => Ok(Request::Search(ask.copy()?)),
             Request::Query(ask) => Ok(Request::Query(ask.copy()?)),
             Request::Fetch(ask) => Ok(Request::Fetch(ask.copy()?)),
-            Request::Scroll(ask) => Ok(Request::Scroll(*ask)),
+            Request::Scroll(ask) => Ok(Request::Scroll(ask.copy()?)),
             Request::Reindex(ask) => Ok(Request::Reindex(ask.copy()?)),
             Request::Slice(ask) => Ok(Request::Slice(ask.copy()?)),
             Request::Bulk(ask) => Ok(Request::Bulk(ask.copy()?)),
@@ -254,8 +254,8 @@ impl Reply {
             Reply::Search(reply) => Ok(Reply::Search(reply.copy()?)),
             Reply::Top(top) => Ok(Reply::Top(top.copy()?)),
             Reply::Hits(hits) => Ok(Reply::Hits(hits.copy()?)),
-            Reply::AllFailed(failed) => Ok(Reply::AllFailed(copy_values(failed)?)),
-            Reply::Wrote(counts) => Ok(Reply::Wrote(*counts)),
+            Reply::AllFailed(failed) => Ok(Reply::AllFailed(failed.copy()?)),
+            Reply::Wrote(counts) => Ok(Reply::Wrote(counts.copy()?)),
             Reply::Cancelled {
                 task,
                 cancel,
@@ -263,7 +263,7 @@ impl Reply {
             } => Ok(Reply::Cancelled {
                 task: *task,
                 cancel: *cancel,
-                counts: *counts,
+                counts: counts.copy()?,
             }),
             Reply::Rejected { node } => Ok(Reply::Rejected { node: *node }),
         }

@@ -13,6 +13,7 @@ mod request;
 mod step;
 mod stop;
 mod summary;
+mod tally;
 
 pub use context::Context;
 pub use copying::{copy_docs, copy_hits, copy_key};
@@ -29,3 +30,4 @@ pub use request::{
 pub use step::{Asked, Do};
 pub use stop::Stop;
 pub use summary::Summary;
+pub use tally::Tally;

@@ -1,7 +1,8 @@
 ghost use Rattle.std.specs.Prelude.{◌≡◌};
-ghost use Rattle.task_events.specs.Tasks.{no_counts};
+ghost use Rattle.task_events.specs.NoCounts.{no_counts};
 
 use crate::request::HitKey;
+use crate::tally::Tally;
 use shared_value::Shared;
 use task_ids::{Doc, Items, TaskId, Text};
 
@@ -15,14 +16,14 @@ pub enum Reply {
     /// The documents of the fetch phase.
     Hits(Shared<Items<Hit>>),
     /// Every shard of a search failed. The shards ascend.
-    AllFailed(Items<FailedShard>),
+    AllFailed(Shared<Items<FailedShard>>),
     /// What a task that writes has done: a reindex, a slice, a bulk or its part in a shard.
-    Wrote(Counts),
+    Wrote(Tally),
     /// The task was cancelled, or refused, by the cancellation of this number.
     Cancelled {
         task: TaskId,
         cancel: u32,
-        counts: Counts,
+        counts: Tally,
     },
     /// The node had no free slot for it.
     Rejected {
@@ -38,7 +39,7 @@ impl Reply {
         Reply::Cancelled {
             task,
             cancel,
-            counts: Counts::none(),
+            counts: Tally::none(),
         }
     }
 }

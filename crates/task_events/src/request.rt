@@ -15,7 +15,7 @@ pub enum Request {
     /// The fetch phase of a search, of one shard.
     Fetch(Shared<FetchAsk>),
     /// The next page of a search that opened a context.
-    Scroll(ScrollAsk),
+    Scroll(Shared<ScrollAsk>),
     /// A copy of documents of one index into another.
     Reindex(Shared<ReindexAsk>),
     /// One slice of such a copy.

@@ -15,7 +15,7 @@ fn reply_with(shards: usize, answer: SearchReply) -> Result<Reply, AllocError>
 {
     if answer.failed.as_slice().len() == shards {
         let SearchReply { failed, .. } = answer;
-        return Ok(Reply::AllFailed(failed));
+        return Ok(Reply::AllFailed(Shared::new(failed.allocator(), failed)?));
     }
     Ok(Reply::Search(Shared::new(answer.failed.allocator(), answer)?))
 }

@@ -12,7 +12,7 @@ use search_phase::{Context, SearchRoot, ShardFetch, ShardQuery};
 use shard_docs::Shard;
 use shared_value::Shared;
 use std::alloc::{AllocError, Global};
-use task_events::{Counts, Do, Hit, Reply, Request, ShardTop, WriteNote};
+use task_events::{Counts, Do, Hit, Reply, Request, ShardTop, Tally, WriteNote};
 use task_ids::{Cluster, Items, TaskId, Text};
 
 /// The work of a task.
@@ -119,7 +119,7 @@ impl Work {
             Work::Reindex(root) => root.next(now),
             Work::Slice(slice) => slice.next(now),
             Work::Bulk(bulk) => bulk.next(),
-            Work::BulkShard(part) => Ok(part.next()),
+            Work::BulkShard(part) => part.next(),
         }
     }
 
@@ -247,14 +247,15 @@ impl Work {
     }
 
     /// The reply of a task that ends since it was cancelled, by the cancellation of this number, with what it has counted. It
-    /// takes no memory.
-    pub fn cancelled(&self, task: TaskId, cancel: u32) -> Reply
-        ensures { result ≡ Reply.Cancelled task cancel (counts_of self.now) }
+    /// fails only for want of memory, and takes none where nothing was counted.
+    pub fn cancelled(&self, alloc: Global, task: TaskId, cancel: u32) -> Result<Reply, AllocError>
+        ensures { IfOk result (λ reply. reply ≡ Reply.Cancelled task cancel (counts_of self.now)) }
     {
-        Reply::Cancelled {
+        let counts = Tally::of(alloc, self.counts())?;
+        Ok(Reply::Cancelled {
             task,
             cancel,
-            counts: self.counts(),
-        }
+            counts,
+        })
     }
 }

@@ -7,7 +7,7 @@ use query_match::Query;
 use reindex::{ReindexRoot, Slice};
 use shared_value::Shared;
 use std::alloc::Global;
-use task_events::{Counts, Do, Hit, ReindexAsk, Reply, Request, SearchReply, SliceAsk};
+use task_events::{Counts, Do, Hit, ReindexAsk, Reply, Request, SearchReply, SliceAsk, Tally};
 use task_ids::{Doc, Items, TaskId};
 
 fn task(number: u32) -> TaskId
@@ -126,7 +126,7 @@ fn is_bulk(request: Option<Request>, docs: usize) -> bool {
 
 fn is_page_of(request: Option<Request>, context: TaskId) -> bool {
     match request {
-        Some(Request::Scroll(ask)) => ask.id == context,
+        Some(Request::Scroll(ask)) => ask.get().id == context,
         _ => false,
     }
 }
@@ -134,9 +134,23 @@ fn is_page_of(request: Option<Request>, context: TaskId) -> bool {
 /// Whether it ends with these counts.
 fn ends(step: Do, counts: Counts) -> bool {
     match step {
-        Do::Finish(Reply::Wrote(done)) => done == counts,
+        Do::Finish(Reply::Wrote(done)) => done.get() == counts,
         _ => false,
     }
+}
+
+/// That so many documents were created.
+fn wrote(alloc: Global, documents: u64) -> Option<Reply> {
+    Some(Reply::Wrote(Tally::of(alloc, created(documents)).ok()?))
+}
+
+/// That a task was cancelled after so many documents were created.
+fn stopped(alloc: Global, documents: u64) -> Option<Reply> {
+    Some(Reply::Cancelled {
+        task: task(8),
+        cancel: 1,
+        counts: Tally::of(alloc, created(documents)).ok()?,
+    })
 }
 
 fn new_slice(alloc: Global) -> Option<Slice> {
@@ -152,16 +166,17 @@ fn a_slice_writes_each_page_before_the_next(rt: HostRuntime) {
         assert!(rt; false);
         return;
     };
-    let Some(first) = page(alloc) else {
+    let (Some(first), Some(early), Some(done)) = (page(alloc), wrote(alloc, 1), wrote(alloc, 1))
+    else {
         assert!(rt; false);
         return;
     };
     assert!(rt; is_search(ask_slice(&mut slice, 1, 0)));
     assert!(rt; slice.waits(0) && slice.due(0).is_none());
-    assert!(rt; !slice.takes(1, &Reply::Wrote(created(1))) && !slice.takes(2, &first));
+    assert!(rt; !slice.takes(1, &early) && !slice.takes(2, &first));
     assert!(rt; answer_slice(&mut slice, 1, first, 10));
     assert!(rt; is_bulk(ask_slice(&mut slice, 2, 10), 1));
-    assert!(rt; answer_slice(&mut slice, 2, Reply::Wrote(created(1)), 500));
+    assert!(rt; answer_slice(&mut slice, 2, done, 500));
     assert!(rt; slice.waits(1009) && slice.due(1009) == Some(1010));
     assert!(rt; ask_slice(&mut slice, 3, 1009).is_none() && !slice.waits(1010));
     assert!(rt; is_page_of(ask_slice(&mut slice, 3, 1010), task(3)));
@@ -187,18 +202,17 @@ fn new_root(alloc: Global) -> Option<ReindexRoot> {
 
 #[test]
 fn slices_answer_in_any_order(rt: HostRuntime) {
-    let Some(mut root) = new_root(rt.alloc()) else {
+    let (Some(mut root), Some(done), Some(stopped)) = (
+        new_root(rt.alloc()),
+        wrote(rt.alloc(), 5),
+        stopped(rt.alloc(), 2),
+    ) else {
         assert!(rt; false);
         return;
     };
     assert!(rt; is_slice(ask_root(&mut root, 1), 0) && is_slice(ask_root(&mut root, 2), 1));
     assert!(rt; root.waits(0) && root.due(0).is_none());
-    assert!(rt; answer_root(&mut root, 2, Reply::Wrote(created(5))));
-    let stopped = Reply::Cancelled {
-        task: task(8),
-        cancel: 1,
-        counts: created(2),
-    };
+    assert!(rt; answer_root(&mut root, 2, done));
     assert!(rt; root.waits(0) && answer_root(&mut root, 1, stopped));
     let counts = Counts {
         failures: 1,

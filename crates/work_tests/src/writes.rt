@@ -38,7 +38,7 @@ fn three_docs(alloc: Global) -> Option<Vec<Doc>> {
 /// Whether it ends next.
 fn is_done(work: &BulkShardWork) -> bool {
     match work.next() {
-        Do::Finish(_) => true,
+        Ok(Do::Finish(_)) => true,
         _ => false,
     }
 }

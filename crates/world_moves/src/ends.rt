@@ -246,6 +246,9 @@ pub fn finish_cancelled(state: &mut State<'_>, task: TaskId, cancel: u32) -> Res
     let Some(running) = state.tasks.get(&task) else {
         unreachable!()
     };
-    let reply = running.get().work.cancelled(task, cancel);
+    let reply = match running.get().work.cancelled(state.alloc, task, cancel) {
+        Ok(reply) => reply,
+        Err(_) => return Err(Stop::Memory),
+    };
     leave(state, task, Event::End { task, reply })
 }

@@ -7,7 +7,7 @@ ghost use Rattle.task_events.specs.Contexts.{after_begin, after_taking, asked_pa
 ghost use Rattle.world_moves.specs.Paging.{context_in, after_opening, after_return, CanTake};
 
 use scroll_table::{PageError, ScrollTable};
-use task_events::{Context, HitKey, Request, Stop};
+use task_events::{Context, HitKey, Request, ScrollAsk, Stop};
 use task_ids::TaskId;
 
 /// The context of an id, where one stands, in the tables of the nodes, from the first on.
@@ -35,7 +35,7 @@ pub fn page_asked<'a>(contexts: &'a [ScrollTable], request: &Request) -> Option<
     ensures { option_copied result ≡ asked_page (λ id. context_in contexts.now id) (Some request.now) }
 {
     match request {
-        Request::Scroll(ask) => context_at(contexts, ask.id),
+        Request::Scroll(ask) => context_at(contexts, ask.get().id),
         _ => None,
     }
 }
@@ -60,9 +60,17 @@ pub fn take(contexts: &mut Vec<ScrollTable>, request: &Request, now: u64, user: 
     ensures taken { (q : TaskId) → context_in contexts.new.items q ≡ after_taking now user (Some request.now) q (context_in contexts.old.items q) }
     ensures as_many { length contexts.new.items ≡ length contexts.old.items }
 {
-    let Request::Scroll(ask) = request else {
-        return;
-    };
+    if let Request::Scroll(ask) = request {
+        take_asked(contexts, *ask.get(), now, user);
+    }
+}
+
+/// A task takes the context of the page that it is asked to show.
+pub fn take_asked(contexts: &mut Vec<ScrollTable>, ask: ScrollAsk, now: u64, user: TaskId)
+    requires usable { CanTake now contexts.old.items (Request.Scroll ask) }
+    ensures taken { (q : TaskId) → context_in contexts.new.items q ≡ after_taking now user (Some (Request.Scroll ask)) q (context_in contexts.old.items q) }
+    ensures as_many { length contexts.new.items ≡ length contexts.old.items }
+{
     let table = &mut contexts[ask.id.node as usize - 1];
     match table.page(ask.id, ask.owner, now, ask.keep, user) {
         Ok(()) => {}

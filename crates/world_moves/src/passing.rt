@@ -14,10 +14,11 @@ ghost use Rattle.world_moves.specs.Paging.{context_in, passed, CanTake};
 ghost use Rattle.world_moves.specs.Ties.{IsTied, Keeps, task_at};
 
 use crate::append::append;
-use crate::pages::{context_at, take};
+use crate::pages::{context_at, take_asked};
 use crate::state::State;
 use node_parts::running::Running;
 use scroll_table::ScrollTable;
+use shared_value::Shared;
 use std::collections::BTreeMap;
 use task_events::{Event, MAX_EVENTS, Request, ScrollAsk, Stop};
 use task_ids::{Boxed, TaskId};
@@ -43,14 +44,14 @@ fn page_work(state: &State<'_>, task: TaskId, page: Option<ScrollAsk>) -> Result
     let Some(ask) = page else {
         return Ok(None);
     };
+    let Ok(page) = Shared::new(state.alloc, ask) else {
+        return Err(Stop::Memory);
+    };
+    let request = Request::Scroll(page);
     let context = context_at(state.contexts.as_slice(), ask.id);
-    match Work::new(
-        state.alloc,
-        task,
-        &Request::Scroll(ask),
-        &state.cluster,
-        context,
-    ) {
+    let work = Work::new(state.alloc, task, &request, &state.cluster, context);
+    drop(request);
+    match work {
         Ok(work) => Ok(Some(work)),
         Err(_) => Err(Stop::Memory),
     }
@@ -80,7 +81,7 @@ fn take_page(contexts: &mut Vec<ScrollTable>, page: Option<ScrollAsk>, now: u64,
     ensures as_many { length contexts.new.items ≡ length contexts.old.items }
 {
     if let Some(ask) = page {
-        take(contexts, &Request::Scroll(ask), now, user);
+        take_asked(contexts, ask, now, user);
     }
 }
 

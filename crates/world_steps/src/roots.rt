@@ -273,6 +273,17 @@ fn reindex_request(alloc: Global, ask: ReindexAsk) -> Result<Request, Stop>
     }
 }
 
+/// The request of a page.
+fn page_request(alloc: Global, ask: ScrollAsk) -> Result<Request, Stop>
+    ensures request { IfOk result (λ request. request ≡ Request.Scroll ask) }
+    ensures memory { IfErr result (λ stop. stop ≡ Stop.Memory) }
+{
+    match Shared::new(alloc, ask) {
+        Ok(page) => Ok(Request::Scroll(page)),
+        Err(_) => Err(Stop::Memory),
+    }
+}
+
 /// The reindex of a command that has begun comes to its node. It starts where a slot is free there, and is rejected
 /// where none is. The answer is whether it started.
 ///
@@ -325,5 +336,8 @@ pub(crate) fn start_page(state: &mut State<'_>, command: u32, ask: ScrollAsk) ->
         → NodeLacksNumber state.old.cluster state.old.history ask.id.node }
     ensures room { OnOk result (length state.new.history ≤ MAX_EVENTS) }
 {
-    start_with(state, command, ask.id.node, &Request::Scroll(ask))
+    let request = page_request(state.alloc, ask)?;
+    let started = start_with(state, command, ask.id.node, &request);
+    drop(request);
+    started
 }

@@ -1,15 +1,16 @@
-use Rattle.std.proofs.Common.{◌≡◌, ◌∙◌, Some, refl, ap, sym, subst}
+use Rattle.std.proofs.Common.{◌≡◌, ◌∙◌, ◌∷◌, map, reverse, Some, refl, ap, sym, subst}
 use Rattle.std.specs.Prelude.{option_map, OnOk, OnErr, Err}
 use Rattle.std.specs.Option.{option_copied}
 use Rattle.task_events.specs.declared.reply.Reply.TheVariants.{Cancelled}
 use Rattle.task_events.specs.declared.event.Event.TheVariants.{End}
 use Rattle.task_events.specs.declared.stop.Stop.TheVariants.{HistoryFull}
 use Rattle.task_events.specs.Allowed.{EndAllowed}
-use Rattle.world_moves.specs.Cancels.{with_due}
+use Rattle.world_moves.specs.Cancels.{answer_to, due_for, with_due}
 use Rattle.world_moves.specs.Moves.{IsPartOf, IsCutShort}
 use Rattle.world_moves.specs.Ties.{counts_in}
 use Rattle.world_moves.proofs.CountsKept.{counted_so}
 use Rattle.world_moves.proofs.StepsAfter.{is_kept}
+use Rattle.world_moves.proofs.CancelledEnds.{none_part}
 use Rattle.world_moves.proofs.ends.finish_cancelled.Goals as goal
 
 pub unreachable-requires : goal.unreachable-requires
@@ -23,7 +24,7 @@ leave-requires-clause-leaves c =
     let t = c.args.task in
     let was = sym c.get.ensures.value ∙ ap option_copied c.in-Some.is ∙ ap Some (sym c.get-2.ensures) in
     let counts = counted_so s.cluster s.corpus.now s.script.now s.history _ _ _ c.requires.tied.ties t c.requires.live c.requires.passed _ was in
-    let says = c.cancelled-reply.ensures ∙ ap (Cancelled t c.args.cancel) (sym counts) in
+    let says = c.in-Ok.ensures ∙ ap (Cancelled t c.args.cancel) (sym counts) in
     let allowed : EndAllowed t (Cancelled t c.args.cancel (counts_in s t)) s.history = record {
       goes_on = record { live = c.requires.live; passed = c.requires.passed };
       answered = c.requires.answered;
@@ -32,6 +33,13 @@ leave-requires-clause-leaves c =
     } in
     (refl, (c.args.cancel, says, subst (λ reply. EndAllowed t reply s.history) (sym says) allowed))
 
+-- memory ran out before anything came
+pub returns-in-Err-clause-part : goal.returns-in-Err-clause-part
+returns-in-Err-clause-part c =
+    let h = c.args.state.now.history in
+    let event = End c.args.task (Cancelled c.args.task c.args.cancel (counts_in c.args.state.now c.args.task)) in
+    none_part h (reverse (map (answer_to (event ∷ h)) (due_for c.args.task (event ∷ h)))) event
+
 -- it ends with that reply
 pub returns-clause-happened : goal.returns-clause-happened
 returns-clause-happened c =
@@ -39,7 +47,7 @@ returns-clause-happened c =
     let t = c.args.task in
     let was = sym c.get.ensures.value ∙ ap option_copied c.in-Some.is ∙ ap Some (sym c.get-2.ensures) in
     let counts = counted_so s.cluster s.corpus.now s.script.now s.history _ _ _ c.requires.tied.ties t c.requires.live c.requires.passed _ was in
-    let says = c.cancelled-reply.ensures ∙ ap (Cancelled t c.args.cancel) (sym counts) in
+    let says = c.in-Ok.ensures ∙ ap (Cancelled t c.args.cancel) (sym counts) in
     subst (λ reply. OnOk c.leave.result (c.leave.new.state.history ≡ with_due (End t reply) s.history)) says c.leave.ensures.happened
 
 pub returns-clause-part : goal.returns-clause-part
@@ -48,7 +56,7 @@ returns-clause-part c =
     let t = c.args.task in
     let was = sym c.get.ensures.value ∙ ap option_copied c.in-Some.is ∙ ap Some (sym c.get-2.ensures) in
     let counts = counted_so s.cluster s.corpus.now s.script.now s.history _ _ _ c.requires.tied.ties t c.requires.live c.requires.passed _ was in
-    let says = c.cancelled-reply.ensures ∙ ap (Cancelled t c.args.cancel) (sym counts) in
+    let says = c.in-Ok.ensures ∙ ap (Cancelled t c.args.cancel) (sym counts) in
     subst (λ reply. OnErr c.leave.result (IsPartOf s.history c.leave.new.state.history (with_due (End t reply) s.history))) says c.leave.ensures.part
 
 pub returns-clause-full : goal.returns-clause-full
@@ -57,5 +65,5 @@ returns-clause-full c =
     let t = c.args.task in
     let was = sym c.get.ensures.value ∙ ap option_copied c.in-Some.is ∙ ap Some (sym c.get-2.ensures) in
     let counts = counted_so s.cluster s.corpus.now s.script.now s.history _ _ _ c.requires.tied.ties t c.requires.live c.requires.passed _ was in
-    let says = c.cancelled-reply.ensures ∙ ap (Cancelled t c.args.cancel) (sym counts) in
+    let says = c.in-Ok.ensures ∙ ap (Cancelled t c.args.cancel) (sym counts) in
     subst (λ reply. c.leave.result ≡ Err HistoryFull → IsCutShort (λ past. IsPartOf s.history past (with_due (End t reply) s.history)) c.leave.new.state.history) says c.leave.ensures.full
