@@ -3,6 +3,8 @@
 //! It prints whether each round ended as it must, and on standard error how many ended in which way.
 #![tactic(auto)]
 
+#[cfg(test)]
+mod calls;
 mod control;
 mod data;
 mod fates;

@@ -50,6 +50,12 @@ pub told-most : (l : List View) → ((k : ℕ) (v : View) → get_elem? l k ≡ 
 told-most [] h = omega arith
 told-most (x ∷ xs) h = let a = h 0 x refl in let r = told-most xs (λ k v e. h (suc k) v e) in omega arith
 
+-- the seat that stepped has its new view
+pub placed : (l : List View) (k : ℕ) (v w : View) → get_elem? l k ≡ some v → get_elem? (set l k w) k ≡ some w
+placed [] k v w e = absurd (some-ne-none v (sym e))
+placed (x ∷ xs) zero v w e = refl
+placed (x ∷ xs) (suc k) v w e = placed xs k v w e
+
 -- a fact of each seat, where the seat id has the new view w
 pub each : (K : ℕ → View → Type 0) (vs : List View) (id : ℕ) (w : View) → K id w → ((k : ℕ) (u : View) → k ≢ id → get_elem? vs k ≡ some u → K k u)
     → (k : ℕ) (u : View) → get_elem? (set vs id w) k ≡ some u → K k u
@@ -117,8 +123,3 @@ module _ (z : Size) (c : View) (owner at owner' at' : ℕ → ℕ) (ws ws' : Lis
       seen = dite (ℕ_discrete (owner i) id)
           (λ e. (w, ap (get_elem? (set vs id w)) e ∙ placed vs id v w there, ap (λ (x : View). (hold x i).number) (some-injective ok.view v (sym ok.seated ∙ (ap (get_elem? vs) e ∙ there))) ∙ sym h))
           (λ n. (ok.view, set_else vs id (owner i) w n ∙ ok.seated, refl))
-        where
-          placed : (l : List View) (k : ℕ) (a b : View) → get_elem? l k ≡ some a → get_elem? (set l k b) k ≡ some b
-          placed [] k a b e = absurd (some-ne-none a (sym e))
-          placed (x ∷ xs) zero a b e = refl
-          placed (x ∷ xs) (suc k) a b e = placed xs k a b e

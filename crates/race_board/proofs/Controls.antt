@@ -51,11 +51,11 @@ in_more : (n m : ℕ) (l : List ℕ) → In n (l ++ m ∷ []) → In n l ⊎ (n 
 in_more n m [] h = ⊎_elim (λ (e : n ≡ m). inr e) (λ (e : ⊥). absurd e) h
 in_more n m (x ∷ xs) h = ⊎_elim (λ (e : n ≡ x). inl (inl e)) (λ (a : In n (xs ++ m ∷ [])). ⊎_elim (λ (b : In n xs). inl (inr b)) (λ (b : n ≡ m). inr b) (in_more n m xs a)) h
 
-in_last : (n : ℕ) (l : List ℕ) → In n (l ++ n ∷ [])
+pub in_last : (n : ℕ) (l : List ℕ) → In n (l ++ n ∷ [])
 in_last n [] = inl refl
 in_last n (x ∷ xs) = inr (in_last n xs)
 
-in_front : (n m : ℕ) (l : List ℕ) → In n l → In n (l ++ m ∷ [])
+pub in_front : (n m : ℕ) (l : List ℕ) → In n l → In n (l ++ m ∷ [])
 in_front n m [] h = absurd h
 in_front n m (x ∷ xs) h = ⊎_elim (λ (e : n ≡ x). inl e) (λ (e : In n xs). inr (in_front n m xs e)) h
 

@@ -7,7 +7,7 @@ use Rattle.atomic_table.proofs.Lists.{at_longer, at_last}
 use Rattle.race_board.specs.Words.{number, parent}
 use Rattle.race_board.specs.Board.{hold, no_hold}
 use Rattle.race_board.specs.Steps.{did, noted, took}
-use Rattle.race_board.specs.Calls.{Longer, Saw, OnlySteps, SawFull, TakesAt, ticket}
+use Rattle.race_board.specs.Calls.{Longer, Saw, Wrote, OnlySteps, SawFull, TakesAt, ticket}
 use Rattle.race_board.specs.declared.views.Did.{Did}
 use Rattle.race_board.specs.declared.views.Hold.{Hold}
 use Rattle.race_board.specs.declared.views.View.{View}
@@ -91,3 +91,9 @@ saw_longer v u w x n long s = record { turn = s.turn; of_this_call = s.of_this_c
 
 pub saw_later : (v u w : View) (x n : ℕ) → Longer v u → Saw u w x n → Saw v w x n
 saw_later v u w x n long s = record { turn = s.turn; of_this_call = (let a = s.of_this_call in let b = ap length long.1 in let d = length-append v.steps long.0 in omega arith); left = s.left; there = s.there }
+
+pub wrote_later : (v u w : View) (x n y : ℕ) → Longer v u → Wrote u w x n y → Wrote v w x n y
+wrote_later v u w x n y long wrote = (wrote.0, (let a = wrote.1 in let b = ap length long.1 in let d = length-append v.steps long.0 in omega arith), wrote.2)
+
+pub wrote_now : (v w : View) (x n y : ℕ) → w.steps ≡ v.steps ++ did x n y ∷ [] → Wrote v w x n y
+wrote_now v w x n y e = (length v.steps, omega arith, ap (λ (l : List Did). get_elem? l (length v.steps)) e ∙ at_last v.steps (did x n y) (length v.steps) refl)

@@ -21,10 +21,10 @@ in_taken (x ∷ xs) zero k l m = absurd (omega arith)
 in_taken (x ∷ xs) (suc c) zero l m = inl refl
 in_taken (x ∷ xs) (suc c) (suc k) l m = inr (in_taken xs c k (omega arith) (omega arith))
 
-pub known_by : (v w : View) (z : Size) (n : ℕ) (a : MarkAnswer) → Marks v w z n a → KnownBy w n a
-known_by v w z n Marked t = subst (In n) (sym (ap (λ (q : View). q.marked) t.5)) (in_behind n v.marked (n ∷ []) (inl refl))
-known_by v w z n (Already k) t = tt
-known_by v w z n NotFound t = tt
+pub known_by : (v w : View) (z : Size) (n c : ℕ) (a : MarkAnswer) → Marks v w z n c a → KnownBy w n a
+known_by v w z n c Marked t = subst (In n) (sym (ap (λ (q : View). q.marked) t.6)) (in_behind n v.marked (n ∷ []) (inl refl))
+known_by v w z n c (Already k) t = tt
+known_by v w z n c NotFound t = tt
 
 key_some : (t : TaskId) → task_key t ≢ 0
 unfolding task_key

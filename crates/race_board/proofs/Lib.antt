@@ -21,3 +21,5 @@ pub mod Tickets
 pub mod Known
 pub mod Walking
 pub mod Seen
+pub mod Doing
+pub mod Own

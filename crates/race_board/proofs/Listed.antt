@@ -1,5 +1,5 @@
 -- The calls of the control seat, over one step.
-use Rattle.std.proofs.Common.{◌≡◌, ◌≢◌, ℕ, ◌+◌, ◌<◌, List, ◌++◌, length, get_or, set, sym, refl, ap, ◌∙◌, subst, arith, Option, get_or-set_other, get_or-set_same, take, append-nil}
+use Rattle.std.proofs.Common.{◌≡◌, ◌≢◌, ℕ, ◌+◌, ◌<◌, List, [], ◌∷◌, ◌++◌, length, get_or, set, sym, refl, ap, ◌∙◌, subst, arith, Option, Some, None, append_assoc, get_or-set_other, get_or-set_same, take, append-nil}
 use Rattle.std.proofs.lemmas.List.{set-set, set-get_or}
 use mathlib.Core.Logic.{dite}
 use native.Mathlib.Decide.{ℕ_discrete}
@@ -7,9 +7,12 @@ use Rattle.race_board.specs.Words.{number, banned, by, ban_word}
 use Rattle.race_board.specs.Board.{ban, no_ban}
 use Rattle.race_board.specs.Steps.{did, noted, banning, with_ban}
 use Rattle.race_board.specs.Calls.{Longer, Saw}
-use Rattle.race_board.specs.Lists.{with_one, last_with, Listing, Passes, SawNone}
+use Rattle.race_board.specs.Events.{Event, marked, listed}
+use Rattle.race_board.specs.Lists.{with_one, last_with, Listing, Passes, SawNone, marks_with, done_at, pass_events}
+use Rattle.race_board.specs.declared.views.Size.{Size}
 use Rattle.race_board.specs.declared.views.Ban.{Ban}
 use Rattle.race_board.specs.declared.views.View.{View}
+use Rattle.race_board.proofs.Doing.{where_other, marks_more}
 use Rattle.race_board.proofs.Parts.{banned_ban, by_ban}
 use Rattle.race_board.proofs.Gained.{saw_more, saw_now}
 
@@ -53,3 +56,24 @@ listing_first v j found l none about loaded = let same : ban v j ≡ banning (ba
     let bans : v.bans ≡ set v.bans j (banning (ban v j).parent (ban v j).cancel 0) = sym (set-get_or v.bans j no_ban) ∙ ap (set v.bans j) same in
     let marked : v.marked ≡ v.marked ++ take 0 found = sym (append-nil v.marked) in
     λ k. let r : View = record v { bans = bans k; about = about k; loaded = loaded k; marked = marked k } in r
+
+-- the events of a list, after one slot more
+pub list_more : (z : Size) (j k i : ℕ) (ns : List ℕ) (got : Option ℕ) → i ≢ z.slots → (marks_with k ns ++ done_at z j i) ++ pass_events z j k i got ≡ marks_with k (with_one ns got) ++ done_at z j (i + 1)
+list_more z j k i ns None more = ap (λ (l : List Event). l ++ done_at z j (i + 1)) (ap (λ (l : List Event). marks_with k ns ++ l) (where_other i z.slots (listed j ∷ []) [] more) ∙ append-nil (marks_with k ns))
+list_more z j k i ns (Some n) more = ap (λ (l : List Event). l ++ (marked n k ∷ done_at z j (i + 1))) (ap (λ (l : List Event). marks_with k ns ++ l) (where_other i z.slots (listed j ∷ []) [] more) ∙ append-nil (marks_with k ns))
+    ∙ (sym (append_assoc (marks_with k ns) (marked n k ∷ []) (done_at z j (i + 1))) ∙ ap (λ (l : List Event). l ++ done_at z j (i + 1)) (sym (marks_more k ns (n ∷ []))))
+
+-- the plain words of the bans are those of these bans
+abbrev pub AllStand : List ℕ → List Ban → Type 0
+AllStand ws bs = (j : ℕ) → (get_or ws j 0 ≡ ban_word (get_or bs j no_ban).parent (get_or bs j no_ban).cancel) × ((get_or bs j no_ban).parent < 16777216) × ((get_or bs j no_ban).cancel < 65536) × ((get_or bs j no_ban).parent ≢ 0 → (get_or bs j no_ban).cancel ≢ 0)
+
+pub stands_on : (ws : List ℕ) (bs cs : List Ban) → cs ≡ bs → AllStand ws bs → AllStand ws cs
+stands_on ws bs cs e all = subst (AllStand ws) (sym e) all
+
+-- a scan goes on, and the bans stay
+pub stands_past : (ws : List ℕ) (bs : List Ban) (i n : ℕ) → i < length bs → AllStand ws bs → AllStand ws (set bs i (banning (get_or bs i no_ban).parent (get_or bs i no_ban).cancel n))
+stands_past ws bs i n l all j = let b : Ban = banning (get_or bs i no_ban).parent (get_or bs i no_ban).cancel n in dite (ℕ_discrete j i)
+    (λ e. let here : get_or (set bs i b) j no_ban ≡ b = ap (λ (k : ℕ). get_or (set bs i b) k no_ban) e ∙ get_or-set_same bs i b no_ban l in
+    subst (λ (q : Ban). (get_or ws j 0 ≡ ban_word q.parent q.cancel) × (q.parent < 16777216) × (q.cancel < 65536) × (q.parent ≢ 0 → q.cancel ≢ 0)) (sym here)
+    (subst (λ (k : ℕ). (get_or ws j 0 ≡ ban_word (get_or bs k no_ban).parent (get_or bs k no_ban).cancel) × ((get_or bs k no_ban).parent < 16777216) × ((get_or bs k no_ban).cancel < 65536) × ((get_or bs k no_ban).parent ≢ 0 → (get_or bs k no_ban).cancel ≢ 0)) e (all j)))
+    (λ e. subst (λ (q : Ban). (get_or ws j 0 ≡ ban_word q.parent q.cancel) × (q.parent < 16777216) × (q.cancel < 65536) × (q.parent ≢ 0 → q.cancel ≢ 0)) (sym (get_or-set_other bs i j b no_ban e)) (all j))

@@ -1,7 +1,9 @@
 -- The rule gives the theorem at each moment.
 use Rattle.std.proofs.Common.{◌≡◌, ◌≢◌, ℕ, ◌+◌, ◌*◌, ◌<◌, ◌≤◌, get_or, sym, ap, ◌∙◌, subst, arith}
 use mathlib.Core.Logic.{dite}
+use mathlib.Core.Option.{some-injective}
 use native.Mathlib.Decide.{ℕ_discrete, dec_le}
+use lib.ListN.{get_elem?}
 use Rattle.race_board.specs.Words.{number, parent, cancel}
 use Rattle.race_board.specs.Board.{hold, ban, task, Has, BoardAt, BoardOk}
 use Rattle.race_board.specs.Theorem.{Moment, Sits, Against, Held, Asked, Holds}
@@ -59,4 +61,4 @@ module _ (z : Size) (c : View) (s : Moment) (r : BoardAt z c s) where
   }
 
 pub moment : (z : Size) (s : Moment) → BoardOk z s → Holds z s
-moment z s (c, r) = record { control = c; first = r.first; against = against z c s r; held = held z c s r; asked = asked z c s r }
+moment z s (c, r) = record { control = c; first = r.first; leads = λ k u there lead. some-injective u c (sym there ∙ (ap (get_elem? s.views) ((r.seats k u there).leads lead) ∙ r.first)); against = against z c s r; held = held z c s r; asked = asked z c s r }

@@ -10,6 +10,7 @@ use Rattle.race_board.specs.Events.{Event, Follows}
 use Rattle.race_board.specs.Theorem.{Moment}
 use Rattle.race_board.specs.Turn.{Turn, Named, Rule}
 use Rattle.race_board.specs.declared.views.Size.{Size}
+use Rattle.race_board.proofs.Boards.{placed}
 use Rattle.race_board.proofs.Moments.{moment}
 
 -- The table's key is the size that the board keeps
@@ -36,6 +37,7 @@ module _ (A : ℕ → Type 0) (z key : Size) (same : key ≡ z) (slots id : ℕ)
             finds = refl;
             leaves = refl;
             views = refl;
+            sits_after = placed s.views id me.0 t.0 there;
             holds = moment z s ok;
             holds_after = moment z after t.3;
             follows = follows s ok there;
@@ -65,6 +67,7 @@ module _ (A : ℕ → Type 0) (z key : Size) (same : key ≡ z) (slots id : ℕ)
             finds = refl;
             leaves = refl;
             views = refl;
+            sits_after = placed s.views id me.0 t.0 there;
             holds = moment z s ok;
             holds_after = moment z after t.3;
             follows = follows s ok there;

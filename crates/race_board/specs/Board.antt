@@ -117,6 +117,11 @@ abbrev pub In : ℕ → List ℕ → Type 0
 In n [] = ⊥
 In n (x ∷ xs) = (n ≡ x) ⊎ In n xs
 
+-- a number that was never marked is no slot's last one, and no number is that of two slots
+pub record Lasts (v : View) : Type 0 where
+  pub marked : (n i : ℕ) → ¬ In n v.marked → slice_index v.last i ≢ 0 → slice_index v.last i ≢ n
+  pub apart : (i j : ℕ) → slice_index v.last i ≢ 0 → slice_index v.last i ≡ slice_index v.last j → i ≡ j
+
 -- the control seat has this mask of the task with that number
 abbrev pub Has : ℕ → ℕ → List Mask → Type 0
 Has n m [] = ⊥

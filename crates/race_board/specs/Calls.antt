@@ -23,6 +23,10 @@ pub record Saw (v w : View) (word seen : ℕ) : Type 0 where
   pub left : ℕ
   pub there : get_elem? w.steps turn ≡ some (did word seen left)
 
+-- a step of this call saw this value in this word and left that one there
+abbrev pub Wrote : View → View → ℕ → ℕ → ℕ → Type 0
+Wrote v w word seen left = (turn : ℕ) × (length v.steps ≤ turn) × (get_elem? w.steps turn ≡ some (did word seen left))
+
 -- of what a seat knows only its steps grew
 abbrev pub OnlySteps : View → View → Type 0
 OnlySteps v w = w ≡ record v { steps = w.steps }

@@ -5,7 +5,9 @@ pub mod Events
 pub mod StepEvents
 pub mod Theorem
 pub mod Turn
+pub mod Kinds
 pub mod Walks
+pub mod Own
 pub mod Keys
 pub mod Seats
 pub mod Calls

@@ -45,9 +45,11 @@ pub record Asked (z : Size) (s : Moment) (c : View) : Type 0 where
   pub known : (n m : ℕ) → Has n m c.masks → In n c.marked
   pub caught : (k i n m x : ℕ) (u : View) → Sits s k u → (hold u i).number ≢ 0 → (hold u i).number ≡ n → Has n m c.masks → bit_at (hold u i).cleared x ≡ 1 → bit_at m x ≡ 1
 
+-- All that is promised of a moment, of the control seat's view. So it is of the own view of the one seat that leads
 pub record Holds (z : Size) (s : Moment) : Type 0 where
   pub control : View
   pub first : Sits s 0 control
+  pub leads : (k : ℕ) (u : View) → Sits s k u → u.lead ≢ 0 → u ≡ control
   pub against : Against z s control
   pub held : Held z s control
   pub asked : Asked z s control

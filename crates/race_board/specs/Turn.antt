@@ -18,6 +18,7 @@ pub record Turn (z : Size) (v w : View) (word found left : ℕ) (es : List Event
   pub finds : slice_index before.words word ≡ found
   pub leaves : after.words ≡ slice_set before.words word left
   pub views : after.views ≡ slice_set before.views seat w
+  pub sits_after : Sits after seat w
   pub holds : Holds z before
   pub holds_after : Holds z after
   pub follows : Follows z before.words after.words es

@@ -1,10 +1,11 @@
 //! The calls of a live task on the nodes that it asks. Each takes `&self` and no memory, and none waits.
-ghost use Rattle.std.specs.Prelude.{◌≡◌, ◌≢◌, ℕ, ◌+◌, ◌-◌, ◌^◌, ◌<◌, ◌≤◌};
+ghost use Rattle.std.specs.Prelude.{◌≡◌, ◌≢◌, ℕ, ◌+◌, ◌-◌, ◌^◌, ◌<◌, ◌≤◌, []};
 ghost use Rattle.task_ids.specs.Limits.{IsNode};
 ghost use Rattle.race_board.specs.Seats.{seat_view, board_size, IsSeatOf};
+ghost use Rattle.race_board.specs.Kinds.{tracks, untracks};
 ghost use Rattle.race_board.specs.Walks.{Walks};
 ghost use Rattle.race_board.specs.Calls.{Longer, HasTicket};
-ghost use Rattle.race_board.specs.Checks.{IsClear, Tracks, CancelledBy, Untracks, all_but};
+ghost use Rattle.race_board.specs.Checks.{IsClear, Tracks, CancelledBy, Untracks, all_but, track_events};
 
 use crate::board::RaceBoard;
 use crate::seats::DataSeat;
@@ -32,7 +33,7 @@ impl<N: BoardName> RaceBoard<N> {
         ensures steps { Longer (seat_view seat.old) (seat_view seat.new) }
         ensures held { HasTicket (seat_view seat.new) ticket.now }
         ensures clear { IsClear (seat_view seat.new) ticket.now.id.number }
-        ensures moments { Walks (seat_view seat.old) (seat_view seat.new) }
+        ensures moments { Walks (tracks (2 ^ to)) (seat_view seat.old) (seat_view seat.new) (track_events ticket.now.id.number result) }
         ensures tracks { Tracks (seat_view seat.old) (seat_view seat.new) ticket.now.id.number (2 ^ to) result }
         ensures allowed { CancelledBy N.allowed result }
     {
@@ -51,7 +52,7 @@ impl<N: BoardName> RaceBoard<N> {
         requires node { IsNode to }
         ensures fits { IsSeatOf self.now seat.new }
         ensures held { HasTicket (seat_view seat.new) ticket.now }
-        ensures moments { Walks (seat_view seat.old) (seat_view seat.new) }
+        ensures moments { Walks (untracks (all_but to)) (seat_view seat.old) (seat_view seat.new) [] }
         ensures untracks { Untracks (seat_view seat.old) (seat_view seat.new) (board_size self.now) ticket.now.id.number to }
     {
         let slot = seat.slot_of(ticket.id().number);

@@ -1,12 +1,16 @@
 //! The calls of the control seat on bans. Each takes `&self` and no memory, and none waits.
-ghost use Rattle.std.specs.Prelude.{◌≡◌, ◌≢◌, ℕ, ◌+◌, ◌<◌, ◌≤◌, ◌++◌, [], length, take, slice_index, IfOk, IfErr, IfSome, IfNone, MatchBool};
+ghost use Rattle.std.specs.Prelude.{◌≡◌, ◌≢◌, ℕ, ◌+◌, ◌<◌, ◌≤◌, ◌++◌, [], ◌∷◌, true, length, take, slice_index, IfOk, IfErr, IfSome, IfNone, MatchBool};
 ghost use Rattle.task_ids.specs.Limits.{IsCancel};
 ghost use Rattle.race_board.specs.Board.{ban, In};
 ghost use Rattle.race_board.specs.Keys.{task_key};
 ghost use Rattle.race_board.specs.Seats.{control_view, board_size, IsControlOf};
+ghost use Rattle.race_board.specs.Words.{ban_word};
+ghost use Rattle.race_board.specs.Events.{ban_put, listed, ban_gone};
+ghost use Rattle.race_board.specs.Kinds.{bans, lists, unbans};
 ghost use Rattle.race_board.specs.Walks.{Walks};
+ghost use Rattle.race_board.specs.Own.{IsListed, Stops};
 ghost use Rattle.race_board.specs.Calls.{Longer};
-ghost use Rattle.race_board.specs.Lists.{Bans, NoneOf, Unbans, Listing, Passes};
+ghost use Rattle.race_board.specs.Lists.{Bans, NoneOf, Unbans, Listing, Passes, marks_with, pass_events};
 
 use crate::board::RaceBoard;
 use crate::rule::Place;
@@ -38,7 +42,7 @@ impl<N: BoardName> RaceBoard<N> {
         requires new { NoneOf (control_view seat.old) (board_size self.now) (task_key parent) }
         requires cancel { IsCancel cancel × N.allowed cancel }
         ensures fits { IsControlOf self.now seat.new }
-        ensures moments { Walks (control_view seat.old) (control_view seat.new) }
+        ensures moments { IfOk result (λ j. Walks (bans (ban_word (task_key parent) cancel)) (control_view seat.old) (control_view seat.new) (ban_put j (task_key parent) cancel ∷ [])) }
         ensures put { IfOk result (λ j. Bans (control_view seat.old) (control_view seat.new) (board_size self.now) (task_key parent) cancel j) }
         ensures full { IfErr result (λ _. (control_view seat.new ≡ control_view seat.old) × NoneOf (control_view seat.old) (board_size self.now) 0) }
     {
@@ -55,7 +59,7 @@ impl<N: BoardName> RaceBoard<N> {
     pub fn unban(&self, seat: &mut ControlSeat<N>, parent: TaskId) -> bool
         requires fits { IsControlOf self.now seat.old }
         ensures fits { IsControlOf self.now seat.new }
-        ensures moments { Walks (control_view seat.old) (control_view seat.new) }
+        ensures moments { result ≡ true → (j : ℕ) × ((ban (control_view seat.old) j).parent ≡ task_key parent) × Walks unbans (control_view seat.old) (control_view seat.new) (ban_gone j ∷ []) }
         ensures gone { MatchBool result
             (Unbans (control_view seat.old) (control_view seat.new) (board_size self.now) (task_key parent))
             ((control_view seat.new ≡ control_view seat.old) × NoneOf (control_view seat.old) (board_size self.now) (task_key parent)) }
@@ -83,7 +87,8 @@ impl<N: BoardName> RaceBoard<N> {
         requires ban { ((ban seat.old.me.0 place).parent ≡ parent) × ((ban seat.old.me.0 place).cancel ≡ cancel) × ((ban seat.old.me.0 place).next ≡ slot) × (parent ≢ 0) × (cancel ≢ 0) × (cancel < 65536) }
         ensures fits { (seat.new.table_id ≡ seat.old.table_id) × (seat.new.me.1 ≡ []) }
         ensures steps { Longer seat.old.me.0 seat.new.me.0 }
-        ensures moments { Walks seat.old.me.0 seat.new.me.0 }
+        ensures moments { Walks (lists place cancel) seat.old.me.0 seat.new.me.0 (pass_events self.now.words.size place cancel slot result) }
+        ensures fresh { IfSome result (λ n. ¬ In n seat.old.me.0.marked) }
         ensures passes { Passes seat.old.me.0 seat.new.me.0 place slot result }
     {
         let seen = self.words.scan(seat, place, slot);
@@ -105,7 +110,9 @@ impl<N: BoardName> RaceBoard<N> {
         ensures fits { IsControlOf self.now seat.new }
         ensures steps { Longer (control_view seat.old) (control_view seat.new) }
         ensures found { (length found.new ≡ length found.old) × (result ≤ length found.new) }
-        ensures moments { Walks (control_view seat.old) (control_view seat.new) }
+        ensures moments { Walks (lists place (ban (control_view seat.old) place).cancel) (control_view seat.old) (control_view seat.new) (marks_with (ban (control_view seat.old) place).cancel (take result found.new) ++ listed place ∷ []) }
+        ensures done { IsListed (board_size self.now) (control_view seat.new) place }
+        ensures stops { Stops (board_size self.now) (control_view seat.new) place }
         ensures known { (k : ℕ) → k < result → In (slice_index found.new k) (control_view seat.new).marked }
         ensures listed { Listing (control_view seat.old) (control_view seat.new) place (board_size self.now).slots ((control_view seat.old).marked ++ take result found.new) }
     {

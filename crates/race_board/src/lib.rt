@@ -22,7 +22,7 @@ mod words;
 
 pub use board::{BoardParts, RaceBoard};
 pub use closing::Closed;
-pub use laws::seen_at_a_moment;
+pub use laws::{children_stop, masks_hold, seen_at_a_moment};
 pub use seats::{ControlSeat, DataSeat};
 pub use task_ids::{AnyCancel, BoardName};
 pub use task_table::{Check, Full, NoRoom, Track};

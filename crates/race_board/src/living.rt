@@ -2,9 +2,10 @@
 ghost use Rattle.std.specs.Prelude.{◌≡◌, ◌≢◌, ℕ, ◌+◌, ◌-◌, ◌<◌, IfSome};
 ghost use Rattle.child_track.specs.Track.{unanswered, sealed};
 ghost use Rattle.race_board.specs.Seats.{seat_view, board_size, IsSeatOf};
+ghost use Rattle.race_board.specs.Kinds.{checks, looks};
 ghost use Rattle.race_board.specs.Walks.{Walks};
 ghost use Rattle.race_board.specs.Calls.{Longer, HasTicket};
-ghost use Rattle.race_board.specs.Checks.{Checks, MayAsk, BannedBy, Ends, Looks};
+ghost use Rattle.race_board.specs.Checks.{Checks, MayAsk, BannedBy, Ends, EndsSo, Looks, check_events, look_events};
 
 use crate::board::RaceBoard;
 use crate::seats::DataSeat;
@@ -22,7 +23,7 @@ impl<N: BoardName> RaceBoard<N> {
         ensures steps { Longer (seat_view seat.old) (seat_view seat.new) }
         ensures held { HasTicket (seat_view seat.new) ticket.now }
         ensures clear { MayAsk (seat_view seat.new) ticket.now.id.number result }
-        ensures moments { Walks (seat_view seat.old) (seat_view seat.new) }
+        ensures moments { Walks (checks ticket.now.id.number) (seat_view seat.old) (seat_view seat.new) (check_events ticket.now result) }
         ensures checked { Checks (seat_view seat.old) (seat_view seat.new) ticket.now (board_size self.now) result }
         ensures allowed { BannedBy N.allowed result }
     {
@@ -46,7 +47,7 @@ impl<N: BoardName> RaceBoard<N> {
         requires ticket { HasTicket (seat_view seat.old) ticket.now }
         ensures fits { IsSeatOf self.now seat.new }
         ensures held { HasTicket (seat_view seat.new) ticket.now }
-        ensures moments { Walks (seat_view seat.old) (seat_view seat.new) }
+        ensures moments { Walks looks (seat_view seat.old) (seat_view seat.new) (look_events ticket.now.id.number result) }
         ensures looks { Looks (seat_view seat.old) (seat_view seat.new) ticket.now.id.number result }
         ensures allowed { IfSome result N.allowed }
     {
@@ -63,7 +64,7 @@ impl<N: BoardName> RaceBoard<N> {
         requires answered { unanswered track ≡ 0 }
         ensures fits { IsSeatOf self.now seat.new }
         ensures receipt { result.receipt ≡ sealed track ticket.token }
-        ensures moments { Walks (seat_view seat.old) (seat_view seat.new) }
+        ensures moments { EndsSo (seat_view seat.old) (seat_view seat.new) ticket.id.number }
         ensures ended { Ends (seat_view seat.old) (seat_view seat.new) ticket.id.number result.mark }
         ensures allowed { IfSome result.mark N.allowed }
     {

@@ -1,13 +1,15 @@
 //! The calls of the control seat on marks and masks. Each takes `&self` and no memory, and none waits.
-ghost use Rattle.std.specs.Prelude.{◌≡◌, ◌≢◌, ℕ, ◌+◌, ◌<◌, ◌⊎◌, length, slice_index, IfSome, IfNone};
+ghost use Rattle.std.specs.Prelude.{◌≡◌, ◌≢◌, ℕ, ◌+◌, ◌<◌, ◌⊎◌, [], length, slice_index, IfSome, IfNone};
 ghost use Rattle.task_ids.specs.Limits.{IsCancel};
 ghost use Rattle.race_board.specs.Words.{number, cancel};
 ghost use Rattle.race_board.specs.Board.{In};
 ghost use Rattle.race_board.specs.Seats.{control_view, board_size, IsControlOf};
+ghost use Rattle.race_board.specs.Kinds.{marks, masks};
 ghost use Rattle.race_board.specs.Walks.{Walks};
+ghost use Rattle.race_board.specs.Own.{AtTheEnd, HasCleared};
 ghost use Rattle.race_board.specs.Calls.{Longer};
 ghost use Rattle.race_board.specs.Turn.{MayMark};
-ghost use Rattle.race_board.specs.Lists.{Marks, MarksSeen, AlreadyBy, KnownBy, IsMask};
+ghost use Rattle.race_board.specs.Lists.{Marks, MarksSeen, AlreadyBy, KnownBy, IsMask, mark_events};
 
 use crate::board::RaceBoard;
 use crate::seats::ControlSeat;
@@ -24,9 +26,9 @@ impl<N: BoardName> RaceBoard<N> {
         requires cancel { IsCancel cancel × N.allowed cancel }
         ensures fits { IsControlOf self.now seat.new }
         ensures steps { Longer (control_view seat.old) (control_view seat.new) }
-        ensures moments { Walks (control_view seat.old) (control_view seat.new) }
+        ensures moments { Walks (marks cancel) (control_view seat.old) (control_view seat.new) (mark_events number cancel result) }
         ensures known { KnownBy (control_view seat.new) number result }
-        ensures marks { Marks (control_view seat.old) (control_view seat.new) (board_size self.now) number result }
+        ensures marks { Marks (control_view seat.old) (control_view seat.new) (board_size self.now) number cancel result }
         ensures allowed { AlreadyBy N.allowed result }
     {
         for slot in 0..self.words.size.slots {
@@ -52,8 +54,8 @@ impl<N: BoardName> RaceBoard<N> {
         requires cancel { IsCancel cancel × N.allowed cancel }
         ensures fits { IsControlOf self.now seat.new }
         ensures steps { Longer (control_view seat.old) (control_view seat.new) }
-        ensures moments { Walks (control_view seat.old) (control_view seat.new) }
-        ensures marks { MarksSeen (control_view seat.old) (control_view seat.new) slot seen result }
+        ensures moments { Walks (marks cancel) (control_view seat.old) (control_view seat.new) (mark_events (number seen) cancel result) }
+        ensures marks { MarksSeen (control_view seat.old) (control_view seat.new) slot seen cancel result }
         ensures allowed { AlreadyBy N.allowed result }
     {
         if let Some(mark) = mark_in(seen) {
@@ -72,7 +74,8 @@ impl<N: BoardName> RaceBoard<N> {
         requires fits { IsControlOf self.now seat.old }
         requires marked { In number (control_view seat.old).marked }
         ensures fits { IsControlOf self.now seat.new }
-        ensures moments { Walks (control_view seat.old) (control_view seat.new) }
+        ensures moments { Walks masks (control_view seat.old) (control_view seat.new) [] }
+        ensures cleared { AtTheEnd (board_size self.now) (control_view seat.old) (control_view seat.new) (HasCleared number result.0) }
         ensures known { (control_view seat.new).marked ≡ (control_view seat.old).marked }
         ensures mask { IsMask (control_view seat.old) (control_view seat.new) (board_size self.now) number result.0 }
     {

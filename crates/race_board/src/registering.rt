@@ -1,10 +1,12 @@
 //! Drawing numbers, and claiming slots. Each call takes `&self` and no memory, and none waits.
-ghost use Rattle.std.specs.Prelude.{◌≡◌, ◌≢◌, ℕ, ◌+◌, ◌-◌, ◌<◌, ◌≤◌, MatchOption, IfOk, IfErr, OnOk, OnErr, IfSome, IfNone};
+ghost use Rattle.std.specs.Prelude.{◌≡◌, ◌≢◌, ℕ, ◌+◌, ◌-◌, ◌<◌, ◌≤◌, [], ◌∷◌, MatchOption, MatchResult, IfOk, IfErr, OnOk, OnErr, IfSome, IfNone};
 ghost use Rattle.child_track.specs.Token.{token_parent};
-ghost use Rattle.race_board.specs.Words.{number, parent, cancel};
+ghost use Rattle.race_board.specs.Words.{number, parent, cancel, task_word};
 ghost use Rattle.race_board.specs.Keys.{parent_key};
 ghost use Rattle.race_board.specs.Steps.{did, noted, drew};
 ghost use Rattle.race_board.specs.Seats.{seat_view, board_size, IsSeatOf};
+ghost use Rattle.race_board.specs.Events.{put};
+ghost use Rattle.race_board.specs.Kinds.{draws, claims};
 ghost use Rattle.race_board.specs.Walks.{Walks};
 ghost use Rattle.race_board.specs.Calls.{Longer, HasTicket, OnlySteps, Refuses, SawFull, Takes, TakesAt};
 
@@ -24,7 +26,7 @@ impl<N: BoardName> RaceBoard<N> {
         requires fits { IsSeatOf self.now seat.old }
         requires free { (seat_view seat.old).drawn ≡ 0 }
         ensures fits { IsSeatOf self.now seat.new }
-        ensures moments { Walks (seat_view seat.old) (seat_view seat.new) }
+        ensures moments { Walks draws (seat_view seat.old) (seat_view seat.new) [] }
         ensures drawn { IfSome result (λ n. (n ≢ 0) × ((seat_view seat.old).told ≡ 0) × (seat_view seat.new ≡ noted (drew (seat_view seat.old) n) (did 0 (n - 1) n))) }
         ensures none { IfNone result (Refuses (seat_view seat.old) (seat_view seat.new)) }
     {
@@ -47,7 +49,9 @@ impl<N: BoardName> RaceBoard<N> {
         requires word { ((seat_view seat.old).drawn ≢ 0) × (number word ≡ (seat_view seat.old).drawn) × (cancel word ≡ 0) }
         ensures fits { IsSeatOf self.now seat.new }
         ensures steps { Longer (seat_view seat.old) (seat_view seat.new) }
-        ensures moments { Walks (seat_view seat.old) (seat_view seat.new) }
+        ensures moments { MatchOption result
+            (Walks (claims word) (seat_view seat.old) (seat_view seat.new) [])
+            (λ _. Walks (claims word) (seat_view seat.old) (seat_view seat.new) (put (number word) (parent word) ∷ [])) }
         ensures taken { MatchOption result
             (OnlySteps (seat_view seat.old) (seat_view seat.new) × SawFull (seat_view seat.old) (seat_view seat.new) (board_size self.now).slots)
             (λ i. TakesAt (seat_view seat.old) (seat_view seat.new) i (number word) (parent word)) }
@@ -77,7 +81,9 @@ impl<N: BoardName> RaceBoard<N> {
         requires token { token_parent token ≡ parent }
         ensures fits { IsSeatOf self.now seat.new }
         ensures steps { Longer (seat_view seat.old) (seat_view seat.new) }
-        ensures moments { Walks (seat_view seat.old) (seat_view seat.new) }
+        ensures moments { MatchResult result
+            (λ _. Walks (claims (task_word number (parent_key parent))) (seat_view seat.old) (seat_view seat.new) (put number (parent_key parent) ∷ []))
+            (λ _. Walks (claims (task_word number (parent_key parent))) (seat_view seat.old) (seat_view seat.new) []) }
         ensures ticket { IfOk result (λ t. (t.id.node ≡ self.now.node) × (t.id.number ≡ number) × (t.token ≡ token)) }
         ensures held { IfOk result (HasTicket (seat_view seat.new)) }
         ensures takes { OnOk result (Takes (seat_view seat.old) (seat_view seat.new) number (parent_key parent)) }

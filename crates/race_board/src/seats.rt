@@ -1,7 +1,7 @@
 //! The seats, with the plain data that their calls read.
 ghost use Rattle.std.specs.Prelude.{◌≡◌, ◌≢◌, ℕ, ◌+◌, ◌<◌, [], length, slice_index, true, false};
 ghost use Rattle.race_board.specs.Words.{number, parent, by, ban_word};
-ghost use Rattle.race_board.specs.Board.{hold, ban};
+ghost use Rattle.race_board.specs.Board.{hold, ban, Lasts};
 ghost use Rattle.race_board.specs.declared.views.Progress.TheVariants.{Clear};
 
 use crate::rule::Place;
@@ -46,6 +46,7 @@ pub struct ControlSeat<N: BoardName> {
     ghost role: { place.me.0.lead ≡ 1 },
     ghost sized: { (length bans.items ≡ place.me.0.size.bans) × (length place.me.0.bans ≡ place.me.0.size.bans) },
     ghost latest: { (length marked.items ≡ place.me.0.size.slots) × (marked.items ≡ place.me.0.last) },
+    ghost lasts: { Lasts place.me.0 },
     ghost idle: { (place.me.0.about ≡ 0) × (place.me.0.loaded ≡ 0) × (place.me.0.half ≡ 0) },
     ghost whole: { (place.me.0.to_deal ≡ 0) × (place.me.0.joined ≡ 0) × (place.me.0.taken ≡ 0) },
     ghost standing: { (j : ℕ) → (slice_index bans.items j ≡ ban_word (ban place.me.0 j).parent (ban place.me.0 j).cancel) × ((ban place.me.0 j).parent < 16777216) × ((ban place.me.0 j).cancel < 65536) × ((ban place.me.0 j).parent ≢ 0 → (ban place.me.0 j).cancel ≢ 0) },

@@ -15,7 +15,12 @@ use Rattle.race_board.proofs.Parts.{banned_some}
 use Rattle.race_board.proofs.Gained.{longer_same, longer_more, saw_now}
 use Rattle.race_board.proofs.Checking.{reached, reached_next, reached_end, checked_at_first, checked_hold, checked_goes, checked_on, steps_on, none_more, ticket_at, check_fields, some_check}
 use Rattle.race_board.proofs.Tickets.{Roots, roots_set}
-use Rattle.race_board.proofs.Walking.{walk_none, walk_more, stride, same_or_not, tale}
+use Rattle.race_board.specs.Events.{passed}
+use Rattle.race_board.specs.StepEvents.{of_check}
+use Rattle.race_board.specs.Kinds.{checks}
+use Rattle.race_board.specs.Walks.{Walks}
+use Rattle.race_board.proofs.Doing.{where_same, where_other, on_ban, so_far, check_hits, check_misses, child_passes}
+use Rattle.race_board.proofs.Walking.{walk_none, walk_more, walk_still, stride, same_or_not, tale}
 use Rattle.race_board.proofs.board.RaceBoard.check.Goals as goal
 
 pub loop-place-init : goal.loop-place-init
@@ -32,7 +37,7 @@ loop-place-init g c = let seat = c.args.seat.now in let v : View = seat.place.me
       of_ticket = of_ticket;
       on = checked_at_first v i;
       longer = longer_same v;
-      walks = walk_none v;
+      walks = subst (Walks (checks t.id.number) v v) (sym (where_other 0 c.args.self.now.words.size.bans (passed t.id.number ∷ []) [] (λ e. let l : 0 < c.args.self.now.words.size.bans = search rules in absurd (omega arith)))) (walk_none (checks t.id.number) v);
       none_yet = λ j l. absurd (omega arith);
     }
 
@@ -77,6 +82,9 @@ loop-place-preserved g c = let v : View = c.args.seat.now.place.me.0 in let u : 
     let n : ℕ = c.check-seen.result in let d : Did = did (z.slots + j + 1) n n in let here : hold u i ≡ _ = checked_hold v u i (reached j z.bans (hold v i).check) inv.inside inv.on in
     let miss : banned n ≢ c.key_of-parent.result = λ e. c.if-banned_of-parent.false (c.banned_of.ensures ∙ e) in
     let miss' : banned n ≢ (hold u i).parent = λ e. miss (e ∙ (ap (λ (h : Hold). h.parent) here ∙ inv.child)) in
+    let t : ℕ = c.args.ticket.now.id.number in let size : u.size ≡ z = ap (λ (q : View). q.size) inv.on ∙ c.requires.fits.1 in
+    let number_is : (hold u i).number ≡ t = ap (λ (h : Hold). h.number) here ∙ inv.numbered in
+    let events_are : of_check (hold u i) (z.slots + j + 1) (u.size.slots + u.size.bans) n ≡ so_far t (j + 1) z.bans = ap (λ (q : Size). of_check (hold u i) (z.slots + j + 1) (q.slots + q.bans) n) size ∙ check_misses (hold u i) z.slots j z.bans n t number_is miss' in
     let steps : w.steps ≡ u.steps ++ d ∷ [] = steps_on u w i j z.bans d (c.check-seen.ensures.clear miss') (c.check-seen.ensures.next miss') in
     record {
       table = c.check-seen.ensures.fits.0 ∙ inv.table;
@@ -87,7 +95,8 @@ loop-place-preserved g c = let v : View = c.args.seat.now.place.me.0 in let u : 
       of_ticket = inv.of_ticket;
       on = checked_on v u w i j z.bans (hold v i).check d inv.inside inv.on (c.check-seen.ensures.clear miss') (c.check-seen.ensures.next miss');
       longer = longer_more v u w d inv.longer steps;
-      walks = walk_more v u w inv.walks (stride u w (z.slots + j + 1) n n n _ (same_or_not u w d (j + 1) z.bans (λ e. ap tale (c.check-seen.ensures.clear miss' e)) (λ e. ap tale (c.check-seen.ensures.next miss' e))) c.check-seen.ensures.turn);
+      walks = walk_more (checks t) v u w [] (so_far t (j + 1) z.bans) (subst (Walks (checks t) v u) (where_other j z.bans (passed t ∷ []) [] (λ e. let l = c.loop-place-test.true in absurd (omega arith))) inv.walks)
+          (stride (checks t) u w (z.slots + j + 1) n n n _ (so_far t (j + 1) z.bans) (same_or_not u w d (j + 1) z.bans (λ e. ap tale (c.check-seen.ensures.clear miss' e)) (λ e. ap tale (c.check-seen.ensures.next miss' e))) c.check-seen.ensures.turn (i, j, number_is, on_ban u z j size c.loop-place-test.true, refl, refl) events_are);
       none_yet = none_more v u w z.slots j c.key_of-parent.result n inv.longer inv.none_yet miss steps;
     }
 
@@ -128,4 +137,12 @@ pub returns-then-banned_of-parent-clause-moments : goal.returns-then-banned_of-p
 returns-then-banned_of-parent-clause-moments g c = let v : View = c.args.seat.now.place.me.0 in let u : View = c.loop-place.seat.place.me.0 in let w : View = c.check-seen.new.seat.me.0 in let i : ℕ = c.slot_of-slot.result in let j : ℕ = c.loop-place.place in let z : Size = c.args.self.now.words.size in let inv = c.loop-place.invariant in
     let n : ℕ = c.check-seen.result in let here : hold u i ≡ _ = checked_hold v u i (reached j z.bans (hold v i).check) inv.inside inv.on in
     let hit : banned n ≡ c.key_of-parent.result = sym c.banned_of.ensures ∙ c.if-banned_of-parent.true in
-    walk_more v u w inv.walks (stride u w (z.slots + j + 1) n n n _ (ap tale (c.check-seen.ensures.banned (hit ∙ sym (ap (λ (h : Hold). h.parent) here ∙ inv.child)))) c.check-seen.ensures.turn)
+    let t : ℕ = c.args.ticket.now.id.number in let size : u.size ≡ z = ap (λ (q : View). q.size) inv.on ∙ c.requires.fits.1 in let number_is : (hold u i).number ≡ t = ap (λ (h : Hold). h.number) here ∙ inv.numbered in
+    let hit' : banned n ≡ (hold u i).parent = hit ∙ sym (ap (λ (h : Hold). h.parent) here ∙ inv.child) in
+    walk_still (checks t) v u w [] (subst (Walks (checks t) v u) (where_other j z.bans (passed t ∷ []) [] (λ e. let l = c.loop-place-test.true in absurd (omega arith))) inv.walks)
+    (stride (checks t) u w (z.slots + j + 1) n n n _ [] (ap tale (c.check-seen.ensures.banned hit')) c.check-seen.ensures.turn (i, j, number_is, on_ban u z j size c.loop-place-test.true, refl, refl) (check_hits (hold u i) (z.slots + j + 1) (u.size.slots + u.size.bans) n hit'))
+
+pub returns-clause-moments : goal.returns-clause-moments
+returns-clause-moments g c = let v : View = c.args.seat.now.place.me.0 in let u : View = c.loop-place.seat.place.me.0 in let j : ℕ = c.loop-place.place in let z : Size = c.args.self.now.words.size in let inv = c.loop-place.invariant in let t : ℕ = c.args.ticket.now.id.number in
+    let last : j ≡ z.bans = omega arith in
+    subst (Walks (checks t) v u) (where_same j z.bans (passed t ∷ []) [] last ∙ child_passes c.args.ticket.now (λ e. c.key_of-parent.ensures.some.0 (inv.of_ticket ∙ e))) inv.walks

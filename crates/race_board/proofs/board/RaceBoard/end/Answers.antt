@@ -7,6 +7,9 @@ use Rattle.race_board.specs.declared.views.View.{View}
 use Rattle.race_board.proofs.Parts.{zero_number, zero_parent}
 use Rattle.race_board.proofs.Gained.{tickets_set, calm_set, Distinct, distinct_set}
 use Rattle.race_board.proofs.Tickets.{Roots, roots_set}
+use Rattle.race_board.specs.Kinds.{ends}
+use Rattle.race_board.specs.declared.views.Size.{Size}
+use Rattle.race_board.proofs.Doing.{on_task}
 use Rattle.race_board.proofs.Walking.{walk_one, stride, tale}
 use Rattle.race_board.proofs.board.RaceBoard.end.Goals as goal
 
@@ -31,4 +34,6 @@ invariant_of-seat g c = let seat = c.args.seat.now in let v : View = seat.place.
 
 pub returns-clause-moments : goal.returns-clause-moments
 returns-clause-moments g c = let v : View = c.args.seat.now.place.me.0 in let w : View = c.end-seen.new.seat.me.0 in
-    walk_one v w (stride v w (c.slot_of-slot.result + 1) c.end-seen.result 0 0 _ (ap tale c.end-seen.ensures.ends) c.end-seen.ensures.turn)
+    let i : ℕ = c.slot_of-slot.result in
+    let low : i < c.args.self.now.words.size.slots = (let a = c.slot_of-slot.ensures.0 in let b = c.args.seat.now.sized.0 in let d = ap (λ (z : Size). z.slots) c.requires.fits.1 in omega arith) in
+    (i, c.slot_of-slot.ensures.1 ∙ ap (λ x. x.number) c.id.ensures, walk_one ends v w _ (stride ends v w (i + 1) c.end-seen.result 0 0 _ _ (ap tale c.end-seen.ensures.ends) c.end-seen.ensures.turn (i, on_task v c.args.self.now.words.size i c.requires.fits.1 low, refl, refl) refl))

@@ -1,8 +1,9 @@
 use Rattle.std.proofs.Common.{◌≡◌, ◌≤◌, ◌<◌, ◌++◌, length, take}
 use Rattle.race_board.specs.Board.{ban}
+use Rattle.race_board.specs.Kinds.{lists}
 use Rattle.race_board.specs.Walks.{Walks}
 use Rattle.race_board.specs.Calls.{Longer}
-use Rattle.race_board.specs.Lists.{Listing}
+use Rattle.race_board.specs.Lists.{Listing, marks_with, done_at}
 use Rattle.race_board.proofs.board.RaceBoard.list.Given as goal
 
 abbrev pub invariant-loop-slot : goal.invariant-loop-slot
@@ -13,7 +14,7 @@ invariant-loop-slot g l = record {
   inside : l.place < length l.fn.seat.place.me.0.bans;
   on : Listing l.fn.seat.place.me.0 l.seat.place.me.0 l.place l.slot (l.fn.seat.place.me.0.marked ++ take l.count l.found);
   longer : Longer l.fn.seat.place.me.0 l.seat.place.me.0;
-  walks : Walks l.fn.seat.place.me.0 l.seat.place.me.0;
+  walks : Walks (lists l.place l.cancel) l.fn.seat.place.me.0 l.seat.place.me.0 (marks_with l.cancel (take l.count l.found) ++ done_at l.self.words.size l.place l.slot);
   few : l.count ≤ l.slot;
   room : length l.found ≡ l.self.words.size.slots;
 }

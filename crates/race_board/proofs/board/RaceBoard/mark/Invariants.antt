@@ -1,4 +1,5 @@
-use Rattle.std.proofs.Common.{◌≡◌}
+use Rattle.std.proofs.Common.{◌≡◌, []}
+use Rattle.race_board.specs.Kinds.{marks}
 use Rattle.race_board.specs.Walks.{Walks}
 use Rattle.race_board.specs.Calls.{Longer, OnlySteps}
 use Rattle.race_board.specs.Lists.{SawNone}
@@ -9,6 +10,6 @@ invariant-loop-slot g l = record {
   table : l.seat.place.table_id ≡ l.fn.seat.place.table_id;
   only : OnlySteps l.fn.seat.place.me.0 l.seat.place.me.0;
   longer : Longer l.fn.seat.place.me.0 l.seat.place.me.0;
-  walks : Walks l.fn.seat.place.me.0 l.seat.place.me.0;
+  walks : Walks (marks l.cancel) l.fn.seat.place.me.0 l.seat.place.me.0 [];
   none : SawNone l.fn.seat.place.me.0 l.seat.place.me.0 l.slot l.number;
 }

@@ -1,10 +1,8 @@
-use Rattle.std.proofs.Common.{arith, ℕ, ◌+◌, ◌<◌, refl, ap, inl}
-use Rattle.race_board.specs.Words.{cancel}
-use Rattle.race_board.specs.Steps.{did}
+use Rattle.std.proofs.Common.{arith, ℕ, ◌<◌, refl, ap, inl, inr}
 use Rattle.race_board.specs.declared.views.Size.{Size}
 use Rattle.race_board.specs.declared.views.View.{View}
-use Rattle.race_board.proofs.Masked.{masks_then}
-use Rattle.race_board.proofs.Walking.{walk_one, walk_more, stride, same_or_not, tale}
+use Rattle.race_board.proofs.Masked.{masks_then, two_loads, mask_covers, mask_of_none}
+use Rattle.race_board.proofs.Own.{nowhere}
 use Rattle.race_board.proofs.board.RaceBoard.mask.Goals as goal
 
 pub returns-then-is_word_of-clause-mask : goal.returns-then-is_word_of-clause-mask
@@ -19,10 +17,23 @@ returns-else-is_word_of-clause-mask g c = let seat = c.args.seat.now in let v : 
 
 pub returns-then-is_word_of-clause-moments : goal.returns-then-is_word_of-clause-moments
 returns-then-is_word_of-clause-moments g c = let v : View = c.args.seat.now.place.me.0 in let u : View = c.load_mask-mask.new.seat.me.0 in let w : View = c.load_masked-seen.new.seat.me.0 in let i : ℕ = c.in-Some.slot in let m : ℕ = c.load_mask-mask.result in let n : ℕ = c.load_masked-seen.result in let z : Size = c.args.self.now.words.size in
-    walk_more v u w (walk_one v u (stride v u (z.slots + z.bans + i + 1) m m m _ (ap tale c.load_mask-mask.ensures.half) c.load_mask-mask.ensures.turn))
-    (stride u w (i + 1) n n n _ (same_or_not u w (did (i + 1) n n) (cancel n) 0 (λ e. ap tale (c.load_masked-seen.ensures.none e)) (λ e. ap tale (c.load_masked-seen.ensures.whole e))) c.load_masked-seen.ensures.turn)
+    let low : i < z.slots = (let a = c.in-Some.ensures.found.0 in let b = c.args.seat.now.latest.0 in let d = ap (λ (q : Size). q.slots) c.requires.fits.1 in omega arith) in
+    two_loads v u w z i m n low c.requires.fits.1 c.load_mask-mask.ensures.half c.load_masked-seen.ensures.whole c.load_masked-seen.ensures.none c.load_mask-mask.ensures.turn c.load_masked-seen.ensures.turn
 
 pub returns-else-is_word_of-clause-moments : goal.returns-else-is_word_of-clause-moments
 returns-else-is_word_of-clause-moments g c = let v : View = c.args.seat.now.place.me.0 in let u : View = c.load_mask-mask.new.seat.me.0 in let w : View = c.load_masked-seen.new.seat.me.0 in let i : ℕ = c.in-Some.slot in let m : ℕ = c.load_mask-mask.result in let n : ℕ = c.load_masked-seen.result in let z : Size = c.args.self.now.words.size in
-    walk_more v u w (walk_one v u (stride v u (z.slots + z.bans + i + 1) m m m _ (ap tale c.load_mask-mask.ensures.half) c.load_mask-mask.ensures.turn))
-    (stride u w (i + 1) n n n _ (same_or_not u w (did (i + 1) n n) (cancel n) 0 (λ e. ap tale (c.load_masked-seen.ensures.none e)) (λ e. ap tale (c.load_masked-seen.ensures.whole e))) c.load_masked-seen.ensures.turn)
+    let low : i < z.slots = (let a = c.in-Some.ensures.found.0 in let b = c.args.seat.now.latest.0 in let d = ap (λ (q : Size). q.slots) c.requires.fits.1 in omega arith) in
+    two_loads v u w z i m n low c.requires.fits.1 c.load_mask-mask.ensures.half c.load_masked-seen.ensures.whole c.load_masked-seen.ensures.none c.load_mask-mask.ensures.turn c.load_masked-seen.ensures.turn
+
+pub returns-then-is_word_of-clause-cleared : goal.returns-then-is_word_of-clause-cleared
+returns-then-is_word_of-clause-cleared g c = let seat = c.args.seat.now in let v : View = seat.place.me.0 in let u : View = c.load_mask-mask.new.seat.me.0 in let w : View = c.load_masked-seen.new.seat.me.0 in let i : ℕ = c.in-Some.slot in let m : ℕ = c.load_mask-mask.result in let n : ℕ = c.load_masked-seen.result in let z : Size = c.args.self.now.words.size in
+    let t = c.if-is_word_of.ensures in
+    mask_covers v u w z i m n c.args.number c.requires.fits.1 (λ e. let role = seat.role in absurd (omega arith)) c.requires.marked t.0 t.1 c.load_mask-mask.ensures.half c.load_masked-seen.ensures.whole c.load_masked-seen.ensures.none c.load_masked-seen.ensures.marked c.load_masked-seen.ensures.turn
+
+pub returns-else-is_word_of-clause-cleared : goal.returns-else-is_word_of-clause-cleared
+returns-else-is_word_of-clause-cleared g c = let seat = c.args.seat.now in let v : View = seat.place.me.0 in let u : View = c.load_mask-mask.new.seat.me.0 in let w : View = c.load_masked-seen.new.seat.me.0 in let i : ℕ = c.in-Some.slot in let m : ℕ = c.load_mask-mask.result in let n : ℕ = c.load_masked-seen.result in let z : Size = c.args.self.now.words.size in
+    mask_of_none v u w z i m n c.args.number c.requires.fits.1 (λ e. let role = seat.role in absurd (omega arith)) c.requires.marked seat.lasts c.in-Some.ensures.found.1 c.if-is_word_of.ensures c.load_mask-mask.ensures.half c.load_masked-seen.ensures.whole c.load_masked-seen.ensures.none c.load_masked-seen.ensures.turn
+
+pub returns-in_default-clause-cleared : goal.returns-in_default-clause-cleared
+returns-in_default-clause-cleared g c = let seat = c.args.seat.now in let v : View = seat.place.me.0 in let z : Size = c.args.self.now.words.size in
+    inr (refl, λ s at. nowhere z v s at (λ e. let role = seat.role in absurd (omega arith)) c.args.number c.requires.marked (λ i l. c.in_default.ensures.none i (let b = seat.latest.0 in let d = ap (λ (q : Size). q.slots) c.requires.fits.1 in omega arith)))

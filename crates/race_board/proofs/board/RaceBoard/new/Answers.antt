@@ -10,6 +10,7 @@ use Rattle.race_board.specs.declared.views.Ban.{Ban}
 use Rattle.race_board.specs.declared.views.View.{View}
 use Rattle.race_board.proofs.Parts.{ban_none}
 use Rattle.race_board.proofs.Controls.{all_lifted}
+use Rattle.race_board.proofs.Own.{lasts_blank}
 use Rattle.race_board.proofs.Known.{no_ban_yet}
 use Rattle.race_board.proofs.board.RaceBoard.new.Goals as goal
 
@@ -23,6 +24,7 @@ invariant_of-control g c = let v : View = c.loop.place.me.0 in let z : Size = c.
       role = ap (λ (q : View). q.lead) is;
       sized = (blank.0 ∙ (sym bans_are ∙ sym (ap (λ (q : View). q.size.bans) is)), ap (λ (q : View). length q.bans) is ∙ (length-replicate z.bans no_ban ∙ sym (ap (λ (q : View). q.size.bans) is)));
       latest = (none.0 ∙ (sym slots_are ∙ sym (ap (λ (q : View). q.size.slots) is)), none.1 ∙ (ap (λ (n : ℕ). replicate n 0) (sym slots_are) ∙ sym (ap (λ (q : View). q.last) is)));
+      lasts = lasts_blank v z.slots (ap (λ (q : View). q.last) is);
       idle = (ap (λ (q : View). q.about) is, ap (λ (q : View). q.loaded) is, ap (λ (q : View). q.half) is);
       whole = (ap (λ (q : View). q.to_deal) is ∙ (let a : c.args.data_seats ≤ c.loop.counter = search rules in let b : z.seats ≡ c.args.data_seats = search rules in omega arith), ap (λ (q : View). q.joined) is, ap (λ (q : View). q.taken) is);
       standing = λ j. let Of : Ban → Type 0 = λ b. (slice_index c.in_ok-bans.bans.items j ≡ ban_word b.parent b.cancel) × (b.parent < 16777216) × (b.cancel < 65536) × (b.parent ≢ 0 → b.cancel ≢ 0) in

@@ -1,4 +1,4 @@
-use Rattle.std.proofs.Common.{rules, arith, ◌≡◌, ℕ, ◌+◌, ◌<◌, List, length, get_or, set, length-set, refl, sym, ap, ◌∙◌, subst}
+use Rattle.std.proofs.Common.{rules, arith, ◌≡◌, ℕ, ◌+◌, ◌<◌, List, [], ◌∷◌, length, get_or, set, length-set, refl, sym, ap, ◌∙◌, subst}
 use Rattle.race_board.specs.Words.{number, parent}
 use Rattle.race_board.specs.Board.{no_hold}
 use Rattle.race_board.specs.Steps.{did, noted, took}
@@ -8,7 +8,10 @@ use Rattle.race_board.specs.declared.views.Hold.{Hold}
 use Rattle.race_board.specs.declared.views.View.{View}
 use Rattle.race_board.proofs.Gained.{tickets_set, calm_set, Distinct, distinct_set, longer_more, only_more, full_more, takes_at}
 use Rattle.race_board.proofs.Tickets.{Roots, roots_set, fresh_root}
-use Rattle.race_board.proofs.Walking.{walk_more, stride, stride_either, tale}
+use Rattle.race_board.specs.Events.{put}
+use Rattle.race_board.specs.Kinds.{claims}
+use Rattle.race_board.proofs.Doing.{on_task, claim_hits, claim_misses}
+use Rattle.race_board.proofs.Walking.{walk_more, walk_still, stride, stride_either, tale}
 use Rattle.race_board.proofs.board.RaceBoard.take_slot.Goals as goal
 
 pub claim-requires-clause-data : goal.claim-requires-clause-data
@@ -29,7 +32,7 @@ loop-slot-preserved g c = let seat = c.loop-slot.seat in let i : ℕ = c.loop-sl
       table = search rules;
       only = only_more v seat.place.me.0 w (did (i + 1) n n) inv.only e;
       longer = longer_more v seat.place.me.0 w (did (i + 1) n n) inv.longer (ap (λ (q : View). q.steps) e);
-      walks = walk_more v seat.place.me.0 w inv.walks (stride seat.place.me.0 w (i + 1) n n _ _ (ap tale e) c.claim.ensures.turn);
+      walks = walk_still (claims c.args.word) v seat.place.me.0 w [] inv.walks (stride (claims c.args.word) seat.place.me.0 w (i + 1) n n _ _ [] (ap tale e) c.claim.ensures.turn (i, on_task seat.place.me.0 c.args.self.now.words.size i (ap (λ (q : View). q.size) inv.only ∙ c.requires.fits.1) c.loop-slot-test.true, refl, refl) (claim_misses n c.args.word c.if-claim-eq0.false));
       full = full_more v seat.place.me.0 w i n inv.longer inv.full c.if-claim-eq0.false e;
     }
 
@@ -58,4 +61,6 @@ invariant_of-seat g c = let seat = c.loop-slot.seat in let i : ℕ = c.loop-slot
 
 pub returns-then-claim-eq0-clause-moments : goal.returns-then-claim-eq0-clause-moments
 returns-then-claim-eq0-clause-moments g c = let v : View = c.args.seat.now.place.me.0 in let u : View = c.loop-slot.seat.place.me.0 in let w : View = c.claim.new.seat.me.0 in
-    walk_more v u w c.loop-slot.invariant.walks (stride_either u w (c.loop-slot.slot + 1) c.claim.result 0 c.args.word _ _ (λ e. ap tale (c.claim.ensures.takes e)) (λ e. ap tale (c.claim.ensures.taken e)) c.claim.ensures.turn)
+    let i : ℕ = c.loop-slot.slot in let n : ℕ = c.claim.result in let y : ℕ = c.args.word in
+    walk_more (claims y) v u w [] (put (number y) (parent y) ∷ []) c.loop-slot.invariant.walks (stride_either (claims y) u w (i + 1) n 0 y _ _ (put (number y) (parent y) ∷ []) (λ e. ap tale (c.claim.ensures.takes e)) (λ e. ap tale (c.claim.ensures.taken e)) c.claim.ensures.turn
+    (i, on_task u c.args.self.now.words.size i (ap (λ (q : View). q.size) c.loop-slot.invariant.only ∙ c.requires.fits.1) c.loop-slot-test.true, refl, refl) (claim_hits n y c.if-claim-eq0.true))

@@ -1,16 +1,22 @@
-use Rattle.std.proofs.Common.{arith, ◌≡◌, ℕ, ◌+◌, ◌<◌, bit_or, length, length-set, sym, ap, ◌∙◌, subst}
+use Rattle.std.proofs.Common.{arith, ◌≡◌, ℕ, ◌+◌, ◌<◌, [], ◌∷◌, refl, inl, inr, bit_or, length, length-set, get_or-set_same, sym, ap, ◌∙◌, subst}
 use Rattle.race_board.specs.Words.{cancel}
-use Rattle.race_board.specs.Board.{hold}
-use Rattle.race_board.specs.Steps.{did, seeking, cleared_hold}
+use Rattle.race_board.specs.Board.{hold, no_hold}
+use Rattle.race_board.specs.Steps.{did, noted, with_hold, seeking, cleared_hold}
 use Rattle.race_board.specs.Checks.{Becomes}
 use Rattle.race_board.specs.declared.views.Did.{Did}
+use Rattle.race_board.specs.Events.{asked}
+use Rattle.race_board.specs.Kinds.{tracks}
+use Rattle.race_board.specs.StepEvents.{of_track_look}
+use Rattle.race_board.specs.Walks.{Walks}
+use Rattle.race_board.specs.declared.views.Hold.{Hold}
 use Rattle.race_board.specs.declared.views.Size.{Size}
 use Rattle.race_board.specs.declared.views.View.{View}
 use Rattle.race_board.proofs.Gained.{longer_same, longer_more, saw_now}
 use Rattle.race_board.proofs.Marks.{cleared_mark, cancelled_mark}
 use Rattle.race_board.proofs.Tracked.{twice, after_both, becomes_fields}
 use Rattle.race_board.proofs.Tickets.{Roots, roots_set, tracked_clear}
-use Rattle.race_board.proofs.Walking.{walk_one, walk_more, stride, same_or_not, tale}
+use Rattle.race_board.proofs.Doing.{where_same, where_other, on_task, on_mask}
+use Rattle.race_board.proofs.Walking.{walk_one, walk_more, walk_still, stride, same_or_not, tale}
 use Rattle.race_board.proofs.board.RaceBoard.track.Goals as goal
 
 pub invariant_of-seat : goal.invariant_of-seat
@@ -77,11 +83,22 @@ returns-in-None-clause-clear g c = let seat = c.args.seat.now in let v : View = 
     (λ e. c.slot_of-slot.ensures.2 (ap (λ x. x.number) c.id.ensures ∙ e)) (c.slot_of-slot.ensures.1 ∙ ap (λ x. x.number) c.id.ensures) seat.distinct c.requires.clear
 
 pub returns-in-Some-clause-moments : goal.returns-in-Some-clause-moments
-returns-in-Some-clause-moments g c = let v : View = c.args.seat.now.place.me.0 in let u : View = c.set_bits.new.seat.me.0 in let w : View = c.track_look.new.seat.me.0 in let i : ℕ = c.slot_of-slot.result in let m : ℕ = c.set_bits.result in let n : ℕ = c.track_look.result in let z : Size = c.args.self.now.words.size in
-    walk_more v u w (walk_one v u (stride v u (z.slots + z.bans + i + 1) m (bit_or m c.node_bit.result) _ _ (ap tale c.set_bits.ensures.sets) c.set_bits.ensures.turn))
-    (stride u w (i + 1) n n n _ (same_or_not u w (did (i + 1) n n) (cancel n) 0 (λ e. ap tale (c.track_look.ensures.cleared e)) (λ e. ap tale (c.track_look.ensures.marked e))) c.track_look.ensures.turn)
+returns-in-Some-clause-moments g c = let v : View = c.args.seat.now.place.me.0 in let u : View = c.set_bits.new.seat.me.0 in let w : View = c.track_look.new.seat.me.0 in let i : ℕ = c.slot_of-slot.result in let m : ℕ = c.set_bits.result in let n : ℕ = c.track_look.result in let z : Size = c.args.self.now.words.size in let b : ℕ = c.node_bit.result in
+    let inside : i < length v.held = (let p = c.slot_of-slot.ensures.0 in let q = c.args.seat.now.sized in omega arith) in let low : i < z.slots = (let a = c.slot_of-slot.ensures.0 in let q = c.args.seat.now.sized.0 in let d = ap (λ (q : Size). q.slots) c.requires.fits.1 in omega arith) in
+    let sets : u ≡ noted (with_hold v i (seeking (hold v i) b)) (did (z.slots + z.bans + i + 1) m (bit_or m b)) = c.set_bits.ensures.sets in
+    let size : u.size ≡ z = ap (λ (q : View). q.size) sets ∙ c.requires.fits.1 in
+    let is : (hold u i).number ≡ c.args.ticket.now.id.number = ap (λ (q : View). (hold q i).number) sets ∙ (ap (λ (h : Hold). h.number) (get_or-set_same v.held i (seeking (hold v i) b) no_hold inside) ∙ (c.slot_of-slot.ensures.1 ∙ ap (λ x. x.number) c.id.ensures)) in
+    let mark = cancelled_mark n c.in-Some.mark (sym c.mark_in.ensures ∙ c.in-Some.is) in let events : of_track_look (hold u i) n ≡ [] = where_other (cancel n) 0 (asked (hold u i).number ∷ []) [] (λ f. mark.1 (sym mark.0 ∙ f)) in
+    subst (λ (q : ℕ). Walks (tracks q) v w []) c.node_bit.ensures.bit (walk_still (tracks b) v u w [] (walk_one (tracks b) v u [] (stride (tracks b) v u (z.slots + z.bans + i + 1) m (bit_or m b) _ _ [] (ap tale sets) c.set_bits.ensures.turn (i, inl (on_mask v z i c.requires.fits.1 low, refl, refl)) refl))
+    (stride (tracks b) u w (i + 1) n n n _ [] (same_or_not u w (did (i + 1) n n) (cancel n) 0 (λ e. ap tale (c.track_look.ensures.cleared e)) (λ e. ap tale (c.track_look.ensures.marked e))) c.track_look.ensures.turn (i, inr (on_task u z i size low, refl, refl)) events))
 
 pub returns-in-None-clause-moments : goal.returns-in-None-clause-moments
-returns-in-None-clause-moments g c = let v : View = c.args.seat.now.place.me.0 in let u : View = c.set_bits.new.seat.me.0 in let w : View = c.track_look.new.seat.me.0 in let i : ℕ = c.slot_of-slot.result in let m : ℕ = c.set_bits.result in let n : ℕ = c.track_look.result in let z : Size = c.args.self.now.words.size in
-    walk_more v u w (walk_one v u (stride v u (z.slots + z.bans + i + 1) m (bit_or m c.node_bit.result) _ _ (ap tale c.set_bits.ensures.sets) c.set_bits.ensures.turn))
-    (stride u w (i + 1) n n n _ (same_or_not u w (did (i + 1) n n) (cancel n) 0 (λ e. ap tale (c.track_look.ensures.cleared e)) (λ e. ap tale (c.track_look.ensures.marked e))) c.track_look.ensures.turn)
+returns-in-None-clause-moments g c = let v : View = c.args.seat.now.place.me.0 in let u : View = c.set_bits.new.seat.me.0 in let w : View = c.track_look.new.seat.me.0 in let i : ℕ = c.slot_of-slot.result in let m : ℕ = c.set_bits.result in let n : ℕ = c.track_look.result in let z : Size = c.args.self.now.words.size in let b : ℕ = c.node_bit.result in
+    let inside : i < length v.held = (let p = c.slot_of-slot.ensures.0 in let q = c.args.seat.now.sized in omega arith) in let low : i < z.slots = (let a = c.slot_of-slot.ensures.0 in let q = c.args.seat.now.sized.0 in let d = ap (λ (q : Size). q.slots) c.requires.fits.1 in omega arith) in
+    let sets : u ≡ noted (with_hold v i (seeking (hold v i) b)) (did (z.slots + z.bans + i + 1) m (bit_or m b)) = c.set_bits.ensures.sets in
+    let size : u.size ≡ z = ap (λ (q : View). q.size) sets ∙ c.requires.fits.1 in
+    let is : (hold u i).number ≡ c.args.ticket.now.id.number = ap (λ (q : View). (hold q i).number) sets ∙ (ap (λ (h : Hold). h.number) (get_or-set_same v.held i (seeking (hold v i) b) no_hold inside) ∙ (c.slot_of-slot.ensures.1 ∙ ap (λ x. x.number) c.id.ensures)) in
+    let free : cancel n ≡ 0 = cleared_mark n (sym c.mark_in.ensures ∙ c.in-None.is) in let t : ℕ = c.args.ticket.now.id.number in
+    let events : of_track_look (hold u i) n ≡ asked t ∷ [] = where_same (cancel n) 0 (asked (hold u i).number ∷ []) [] free ∙ ap (λ (q : ℕ). asked q ∷ []) is in
+    subst (λ (q : ℕ). Walks (tracks q) v w (asked t ∷ [])) c.node_bit.ensures.bit (walk_more (tracks b) v u w [] (asked t ∷ []) (walk_one (tracks b) v u [] (stride (tracks b) v u (z.slots + z.bans + i + 1) m (bit_or m b) _ _ [] (ap tale sets) c.set_bits.ensures.turn (i, inl (on_mask v z i c.requires.fits.1 low, refl, refl)) refl))
+    (stride (tracks b) u w (i + 1) n n n _ (asked t ∷ []) (same_or_not u w (did (i + 1) n n) (cancel n) 0 (λ e. ap tale (c.track_look.ensures.cleared e)) (λ e. ap tale (c.track_look.ensures.marked e))) c.track_look.ensures.turn (i, inr (on_task u z i size low, refl, refl)) events))
