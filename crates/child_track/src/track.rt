@@ -94,6 +94,19 @@ impl ChildTrack {
         }
     }
 
+    /// Whether a receipt answers an ask that is still unanswered, so that `answer` takes it in. It changes nothing, so a worker
+    /// that was sent a strange letter passes over it.
+    pub fn awaits(&self, receipt: &Receipt) -> bool
+        ensures fits { IsTrue result ↔ Answers receipt.now self.now }
+    {
+        let ask = receipt.ask();
+        if !self.is_parent_in(receipt) || ask == 0 {
+            return false;
+        }
+        let place = (ask - 1) as usize;
+        matches!(self.asks.get(place), Some(Some(_)))
+    }
+
     /// Takes a receipt in: its ask is answered. It is a stranger exactly where its parent is another task, or its
     /// ask is not unanswered; then nothing has changed.
     pub fn answer(&mut self, receipt: Receipt) -> Result<(), Stranger>

@@ -1,7 +1,7 @@
 -- What clauses say of the ends of an inbox.
 use Rattle.std.specs.Prelude.{◌≡◌, ℕ, List, [], ◌∷◌, ◌++◌, length, slice_get, Some}
 use Rattle.crossbeam_channel.specs.Claims.{view}
-use Rattle.crossbeam_channel.specs.Ends.{sends_on, receives_on}
+use Rattle.crossbeam_channel.specs.Ends.{sends_on, receives_on, ruled_capacity}
 use Rattle.node_link.specs.declared.rule.Tagged.{Tagged}
 use Rattle.node_link.specs.declared.ends.Sender.{Sender}
 use Rattle.node_link.specs.declared.ends.Receiver.{Receiver}
@@ -23,6 +23,10 @@ module _ {L : Type 0} where
   -- how many senders its inbox has
   abbrev pub senders_of : Receiver L → ℕ
   senders_of r = (view r.pass).made
+
+  -- for how many letters at a time its inbox has room
+  abbrev pub capacity_of : Receiver L → ℕ
+  capacity_of r = ruled_capacity (receives_on r.mouth)
 
   -- what the sender that left this end sent, in order
   abbrev pub sent_by : SenderEnd L → List L

@@ -1,3 +1,4 @@
--- What an inbox holds, and what clauses say of the ends of an inbox.
+-- What an inbox holds, what clauses say of the ends of an inbox, and what each letter of a run keeps.
 pub mod Inbox
+pub mod Lawful
 pub mod Rule

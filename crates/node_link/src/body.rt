@@ -1,10 +1,12 @@
 // What letters say.
 ghost use Rattle.std.specs.Prelude.{◌≡◌};
 
+use crate::page::Page;
 use child_track::{AskToken, Receipt};
 use std::marker::Model;
-use task_events::{HitKey, Reply, Request, SearchAsk, ShardCount, Stop};
+use task_events::{AnsweredRequest, Reply, Request, Stop};
 use task_ids::{Action, Boxed, Headers, Items, TaskId, TaskInfo};
+use tasks_api::Filter;
 
 /// Which task of a run a letter is about. Each task of a run has a place of its own.
 #[derive(Clone, Copy, PartialEq, Eq)]
@@ -62,21 +64,10 @@ impl SentToken {
     }
 }
 
-/// The page of a scroll: what its context holds when the page begins.
-#[derive(Drop)]
-pub struct Page {
-    /// The search that opened the context.
-    pub ask: SearchAsk,
-    /// The shards that answered that search, at the versions that were read.
-    pub shards: Items<ShardCount>,
-    /// The cursor: the page begins after it, in hit order.
-    pub after: Option<HitKey>,
-}
-
 /// A command starts a task.
 #[derive(Drop)]
 pub struct Start {
-    pub command: u32,
+    /// The place of the command's root.
     pub place: Place,
     pub request: Request,
     pub headers: Headers,
@@ -102,21 +93,21 @@ pub struct Answered {
     pub place: Place,
     pub receipt: Receipt,
     /// The request that this answers.
-    pub request: Request,
+    pub request: AnsweredRequest,
     pub reply: Reply,
-    /// The page that a scroll was worked from.
+    /// The page that a scroll was worked from. One that was rejected may have none.
     pub page: Option<Boxed<Page>>,
 }
 
 /// A root has ended, or was rejected.
 #[derive(Drop)]
 pub struct RootAnswered {
-    pub command: u32,
+    /// The place of the command's root.
     pub place: Place,
     /// The request that this answers.
-    pub request: Request,
+    pub request: AnsweredRequest,
     pub reply: Reply,
-    /// The page that a scroll was worked from.
+    /// The page that a scroll was worked from. One that was rejected may have none.
     pub page: Option<Boxed<Page>>,
 }
 
@@ -153,16 +144,25 @@ pub enum Body {
         task: TaskId,
         wait: bool,
     },
+    /// The driver cancels the tasks that a filter lets through. It goes to each data worker.
+    CancelMatching {
+        cancel: u32,
+        filter: Filter,
+        wait: bool,
+    },
     /// The driver wants to know the live tasks.
     List {
         command: u32,
     },
-    /// Time goes on by so many milliseconds.
+    /// Time goes on by so many milliseconds, a day at most.
     Tick {
         ms: u64,
     },
-    /// From here on every due moment counts as past, and the worker ends when nothing is left to do.
+    /// From here on every due moment counts as past.
     Drain,
+    /// The driver has every answer, and sends this worker nothing more. It goes to each data worker, which ends once it has no live
+    /// task.
+    Leave,
     /// The worker ends at once.
     Stop(Stop),
 
@@ -176,6 +176,15 @@ pub enum Body {
     /// A data worker tells its control worker that a marked task has ended.
     Ended {
         receipt: Receipt,
+    },
+    /// A data worker that ends tells its control worker that no further `Matches` or `Ended` comes from it.
+    DataLeft {
+        worker: u32,
+    },
+    /// A control worker whose data workers have left, and which has no cancellation under way, tells each control worker that no
+    /// further `Ban` or `Unban` comes from it. One that was told so by each node ends once no ban stands on its board.
+    ControlLeft {
+        node: u32,
     },
 
     /// A command's root has this id.

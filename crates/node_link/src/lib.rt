@@ -5,20 +5,22 @@
 //! sent, it is all of them. [`Receiver::finish`] says so, once it has what each sender left. There is no order between
 //! senders, and no clause says that a call returns.
 //!
-//! A [`Letter`] is what the threads of a run send. What it says is its [`Body`], and its type keeps the fact that the
-//! run's name, a [`RunName`], asks of each letter of the run.
+//! A [`Letter`] is what the threads of a run send. What it says is its [`Body`], and its type keeps facts of that: each number in it is
+//! in range, each cancellation is one that the boards of the run may be told of, and what the run's name, a [`RunName`], asks besides.
 #![tactic(auto)]
 
 mod body;
 mod ends;
 mod letter;
 mod name;
+mod page;
 mod rule;
 mod steps;
 #[cfg(test)]
 mod tests;
 
-pub use body::{Answered, Asked, Body, Page, Place, RootAnswered, SentToken, Start};
+pub use body::{Answered, Asked, Body, Place, RootAnswered, SentToken, Start};
 pub use ends::{Back, Receiver, Sender, SenderEnd, Tally, inbox};
 pub use letter::Letter;
 pub use name::RunName;
+pub use page::Page;

@@ -1,6 +1,7 @@
 //! Letters through inboxes, in one thread and in five.
 ghost use Rattle.std.specs.Prelude.{◌≡◌};
 ghost use Rattle.node_link.specs.Inbox.{IsSame, LeadsTo, senders_of};
+ghost use Rattle.node_link.specs.Lawful.{IsTick};
 
 use super::*;
 use std::alloc::{AllocError, Global};
@@ -99,7 +100,9 @@ fn tick_of(letter: &Letter<AnyCancel>) -> Option<u64> {
 }
 
 // Sends a tick. It is none where it was sent, and else the milliseconds of the letter that came back.
-fn send_tick<R: Wait>(rt: &R, sender: &mut Sender<Letter<AnyCancel>>, ms: u64) -> Option<u64> {
+fn send_tick<R: Wait>(rt: &R, sender: &mut Sender<Letter<AnyCancel>>, ms: u64) -> Option<u64>
+    requires { IsTick ms }
+{
     match sender.send(rt, Letter::new(Body::Tick { ms })) {
         Ok(()) => None,
         Err(Back(letter)) => tick_of(&letter),
@@ -113,7 +116,7 @@ fn take_tick<R: Wait>(rt: &R, receiver: &mut Receiver<Letter<AnyCancel>>) -> Opt
 }
 
 // An inbox for two letters is empty, gets two, and is full for the third.
-fn fill<R: Wait>(rt: &R, alloc: Global) -> Result<[Option<u64>; 7], AllocError> {
+fn fill_two<R: Wait>(rt: &R, alloc: Global) -> Result<[Option<u64>; 7], AllocError> {
     let (mut senders, mut receiver) = inbox::<Letter<AnyCancel>>(alloc, 2, 1)?;
     let Some(mut sender) = senders.pop() else {
         return Ok([None; 7]);
@@ -130,8 +133,68 @@ fn fill<R: Wait>(rt: &R, alloc: Global) -> Result<[Option<u64>; 7], AllocError> 
 
 #[test]
 fn a_full_inbox_hands_the_letter_back(rt: HostRuntime) -> Result<(), AllocError> {
-    let answers = fill(&rt, rt.alloc())?;
+    let answers = fill_two(&rt, rt.alloc())?;
     assert!(rt; answers == [None, None, None, Some(7), Some(0), Some(1), None]);
+    Ok(())
+}
+
+// No inbox of these tests has room for so many letters.
+const MORE: u32 = 100;
+
+// Sends the numbers from 0 on until one comes back, and says which.
+fn fill<R: Wait>(rt: &R, sender: &mut Sender<u32>) -> Option<u32> {
+    for number in 0..MORE {
+        if let Err(Back(back)) = sender.send(rt, number) {
+            return if back == number { Some(back) } else { None };
+        }
+    }
+    None
+}
+
+// Takes the numbers from 0 on until there is none, and says how many they were.
+fn empty<R: Wait>(rt: &R, receiver: &mut Receiver<u32>) -> Option<u32> {
+    for number in 0..MORE {
+        match receiver.try_take(rt) {
+            None => return Some(number),
+            Some(taken) if taken == number => {}
+            Some(_) => return None,
+        }
+    }
+    None
+}
+
+// Each sender of a new inbox in turn fills it, and all is taken. It says whether exactly as many letters as it has room for went in,
+// and came out in order.
+fn has_room_for<R: Wait>(
+    rt: &R,
+    alloc: Global,
+    capacity: u32,
+    senders: u32,
+) -> Result<bool, AllocError> {
+    if capacity == 0 || senders == 0 {
+        return Ok(false);
+    }
+    let (senders, mut receiver) = inbox::<u32>(alloc, capacity, senders)?;
+    let mut whole = true;
+    for sender in senders {
+        let mut sender = sender;
+        whole &= empty(rt, &mut receiver) == Some(0);
+        whole &= fill(rt, &mut sender) == Some(capacity);
+        whole &= empty(rt, &mut receiver) == Some(capacity);
+    }
+    Ok(whole)
+}
+
+#[test]
+fn a_letter_comes_back_only_from_a_full_inbox_and_none_is_told_only_of_an_empty_one(
+    rt: HostRuntime,
+) -> Result<(), AllocError> {
+    for (capacity, senders) in [(1, 1), (1, 3), (2, 1), (3, 5), (64, 2)] {
+        assert!(rt;
+            has_room_for(&rt, rt.alloc(), capacity, senders)?,
+            "at {capacity}"
+        );
+    }
     Ok(())
 }
 

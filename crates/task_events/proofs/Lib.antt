@@ -1,3 +1,4 @@
 mod Ascending
 mod Counted
+pub mod HitKeys
 mod Pieces

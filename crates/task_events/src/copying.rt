@@ -2,6 +2,7 @@
 
 ghost use Rattle.std.specs.Prelude.{◌≡◌, IfOk};
 
+use crate::context::Context;
 use crate::reply::{Hit, Reply, SearchReply, ShardTop};
 use crate::request::{
     BulkAsk, BulkShardAsk, FetchAsk, HitKey, ReindexAsk, Request, SearchAsk, ShardAsk, SliceAsk,
@@ -241,6 +242,24 @@ impl SearchReply {
             total: self.total,
             hits: copy_hits(&self.hits)?,
             last: copy_key(&self.last)?,
+        })
+    }
+}
+
+impl Context {
+    /// An equal context. It fails only for want of memory.
+    pub fn copy(&self) -> Result<Context, AllocError>
+        ensures { IfOk result (λ context. context ≡ self.now) }
+    {
+        Ok(Context {
+            id: self.id,
+            ask: self.ask.copy()?,
+            shards: self.shards.copy()?,
+            after: copy_key(&self.after)?,
+            keep_ms: self.keep_ms,
+            last_ms: self.last_ms,
+            owner: self.owner,
+            busy: self.busy,
         })
     }
 }

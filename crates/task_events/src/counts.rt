@@ -3,6 +3,7 @@ ghost use Rattle.std.specs.List.{list_all};
 ghost use Rattle.task_events.specs.Counts.{Ascend, AreCounts, version_in};
 
 use crate::reply::ShardCount;
+use std::alloc::AllocError;
 use std::marker::Model;
 
 /// How many shards an index has at most.
@@ -56,6 +57,14 @@ impl ShardCounts {
         ensures counts { AreCounts self.now }
     {
         self.counts.as_slice()
+    }
+
+    /// Equal counts, of the same shards. It fails only for want of memory.
+    pub fn copy(&self) -> Result<ShardCounts, AllocError>
+        ensures { IfOk result (λ counts. counts ≡ self.now) }
+    {
+        let counts = Vec::from_slice(*self.counts.allocator(), self.counts.as_slice())?;
+        Ok(ShardCounts { counts })
     }
 
     /// The version that was read of a shard, where it was read.

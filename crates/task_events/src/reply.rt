@@ -115,6 +115,15 @@ pub struct ShardCount {
     pub count: u64,
 }
 
+/// A shard at a version.
+#[derive(Clone, Copy, PartialEq, Eq)]
+pub struct ShardVersion {
+    /// The shard, from 0.
+    pub shard: u32,
+    /// The version that was read, a number of first writes.
+    pub version: u32,
+}
+
 /// A document that a search found.
 #[derive(Drop)]
 pub struct Hit {

@@ -6,7 +6,7 @@ use shared_value::Shared;
 use std::alloc::{AllocError, Global};
 use std::marker::Model;
 
-/// What a task has counted, in one word, which keeps what holds it small. Most tasks count nothing, and then it takes no memory. Its
+/// What a task has counted, in two words, which keeps what holds it small. Most tasks count nothing, and then it takes no memory. Its
 /// copies are other owners of the same counts. Contracts see the counts.
 #[derive(Drop)]
 pub struct Tally {

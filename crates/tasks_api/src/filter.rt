@@ -43,6 +43,17 @@ impl Filter {
         })
     }
 
+    /// An equal filter, for a letter that goes to each worker. It fails only for want of memory.
+    pub fn copy(&self) -> Result<Filter, AllocError>
+        ensures { IfOk result (λ filter. filter ≡ self.now) }
+    {
+        Ok(Filter {
+            actions: copy_texts(&self.actions)?,
+            nodes: copy_texts(&self.nodes)?,
+            parent: self.parent,
+        })
+    }
+
     /// Whether the filter lets a task through.
     pub fn matches(&self, info: &TaskInfo) -> bool
         ensures { result ≡ filter_matches self.now info.now }
@@ -82,6 +93,17 @@ fn owned(alloc: Global, pieces: &[&str]) -> Result<Items<Text>, AllocError>
         texts.push(Text::new(String::from_str(alloc, *piece)?))?;
     }
     Ok(Items::from_vec(texts))
+}
+
+/// Equal texts, in the same order.
+fn copy_texts(texts: &Items<Text>) -> Result<Items<Text>, AllocError>
+    ensures { IfOk result (λ copies. copies ≡ texts.now) }
+{
+    let mut copies = Vec::with_capacity(texts.allocator(), texts.as_slice().len())?;
+    for text in texts.as_slice() {
+        copies.push(text.copy()?)?;
+    }
+    Ok(Items::from_vec(copies))
 }
 
 /// Whether one of some patterns matches a text, or there is none.

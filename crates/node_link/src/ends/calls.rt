@@ -3,7 +3,7 @@ ghost use Rattle.std.specs.Prelude.{true, ◌≡◌, ◌^◌, ◌-◌, ℕ, ◌+
 ghost use Rattle.crossbeam_channel.specs.Claims.{view, IsSeatAt};
 ghost use Rattle.crossbeam_channel.specs.Ends.{sends_on, receives_on};
 ghost use Rattle.node_link.specs.Rule.{of, sender, hub};
-ghost use Rattle.node_link.specs.Inbox.{put, got, senders_of, number_of, number_left, sent_by, IsSame, SameInbox, LeadsTo, LeftBy, AreEnds, TookOne, TookInOrder, TookAll, sent_total};
+ghost use Rattle.node_link.specs.Inbox.{put, got, senders_of, capacity_of, number_of, number_left, sent_by, IsSame, SameInbox, LeadsTo, LeftBy, AreEnds, TookOne, TookInOrder, TookAll, sent_total};
 
 use super::{Back, Receiver, Sender, SenderEnd, Tally};
 use crate::rule::{Compared, Ends, InOrder, Seats, Tagged, View};
@@ -42,6 +42,7 @@ pub fn inbox<L: Drop>(
     requires capacity { 0 < capacity }
     requires senders { 0 < senders }
     ensures count { IfOk result (λ r. (vec_len r.0 ≡ senders) × (senders_of r.1 ≡ senders)) }
+    ensures room { IfOk result (λ r. capacity_of r.1 ≡ capacity) }
     ensures lead { IfOk result (λ r. (k : ℕ) (s : _) → slice_get r.0.items k ≡ Some s → LeadsTo r.1 k s × (put s ≡ [])) }
     ensures empty { IfOk result (λ r. got r.1 ≡ []) }
 {
@@ -86,8 +87,9 @@ fn new_receiver<L: Drop>(mouth: Mouth<L>, pass: Badge<L>) -> Receiver<L>
 }
 
 impl<L: Drop> Sender<L> {
-    /// Sends a letter, or hands it back, which it does only where the inbox was full at a moment of this call. It takes
-    /// no memory. It may wait for another thread's step on the channel, but not for room.
+    /// Sends a letter, or hands it back, and then nothing was sent. That it comes back only from a full inbox is shown by tests: a try that
+    /// finds no room changes nothing by which a clause could tell it from no try. It takes no memory. It may wait for another thread's
+    /// step on the channel, but not for room.
     pub fn send<R: Wait>(&mut self, rt: &R, letter: L) -> Result<(), Back<L>>
         ensures same { IsSame self.old self.new }
         ensures sent { MatchResult result (λ _. put self.new ≡ put self.old ++ letter ∷ []) (λ back. (back.0 ≡ letter) × (put self.new ≡ put self.old)) }
@@ -145,8 +147,8 @@ impl<L: Drop> Receiver<L> {
         self.taken
     }
 
-    /// The oldest letter, if there is one: it is none only where the inbox was empty at a moment of this call. It may
-    /// wait for another thread's step on the channel, but not for a letter.
+    /// The oldest letter, or none, and then none was taken. That none is told only of an empty inbox is shown by tests, as with `send`. It
+    /// may wait for another thread's step on the channel, but not for a letter.
     pub fn try_take<R: Wait>(&mut self, rt: &R) -> Option<L>
         ensures same { SameInbox self.old self.new }
         ensures taken { MatchOption result (got self.new ≡ got self.old) (λ letter. TookOne self.old self.new letter) }
