@@ -71,6 +71,7 @@ impl Source for MemSource {
 
         // What each source ensures.
         ensures end { IfOk result (λ n. n ≡ 0 → 0 < length buf.new → self.old.left ≡ []) }
+        ensures quiet { OnOk result (self.new.faults ≡ self.old.faults) }
         ensures monotone { self.old.faults ≤ self.new.faults }
     {
         self.calls = self.calls.saturating_add(1);

@@ -16,8 +16,8 @@ pub trait Source {
     ghost faults: { Self → ℕ };
 
     /// Puts the next bytes at the front of `buf` and says how many they are, at most `buf.len()`. 0 for a nonempty
-    /// `buf` is the end. It is `Failed` only where the source has failed, and has then given nothing; a later call may
-    /// go on.
+    /// `buf` is the end. It is `Failed` exactly where the source has failed, and has then given nothing; a later call
+    /// may go on.
     fn read(&mut self, buf: &mut [u8]) -> Result<usize, Failed>
         ensures within { IfOk result (λ n. n ≤ length buf.new) }
 
@@ -29,6 +29,7 @@ pub trait Source {
         ensures kept { OnErr result (left self.new ≡ left self.old) }
 
         ensures monotone { faults self.old ≤ faults self.new }
+        ensures quiet { OnOk result (faults self.new ≡ faults self.old) }
         ensures cause { OnErr result (Rose (faults self.old) (faults self.new)) };
 }
 
@@ -41,7 +42,7 @@ pub trait Sink {
     ghost faults: { Self → ℕ };
 
     /// Takes some first bytes of `piece` and says how many they are: of a nonempty piece at least 1. It is `Failed`
-    /// only where the sink has failed, and has then taken nothing; a later call may go on.
+    /// exactly where the sink has failed, and has then taken nothing; a later call may go on.
     fn write(&mut self, piece: &[u8]) -> Result<usize, Failed>
         ensures within { IfOk result (λ n. n ≤ length piece.now) }
         ensures some { IfOk result (λ n. 0 < length piece.now → 0 < n) }

@@ -4,6 +4,7 @@ ghost use Rattle.std.specs.Prelude.{◌≡◌};
 use super::*;
 use std::alloc::AllocError;
 use std::sync::Wait;
+use std::sync::atomic::{AtomicU32, Ordering};
 use std::thread;
 use std::thread::Threads;
 
@@ -111,4 +112,71 @@ fn a_spawner_fails_at_the_call_that_it_was_told(rt: HostRuntime) -> Result<(), A
         );
     }
     Ok(())
+}
+
+// Counts that it ran.
+#[derive(Drop)]
+struct Count<'c> {
+    ran: &'c AtomicU32,
+}
+
+impl<'c> Job for Count<'c> {
+    type Out = u32;
+
+    ghost gives = { λ _ _. Unit {0} };
+
+    fn run<R: Wait>(self, rt: &R) -> u32 {
+        let _ = rt;
+        self.ran.fetch_add(1, Ordering::SeqCst)
+    }
+}
+
+// Which of three jobs were started, and how many ran before the scope of their threads ended.
+fn starts<P: Spawner, R: Threads + Wait + Sync>(rt: &R, spawner: &mut P) -> ([bool; 3], u32) {
+    let ran = AtomicU32::new(0);
+    let started = thread::scope(thread::scope_env(), rt, |scope| {
+        let first = spawner.start(rt, scope, Count { ran: &ran }).is_ok();
+        let second = spawner.start(rt, scope, Count { ran: &ran }).is_ok();
+        let third = spawner.start(rt, scope, Count { ran: &ran }).is_ok();
+        [first, second, third]
+    });
+    (started, ran.load(Ordering::SeqCst))
+}
+
+#[test]
+fn a_job_runs_exactly_where_it_was_started(rt: HostRuntime) -> Result<(), AllocError> {
+    assert!(rt; starts(&rt, &mut ThreadSpawner::new()) == ([true, true, true], 3));
+    for failing in 1..4 {
+        let mut spawner = ListSpawner::new(vec![in rt.alloc(); failing]?);
+        let started = [failing != 1, failing != 2, failing != 3];
+        assert!(rt; starts(&rt, &mut spawner) == (started, 2), "call {failing}");
+    }
+    Ok(())
+}
+
+const LINE: (u32, Spot) = (0, Spot::Line(2));
+
+const TURN: (u32, Spot) = (3, Spot::Turn);
+
+const MARK: (u32, Spot) = (3, Spot::Marked);
+
+// Whether a gate for one mark, each of whose holds ends after one look, is released once these places were passed in this order.
+fn is_released_after(places: &[(u32, Spot)]) -> bool {
+    let gate = HoldGate::new(3, 2, 1, 1);
+    for (node, spot) in places {
+        gate.pass(*node, *spot);
+    }
+    gate.released()
+}
+
+#[test]
+fn a_gate_is_released_only_where_no_hold_ran_out(rt: HostRuntime) {
+    // The mark is there before the turn, and the turn before the line.
+    assert!(rt; is_released_after(&[MARK, TURN, LINE]));
+    // The line waits for a turn that comes too late, and the turn for a mark.
+    assert!(rt; !is_released_after(&[MARK, LINE, TURN]));
+    assert!(rt; !is_released_after(&[TURN, LINE, MARK]));
+    assert!(rt; !is_released_after(&[TURN, MARK, LINE]));
+    // No hold ran out, but the line was not passed.
+    assert!(rt; !is_released_after(&[MARK, TURN]));
 }

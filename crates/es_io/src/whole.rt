@@ -1,9 +1,9 @@
 // A whole text, read to its end or written to its end.
-ghost use Rattle.std.specs.Prelude.{◌≡◌, ℕ, ◌<◌, ◌≤◌, [], Some, length, take, drop, IfOk, OnOk, IfErr, OnErr, IfSome, vec_len};
-ghost use Rattle.es_io.specs.Bytes.{Appends};
+ghost use Rattle.std.specs.Prelude.{◌≡◌, ℕ, ◌<◌, ◌≤◌, ◌↔◌, [], Some, length, take, drop, IfOk, OnOk, IfErr, OnErr, IfSome, vec_len};
+ghost use Rattle.es_io.specs.Bytes.{Appends, IfGave};
 ghost use Rattle.es_io.specs.Count.{Rose};
 ghost use Rattle.es_io.specs.ReadAll.{OnReadFault, IfTooLong};
-ghost use Rattle.es_io.specs.declared.whole.ReadAll.TheVariants.{ReadFault, Memory};
+ghost use Rattle.es_io.specs.declared.whole.ReadAll.TheVariants.{ReadFault, TooLong, Memory};
 
 use crate::{Failed, Sink, Source};
 use std::alloc::{AllocError, Global};
@@ -58,20 +58,23 @@ fn make_room(alloc: Global, n: usize) -> Result<Vec<u8>, AllocError>
 
 /// All bytes of a source up to its end, where these are at most `limit` bytes.
 ///
-/// It is `TooLong` with the limit exactly where the source gives more than that, `ReadFault` only where the source has
-/// failed in this call, and `Memory` where no room was found. After an error the source has given some first bytes of
-/// what was left, and these are lost.
+/// It is `TooLong` with the limit exactly where the source gave more than that, `ReadFault` exactly where the source has
+/// failed in this call, and `Memory` where no room was found before either came. After an error the source has given some
+/// first bytes of what was left, and these are lost.
 pub fn read_all<S: Source>(alloc: Global, source: &mut S, limit: usize) -> Result<Vec<u8>, ReadAll>
     ensures all { IfOk result (λ text. IfSome (S.left source.old) (λ bytes. text.items ≡ bytes)) }
     ensures ended { OnOk result (IfSome (S.left source.old) (λ bytes. S.left source.new ≡ Some [])) }
     ensures within { IfOk result (λ text. length text.items ≤ limit) }
 
-    // `TooLong` exactly where the source gives more than the limit.
+    // `TooLong` exactly where the source gave more than the limit, whatever memory there was.
+    ensures too_long { IfGave (S.left source.old) (S.left source.new) (λ n. limit < n ↔ result ≡ Err (TooLong limit)) }
     ensures limit { IfTooLong result (λ n. n ≡ limit) }
     ensures longer { IfTooLong result (λ n. IfSome (S.left source.old) (λ bytes. limit < length bytes)) }
     ensures fits { OnOk result (IfSome (S.left source.old) (λ bytes. length bytes ≤ limit)) }
 
+    // `ReadFault` exactly where the source has failed in this call, whatever memory there was.
     ensures fault { OnReadFault result (Rose (S.faults source.old) (S.faults source.new)) }
+    ensures told { S.faults source.old < S.faults source.new → result ≡ Err ReadFault }
     ensures monotone { S.faults source.old ≤ S.faults source.new }
 
     // Whatever the answer, some first bytes are gone and no others.

@@ -53,9 +53,10 @@ pub trait Spawner {
     /// How often a job could not be started: a count that never falls, and stands still at 2^64 - 1.
     ghost faults: { Self → ℕ };
 
-    /// Whether the next job may have a thread. It is `Failed` only where the count of faults rose.
+    /// Whether the next job may have a thread. It is `Failed` exactly where the count of faults rose.
     fn may_start(&mut self) -> Result<(), Failed>
         ensures monotone { faults self.old ≤ faults self.new }
+        ensures quiet { OnOk result (faults self.new ≡ faults self.old) }
         ensures cause { OnErr result (Rose (faults self.old) (faults self.new)) };
 
     /// Counts a thread that could not be made as a fault.
@@ -64,7 +65,7 @@ pub trait Spawner {
         ensures counted { Rose (faults self.old) (faults self.new) };
 
     /// Starts a job in a thread of its own, which ends within the scope, so that the job may borrow what the scope's
-    /// maker owns. It is `Failed` only where the spawner has failed; the job is then dropped.
+    /// maker owns. It is `Failed` exactly where the spawner has failed; the job is then dropped and never runs.
     final fn start<'s, E, J: Job + 's, R: Wait + Sync>(
         &mut self,
         rt: &'s R,
@@ -73,6 +74,7 @@ pub trait Spawner {
     ) -> Result<Started<'s, J>, Failed>
         ensures started { IfOk result (λ s. job_of s ≡ job) }
         ensures monotone { faults self.old ≤ faults self.new }
+        ensures quiet { OnOk result (faults self.new ≡ faults self.old) }
         ensures cause { OnErr result (Rose (faults self.old) (faults self.new)) }
     {
         self.may_start()?;

@@ -1,12 +1,21 @@
 -- Reading a script line by line: what is read of the whole is what is read from here on, after the commands so far.
-use Rattle.std.proofs.Common.{◌≡◌, ℕ, ◌+◌, List, [], ◌∷◌, ◌++◌, length, true, false, eqb, Result, Ok, Err, sym, ap, ◌∙◌, subst}
+use Rattle.std.proofs.Common.{◌≡◌, ℕ, ◌+◌, List, [], ◌∷◌, ◌++◌, length, Bool, true, false, cond, eqb, nat_le, IsTrue, Result, Ok, Err, sym, ap, ◌∙◌, subst}
+use Rattle.task_ids.specs.declared.cause.Cause.{Cause}
+use Rattle.task_ids.specs.declared.cause.Cause.TheVariants.{TooManyLines}
+use Rattle.shard_docs.specs.declared.fault.CorpusError.{CorpusError}
+use Rattle.shard_docs.specs.declared.fault.CorpusError.TheVariants as corpus
+use Rattle.shard_docs.specs.Fault as shard
 use Rattle.shard_docs.specs.Fault.{Fault, and_then, on_line}
+use Rattle.shard_docs.specs.Json.{is_text, whole_json_of}
+use Rattle.shard_docs.proofs.ActionLemmas.{found_on_line}
+use Rattle.shard_docs.proofs.TextLines.{text_of_whole, through}
 use Rattle.script_lang.specs.declared.command.Command.{Command}
 use Rattle.script_lang.specs.declared.command.Mode.{Mode}
 use Rattle.script_lang.specs.declared.error.ScriptError.{ScriptError}
 use Rattle.script_lang.specs.declared.error.ScriptError.TheVariants.{Bad, Memory}
-use Rattle.script_lang.specs.Answers.{Tells}
-use Rattle.script_lang.specs.Script.{command_of, commands_of}
+use Rattle.script_lang.specs.Answers.{Tells, OnMemory, same_error}
+use Rattle.script_lang.specs.Commands.{command_in}
+use Rattle.script_lang.specs.Script.{max_commands, command_of, commands_of}
 
 -- a fault of a first step is one of both
 first_tells : {A B : Type 0} (found : Result A Fault) (f : A → Result B Fault) (error : ScriptError) → Tells error found → Tells error (and_then found f)
@@ -39,3 +48,32 @@ module _ (mode : Mode) (nodes number : ℕ) (before : List Command) (here : List
 
       pub goes_on : (command : Command) → on_line number (command_of mode nodes before line) ≡ Ok command → commands_of mode nodes (number + 1) (before ++ command ∷ []) rest ≡ whole
       goes_on command is = sym (ap (λ found. and_then found (λ x. commands_of mode nodes (number + 1) (before ++ x ∷ []) rest)) is) ∙ from_command
+
+-- ---- want of memory
+
+-- what holds is said of want of memory too
+pub said_here : {X : Type 0} (P : Type 0) (answer : Result X ScriptError) → P → OnMemory answer P
+said_here P (Ok x) p = tt
+said_here P (Err (Bad line cause)) p = tt
+said_here P (Err Memory) p = p
+
+-- and what follows from it
+pub said_so : (P Q : Type 0) (error : ScriptError) → (P → Q) → OnMemory {X = ℕ} (Err error) P → OnMemory {X = ℕ} (Err error) Q
+said_so P Q (Bad line cause) f p = tt
+said_so P Q Memory f p = f p
+
+-- and what follows from what is said of it at a line of a corpus
+pub said_as : (P Q : Type 0) (error : CorpusError) → (P → Q) → shard.OnMemory {X = ℕ} (Err error) P → OnMemory {X = ℕ} (Err (same_error error)) Q
+said_as P Q (corpus.Bad line cause) f p = tt
+said_as P Q corpus.Memory f p = f p
+
+if_few : {A : Type 0} (many : Bool) (found : Result A Cause) (x : A) → cond many (Err TooManyLines) found ≡ Ok x → found ≡ Ok x
+if_few true found x e = cc
+if_few false found x e = e
+
+-- a command that is read stands on a line that may be read
+pub text_of_command : (mode : Mode) (nodes number : ℕ) (before : List Command) (line : List ℕ) (command : Command) → on_line number (command_of mode nodes before line) ≡ Ok command → IsTrue (is_text line)
+unfolding command_of
+text_of_command mode nodes number before line command e =
+    through (whole_json_of line) (command_in mode nodes before) command
+    (if_few (nat_le max_commands (length before)) _ command (found_on_line number (command_of mode nodes before line) command e)) (text_of_whole line)

@@ -1,5 +1,5 @@
 -- What a reader answers beside the function that it computes.
-use Rattle.std.specs.Prelude.{◌≡◌, Result, Ok, Err}
+use Rattle.std.specs.Prelude.{◌≡◌, Result, Ok, Err, IsOk}
 use Rattle.task_ids.specs.declared.cause.Cause.{Cause}
 use Rattle.shard_docs.specs.declared.fault.CorpusError.{CorpusError}
 use Rattle.shard_docs.specs.declared.fault.CorpusError.TheVariants as corpus
@@ -14,15 +14,21 @@ abbrev pub same_error : CorpusError → ScriptError
 same_error (corpus.Bad line cause) = Bad line cause
 same_error corpus.Memory = Memory
 
--- an error tells the cause that was found, unless memory ran out
+-- an error tells the cause that was found, and want of memory is told only where none was
 abbrev pub Says : {Y : Type 0} → CommandError → Result Y Cause → Type 0
 Says (command.Refused cause) found = found ≡ Err cause
-Says command.Memory found = Unit {0}
+Says command.Memory found = IsOk found
 
--- what a reader of a command answers: the value or the cause that the definition finds, unless memory ran out
+-- what a reader of a command answers: the value or the cause that the definition finds, whatever memory there is for the cause
 abbrev pub Reads : {X Y : Type 0} → (X → Y) → Result X CommandError → Result Y Cause → Type 0
 Reads view (Ok x) found = found ≡ Ok (view x)
 Reads view (Err error) found = Says error found
+
+-- the fact for want of memory
+abbrev pub OnMemory : {X : Type 0} → Result X ScriptError → Type 0 → Type 0
+OnMemory (Err Memory) P = P
+OnMemory (Err (Bad line cause)) P = Unit {0}
+OnMemory (Ok x) P = Unit {0}
 
 -- an error tells the fault that was found, a line and its cause, unless memory ran out
 abbrev pub Tells : {Y : Type 0} → ScriptError → Result Y Fault → Type 0

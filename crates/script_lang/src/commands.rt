@@ -140,7 +140,8 @@ fn command_of_kind(
     }
 }
 
-/// The command that a JSON value is, after other commands, on a cluster of so many nodes.
+/// The command that a JSON value is, after other commands, on a cluster of so many nodes. A command that is refused is refused whatever
+/// memory there is.
 #[tactic(auto, unfolding(crate::specs::Commands::command_in))]
 pub(crate) fn command_in(
     alloc: Global,

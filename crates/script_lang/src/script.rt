@@ -1,7 +1,8 @@
-ghost use Rattle.std.specs.Prelude.{◌+◌, ◌<◌, ◌≤◌, [], length, IfOk};
+ghost use Rattle.std.specs.Prelude.{◌+◌, ◌<◌, ◌≤◌, [], length, IfOk, IsTrue};
 ghost use Rattle.std.specs.Str.Lines.{lines};
 ghost use Rattle.shard_docs.specs.Fault.{on_line};
-ghost use Rattle.script_lang.specs.Answers.{Gives};
+ghost use Rattle.shard_docs.specs.Json.{is_text, begins_with_text};
+ghost use Rattle.script_lang.specs.Answers.{Gives, OnMemory};
 ghost use Rattle.script_lang.specs.Fits.{AllFit};
 ghost use Rattle.script_lang.specs.Script.{command_of, script_of};
 
@@ -15,7 +16,8 @@ use task_ids::{Cause, Cluster, Items};
 /// How many commands a script has at most.
 const MAX_COMMANDS: usize = 65_535;
 
-/// The command of a line, which has this number and is not empty, after other commands.
+/// The command of a line, which has this number and is not empty, after other commands. Whatever memory there is, it is told where there
+/// are too many commands and where the line is too long or not UTF-8; and once its JSON is read, each cause for which a command is refused.
 #[tactic(auto, unfolding(crate::specs::Script::command_of, crate::specs::Script::max_commands))]
 fn command_of_line(
     alloc: Global,
@@ -26,7 +28,8 @@ fn command_of_line(
     line: &[u8],
 ) -> Result<Command, ScriptError>
     requires { nodes ≤ 15 }
-    ensures { Gives (λ c. c) result (on_line number (command_of mode nodes before.now line.now)) }
+    ensures command { Gives (λ c. c) result (on_line number (command_of mode nodes before.now line.now)) }
+    ensures memory { OnMemory result ((length before.now < 65535) × IsTrue (is_text line.now)) }
 {
     if before.len() >= MAX_COMMANDS {
         return Err(ScriptError::at(number, Cause::TooManyLines));
@@ -47,7 +50,8 @@ fn command_of_line(
 /// Elasticsearch's search, task management and cancellation APIs.
 ///
 /// The error is the first bad line and the first of its causes in the order of `Cause`, over all fields of the line, or
-/// want of memory. A body may be any object.
+/// want of memory, which is never told of a script whose first line that is not empty is too long or not UTF-8. A body may be
+/// any object.
 pub fn read_script(
     alloc: Global,
     bytes: &[u8],
@@ -59,6 +63,7 @@ pub fn read_script(
     requires number { line ≤ 67108865 }
     // The commands are those that the lines spell, and an error tells their first fault.
     ensures gives { Gives (λ script. script.commands) result (script_of mode cluster.now.nodes line (lines bytes.now)) }
+    ensures memory { OnMemory result (IsTrue (begins_with_text (lines bytes.now))) }
 
     // Each node is of the cluster, and each command that is named comes before and has what it is named for.
     ensures fits { IfOk result (λ script. AllFit cluster.now.nodes [] script.commands) }

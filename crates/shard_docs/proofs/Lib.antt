@@ -29,4 +29,5 @@ pub mod SeenLemmas
 pub mod ShardParts
 pub mod ShownMore
 pub mod TableLemmas
+pub mod TextLines
 pub mod Updated

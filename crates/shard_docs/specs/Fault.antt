@@ -27,6 +27,12 @@ abbrev pub Tells : {Y : Type 0} → CorpusError → Result Y Fault → Type 0
 Tells (Bad line cause) found = found ≡ Err (line, cause)
 Tells Memory found = Unit {0}
 
+-- the fact for want of memory
+abbrev pub OnMemory : {X : Type 0} → Result X CorpusError → Type 0 → Type 0
+OnMemory (Err Memory) P = P
+OnMemory (Err (Bad line cause)) P = Unit {0}
+OnMemory (Ok x) P = Unit {0}
+
 -- what a reader answers: the value or the fault that the definition finds, unless memory ran out
 abbrev pub Gives : {X Y : Type 0} → (X → Y) → Result X CorpusError → Result Y Fault → Type 0
 Gives view (Ok x) found = found ≡ Ok (view x)

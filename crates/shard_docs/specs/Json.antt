@@ -1,5 +1,5 @@
 -- The JSON of a line.
-use Rattle.std.specs.Prelude.{ℕ, List, length, not, if◌then◌else◌, nat_lt, is_some, Result, Ok, Err}
+use Rattle.std.specs.Prelude.{ℕ, List, [], ◌∷◌, length, Bool, true, false, not, ◌==◌, if◌then◌else◌, nat_lt, is_some, Result, Ok, Err}
 use Rattle.std.specs.Option.{ok_or}
 use Rattle.std.specs.Str.{is_utf8}
 use Rattle.serde_json.specs.Data.{Data}
@@ -13,6 +13,15 @@ use Rattle.shard_docs.specs.Fault.{◌>>=◌}
 -- how many bytes a line has at most, without its end
 unfoldable pub max_line : ℕ
 max_line = 1048576
+
+-- a line is a text that may be read: it is not too long, and it is UTF-8
+unfoldable pub is_text : List ℕ → Bool
+is_text line = if nat_lt max_line (length line) then false else is_utf8 line
+
+-- the first line that is not empty is a text that may be read, if there is such a line
+unfoldable pub begins_with_text : List (List ℕ) → Bool
+begins_with_text [] = true
+begins_with_text (line ∷ rest) = if length line == 0 then begins_with_text rest else is_text line
 
 -- a line of UTF-8 as JSON, which nests at most 127 deep
 unfoldable pub json_of : List ℕ → Result Data Cause

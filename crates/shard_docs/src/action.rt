@@ -1,11 +1,12 @@
-ghost use Rattle.std.specs.Prelude.{◌≡◌, false, option_map};
+ghost use Rattle.std.specs.Prelude.{◌≡◌, false, option_map, IsOk, IsSome, IsTrue};
 ghost use Rattle.std.specs.Option.{ok_or};
 ghost use Rattle.serde_json.specs.Find.{get};
 ghost use Rattle.serde_json.specs.View.{view};
 ghost use Rattle.serde_json.specs.Written.{has_float};
 ghost use Rattle.std.specs.Prelude.{codes, string_bytes};
 ghost use Rattle.shard_docs.specs.BulkAction as spec;
-ghost use Rattle.shard_docs.specs.Fault.{Gives, on_line};
+ghost use Rattle.shard_docs.specs.Fault.{Gives, OnMemory, on_line};
+ghost use Rattle.shard_docs.specs.Json.{is_text};
 
 use crate::fault::CorpusError;
 use crate::json_line::whole_value_of_line;
@@ -39,9 +40,10 @@ fn has_one_key(value: &Value) -> bool
     }
 }
 
-/// The kind of an action and what it is about, on a line of this number.
+/// The kind of an action and what it is about, on a line of this number. It takes no memory.
 fn kind_of(number: u32, value: &Value) -> Result<(BulkKind, &Value), CorpusError>
-    ensures { Gives (λ choice. (choice.0, view choice.1.now)) result (on_line number (spec.kind_of (view value.now))) }
+    ensures kind { Gives (λ choice. (choice.0, view choice.1.now)) result (on_line number (spec.kind_of (view value.now))) }
+    ensures memory { OnMemory result ⊥ }
 {
     if !has_one_key(value) {
         return Err(CorpusError::at(number, Cause::BadAction));
@@ -63,10 +65,11 @@ fn index_of(target: &Value) -> Option<&str>
     if name.is_empty() { None } else { Some(name) }
 }
 
-/// An id that is written on a line of this number.
+/// An id that is written on a line of this number. What is no id is refused whatever memory there is.
 fn written_id(alloc: Global, number: u32, id: &Value) -> Result<String, CorpusError>
     requires { has_float (view id.now) ≡ false }
-    ensures { Gives (λ text. string_bytes text) result (on_line number (ok_or (spec.written_id (view id.now)) Cause.BadAction)) }
+    ensures id { Gives (λ text. string_bytes text) result (on_line number (ok_or (spec.written_id (view id.now)) Cause.BadAction)) }
+    ensures memory { OnMemory result (IsSome (spec.written_id (view id.now))) }
 {
     match id {
         Value::String(text) if !text.is_empty() => Ok(text.clone()?),
@@ -75,10 +78,11 @@ fn written_id(alloc: Global, number: u32, id: &Value) -> Result<String, CorpusEr
     }
 }
 
-/// The id that an action on a line of this number is about.
+/// The id that an action on a line of this number is about. What is no id is refused whatever memory there is.
 fn id_of(alloc: Global, number: u32, target: &Value) -> Result<String, CorpusError>
     requires { has_float (view target.now) ≡ false }
-    ensures { Gives (λ text. string_bytes text) result (on_line number (ok_or (spec.id_or_auto number (get (codes "_id") (view target.now))) Cause.BadAction)) }
+    ensures id { Gives (λ text. string_bytes text) result (on_line number (ok_or (spec.id_or_auto number (get (codes "_id") (view target.now))) Cause.BadAction)) }
+    ensures memory { OnMemory result (IsSome (spec.id_or_auto number (get (codes "_id") (view target.now)))) }
 {
     match target.get("_id") {
         Some(id) => written_id(alloc, number, id),
@@ -86,29 +90,31 @@ fn id_of(alloc: Global, number: u32, target: &Value) -> Result<String, CorpusErr
     }
 }
 
-/// The action of a value that has no float, on a line of this number.
+/// The action of a value that has no float, on a line of this number. A value that is none is refused whatever memory there is.
 #[tactic(auto, unfolding(crate::specs::BulkAction::action_of_value))]
 fn action_of_value(alloc: Global, number: u32, value: &Value) -> Result<BulkAction, CorpusError>
     requires { has_float (view value.now) ≡ false }
-    ensures { Gives (λ action. action) result (on_line number (spec.action_of_value number (view value.now))) }
+    ensures action { Gives (λ action. action) result (on_line number (spec.action_of_value number (view value.now))) }
+    ensures memory { OnMemory result (IsOk (spec.action_of_value number (view value.now))) }
 {
     let (kind, target) = kind_of(number, value)?;
     let Some(index) = index_of(target) else {
         return Err(CorpusError::at(number, Cause::BadAction));
     };
-    let index = Text::new(String::from_str(alloc, index)?);
     let id = Text::new(id_of(alloc, number, target)?);
+    let index = Text::new(String::from_str(alloc, index)?);
     Ok(BulkAction { kind, index, id })
 }
 
-/// The action of a line, which has this number.
+/// The action of a line, which has this number. A line that is too long or not UTF-8 is told whatever memory there is.
 #[tactic(auto, unfolding(crate::specs::BulkAction::action_of))]
 pub(crate) fn action_of_line(
     alloc: Global,
     number: u32,
     line: &[u8],
 ) -> Result<BulkAction, CorpusError>
-    ensures { Gives (λ action. action) result (on_line number (spec.action_of number line.now)) }
+    ensures action { Gives (λ action. action) result (on_line number (spec.action_of number line.now)) }
+    ensures memory { OnMemory result (IsTrue (is_text line.now)) }
 {
     let value = whole_value_of_line(alloc, number, line)?;
     action_of_value(alloc, number, &value)

@@ -1,9 +1,10 @@
-ghost use Rattle.std.specs.Prelude.{◌≡◌, ◌+◌, ◌<◌, ◌≤◌, ◌^◌, [], drop, length, IfOk};
+ghost use Rattle.std.specs.Prelude.{◌≡◌, ◌+◌, ◌<◌, ◌≤◌, ◌^◌, [], drop, length, IfOk, IsTrue};
 ghost use Rattle.std.specs.Str.Lines.{lines};
 ghost use Rattle.shard_docs.specs.Corpus.{source_line, document, next_document, corpus_of};
 ghost use Rattle.shard_docs.specs.CorpusRead.{read_of};
 ghost use Rattle.shard_docs.specs.Ends.{IsEndOf};
-ghost use Rattle.shard_docs.specs.Fault.{Gives};
+ghost use Rattle.shard_docs.specs.Fault.{Gives, OnMemory};
+ghost use Rattle.shard_docs.specs.Json.{is_text, begins_with_text};
 ghost use Rattle.shard_docs.specs.Seen.{has_name, with_name};
 
 use crate::action::{BulkAction, BulkKind, action_of_line};
@@ -29,9 +30,10 @@ pub struct CorpusRead {
     pub script_line: u32,
 }
 
-/// The line of the source of an action at a line, and what follows it.
+/// The line of the source of an action at a line, and what follows it. It takes no memory.
 fn source_after(number: u32, bytes: &[u8]) -> Result<(&[u8], &[u8]), CorpusError>
     ensures gives { Gives (λ source. (source.0.now, lines source.1.now)) result (source_line number (lines bytes.now)) }
+    ensures memory { OnMemory result ⊥ }
     ensures shorter { IfOk result (λ source. length source.1.now < length bytes.now) }
     ensures ends { IfOk result (λ source. IsEndOf source.1.now bytes.now) }
 {
@@ -75,7 +77,8 @@ fn document_of(
     Ok(CorpusLine { index, doc })
 }
 
-/// The document of an action on a line and of its source on the next line, and what follows them. It is noted.
+/// The document of an action on a line and of its source on the next line, and what follows them. It is noted. An action's line that
+/// is too long or not UTF-8 is told whatever memory there is.
 #[tactic(auto, unfolding(crate::specs::Corpus::next_document))]
 fn document_at<'a>(
     alloc: Global,
@@ -88,6 +91,7 @@ fn document_at<'a>(
     requires { number + 1 < 2 ^ 32 }
     ensures gives { Gives (λ next. (next.0, lines next.1.now)) result (next_document number (λ index id. has_name index id seen.old) line.now (lines after.now)) }
     ensures noted { IfOk result (λ next. seen.new ≡ with_name next.0.index next.0.doc.id seen.old) }
+    ensures memory { OnMemory result (IsTrue (is_text line.now)) }
     ensures shorter { IfOk result (λ next. length next.1.now < length after.now) }
     ensures ends { IfOk result (λ next. IsEndOf next.1.now after.now) }
 {
@@ -111,6 +115,7 @@ fn read_documents(
     requires none_seen { seen.old ≡ [] }
     ensures gives { Gives (λ place. (found.new, place.1, lines (drop place.0 bytes.now))) result (corpus_of (lines bytes.now)) }
     ensures within { IfOk result (λ place. place.0 ≤ length bytes.now) }
+    ensures memory { OnMemory result (IsTrue (begins_with_text (lines bytes.now))) }
 {
     let mut number = 1;
     let mut rest = bytes;
@@ -141,6 +146,7 @@ fn read_all_documents(
     requires none_found { found.old ≡ [] }
     ensures gives { Gives (λ place. (found.new, place.1, lines (drop place.0 bytes.now))) result (corpus_of (lines bytes.now)) }
     ensures within { IfOk result (λ place. place.0 ≤ length bytes.now) }
+    ensures memory { OnMemory result (IsTrue (begins_with_text (lines bytes.now))) }
 {
     let mut seen = Seen::new(alloc);
     let mut keys = Keys::new(alloc);
@@ -152,11 +158,13 @@ fn read_all_documents(
 /// A document is an action line and a line with its source, after Elasticsearch's bulk API: `{"index":{"_index":I}}` or
 /// `{"create":{"_index":I}}`, maybe with an `_id`, a text or a whole number; without one its id is `auto-` and the number
 /// of the action's line. The error is the first bad line and the first of its causes in the order of `Cause`, where an action
-/// line without a source comes after its own causes; or want of memory.
+/// line without a source comes after its own causes; or want of memory, which is never told of an input whose first line that
+/// is not empty is too long or not UTF-8.
 pub fn read_corpus(alloc: Global, bytes: &[u8]) -> Result<CorpusRead, CorpusError>
     requires { length bytes.now ≤ 67108864 }
     ensures gives { Gives (read_of bytes.now) result (corpus_of (lines bytes.now)) }
     ensures within { IfOk result (λ read. read.script_at ≤ length bytes.now) }
+    ensures memory { OnMemory result (IsTrue (begins_with_text (lines bytes.now))) }
 {
     let mut found = Items::new(alloc);
     let (script_at, script_line) = read_all_documents(alloc, &mut found, bytes)?;

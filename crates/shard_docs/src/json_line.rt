@@ -1,10 +1,10 @@
-ghost use Rattle.std.specs.Prelude.{◌≡◌, ◌≤◌, ◌<◌, false, IfOk};
+ghost use Rattle.std.specs.Prelude.{◌≡◌, ◌≤◌, ◌<◌, false, IfOk, IsTrue};
 ghost use Rattle.serde_json.specs.Data.{depth};
 ghost use Rattle.serde_json.specs.Read.{max_depth};
 ghost use Rattle.serde_json.specs.View.{view};
 ghost use Rattle.serde_json.specs.Written.{has_float};
-ghost use Rattle.shard_docs.specs.Fault.{Gives, on_line};
-ghost use Rattle.shard_docs.specs.Json.{json_of, whole_json_of, source_of};
+ghost use Rattle.shard_docs.specs.Fault.{Gives, OnMemory, on_line};
+ghost use Rattle.shard_docs.specs.Json.{is_text, json_of, whole_json_of, source_of};
 
 use crate::fault::CorpusError;
 use serde_json::Value;
@@ -15,10 +15,11 @@ use task_ids::{Cause, DocSource, Keys, NotSource, is_whole};
 const MAX_LINE: usize = 1_048_576;
 
 /// The JSON of a line, which has this number. It is refused, in this order, where it has more than 1,048,576 bytes,
-/// where it is not UTF-8, and where it is not JSON that nests at most 127 deep.
-#[tactic(auto, unfolding(crate::specs::Json::json_of, crate::specs::Json::max_line))]
+/// where it is not UTF-8, and where it is not JSON that nests at most 127 deep. The first two are told whatever memory there is.
+#[tactic(auto, unfolding(crate::specs::Json::json_of, crate::specs::Json::max_line, crate::specs::Json::is_text))]
 fn value_of_line(alloc: Global, number: u32, line: &[u8]) -> Result<Value, CorpusError>
     ensures value { Gives view result (on_line number (json_of line.now)) }
+    ensures memory { OnMemory result (IsTrue (is_text line.now)) }
     ensures nests { IfOk result (λ value. depth (view value) ≤ max_depth) }
 {
     if line.len() > MAX_LINE {
@@ -36,10 +37,11 @@ fn value_of_line(alloc: Global, number: u32, line: &[u8]) -> Result<Value, Corpu
 
 /// The JSON of a line, which has this number and whose numbers are all whole. It is refused, in this order, where it has
 /// more than 1,048,576 bytes, where it is not UTF-8, where it is not JSON that nests at most 127 deep, and where a number
-/// is not whole.
+/// is not whole. The first two are told whatever memory there is.
 #[tactic(auto, unfolding(crate::specs::Json::whole_json_of))]
 pub fn whole_value_of_line(alloc: Global, number: u32, line: &[u8]) -> Result<Value, CorpusError>
     ensures value { Gives view result (on_line number (whole_json_of line.now)) }
+    ensures memory { OnMemory result (IsTrue (is_text line.now)) }
     ensures nests { IfOk result (λ value. depth (view value) ≤ max_depth) }
     ensures whole { IfOk result (λ value. has_float (view value) ≡ false) }
 {
@@ -51,7 +53,8 @@ pub fn whole_value_of_line(alloc: Global, number: u32, line: &[u8]) -> Result<Va
     }
 }
 
-/// The source of a document, on a line of this number. It shares its keys with those that are known.
+/// The source of a document, on a line of this number. It shares its keys with those that are known. A line that is too long or not
+/// UTF-8 is told whatever memory there is.
 #[tactic(auto, unfolding(crate::specs::Json::whole_json_of, crate::specs::Json::source_of))]
 pub(crate) fn source_of_line(
     alloc: Global,
@@ -59,7 +62,8 @@ pub(crate) fn source_of_line(
     line: &[u8],
     keys: &mut Keys,
 ) -> Result<DocSource, CorpusError>
-    ensures { Gives (λ source. source) result (on_line number (source_of line.now)) }
+    ensures source { Gives (λ source. source) result (on_line number (source_of line.now)) }
+    ensures memory { OnMemory result (IsTrue (is_text line.now)) }
 {
     let value = value_of_line(alloc, number, line)?;
     match DocSource::new(alloc, value, keys) {

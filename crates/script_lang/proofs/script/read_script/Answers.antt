@@ -1,9 +1,10 @@
 use Rattle.std.proofs.Common.{◌≡◌, length, true, false, eqb, ap, ◌∙◌, sym, arith}
 use Rattle.std.proofs.lemmas.Result.{err_from_is_err_and}
 use Rattle.std.specs.Str.Lines.{lines}
+use Rattle.shard_docs.proofs.TextLines.{begins_after, begins_at}
 use Rattle.script_lang.specs.Script.{max_commands}
 use Rattle.script_lang.proofs.Fitting.{script_fits}
-use Rattle.script_lang.proofs.LineLemmas.{read_at_end, after_empty, command_fails, goes_on}
+use Rattle.script_lang.proofs.LineLemmas.{read_at_end, after_empty, command_fails, goes_on, said_here, said_so, text_of_command}
 use Rattle.script_lang.proofs.script.read_script.Goals as goal
 use Rattle.script_lang.proofs.script.read_script.Goals.{then-not-is_empty+in_ok-command+in_ok-push, else-not-is_empty}
 
@@ -13,7 +14,7 @@ returns-in_err-command-clause-gives c =
     let p = err_from_is_err_and c.from_residual.result c.from_residual.ensures.1 in
     rw (p.1, p.2)
     (command_fails c.args.mode c.args.cluster.now.nodes c.loop-text.number c.loop-text.commands (lines c.loop-text.rest.now) _ c.loop-text.invariant.reads c.in-Some.text.now (lines c.in-Some.after.now) c.in-Some.ensures.found some
-    c.in_err-command.field-0.0 (rw c.as_slice-before.ensures at c.in_err-command.ensures))
+    c.in_err-command.field-0.0 (rw c.as_slice-before.ensures at c.in_err-command.ensures.command))
 
 pub loop-text-preserved : goal.loop-text-preserved
 loop-text-preserved c = record {
@@ -22,14 +23,41 @@ loop-text-preserved c = record {
         let some : eqb (length c.in-Some.text.now) 0 ≡ false = sym c.is_empty.ensures ∙ w.if-not-is_empty.true in
         rw (w.commands-is, w.in_ok-push.ensures.ok)
         (goes_on c.args.mode c.args.cluster.now.nodes c.loop-text.number c.loop-text.commands (lines c.loop-text.rest.now) _ c.loop-text.invariant.reads c.in-Some.text.now (lines c.in-Some.after.now) c.in-Some.ensures.found some
-        w.in_ok-command.command (rw w.as_slice-before.ensures at w.in_ok-command.ensures))
+        w.in_ok-command.command (rw w.as_slice-before.ensures at w.in_ok-command.ensures.command))
     | else-not-is_empty w ↦
         let empty : eqb (length c.in-Some.text.now) 0 ≡ true = sym c.is_empty.ensures ∙ w.if-not-is_empty.false in
         rw w.commands-is
         (after_empty c.args.mode c.args.cluster.now.nodes c.loop-text.number c.loop-text.commands (lines c.loop-text.rest.now) _ c.loop-text.invariant.reads c.in-Some.text.now (lines c.in-Some.after.now) c.in-Some.ensures.found empty)
   ];
+  begins = elim c.if-not-is_empty.branch [
+    | then-not-is_empty+in_ok-command+in_ok-push w ↦
+        let some : eqb (length c.in-Some.text.now) 0 ≡ false = sym c.is_empty.ensures ∙ w.if-not-is_empty.true in
+        λ _. c.loop-text.invariant.begins
+        (begins_at c.in-Some.text.now (lines c.loop-text.rest.now) (lines c.in-Some.after.now) c.in-Some.ensures.found some
+        (text_of_command c.args.mode c.args.cluster.now.nodes c.loop-text.number _ c.in-Some.text.now w.in_ok-command.command w.in_ok-command.ensures.command))
+    | else-not-is_empty w ↦
+        let empty : eqb (length c.in-Some.text.now) 0 ≡ true = sym c.is_empty.ensures ∙ w.if-not-is_empty.false in
+        λ text. c.loop-text.invariant.begins (begins_after c.in-Some.text.now (lines c.loop-text.rest.now) (lines c.in-Some.after.now) c.in-Some.ensures.found empty text)
+  ];
   fits = omega (arith, c.in-Some.ensures.shorter);
 }
+
+pub returns-in_err-command-clause-memory : goal.returns-in_err-command-clause-memory
+returns-in_err-command-clause-memory c =
+    let some : eqb (length c.in-Some.text.now) 0 ≡ false = sym c.is_empty.ensures ∙ c.if-not-is_empty.true in
+    let p = err_from_is_err_and c.from_residual.result c.from_residual.ensures.1 in
+    rw (p.1, p.2)
+    (said_so _ _ c.in_err-command.field-0.0
+    (λ facts. c.loop-text.invariant.begins (begins_at c.in-Some.text.now (lines c.loop-text.rest.now) (lines c.in-Some.after.now) c.in-Some.ensures.found some facts.1))
+    c.in_err-command.ensures.memory)
+
+pub returns-in_err-push-clause-memory : goal.returns-in_err-push-clause-memory
+returns-in_err-push-clause-memory c =
+    let some : eqb (length c.in-Some.text.now) 0 ≡ false = sym c.is_empty.ensures ∙ c.if-not-is_empty.true in
+    said_here _ _
+    (c.loop-text.invariant.begins
+    (begins_at c.in-Some.text.now (lines c.loop-text.rest.now) (lines c.in-Some.after.now) c.in-Some.ensures.found some
+    (text_of_command c.args.mode c.args.cluster.now.nodes c.loop-text.number _ c.in-Some.text.now c.in_ok-command.command c.in_ok-command.ensures.command)))
 
 pub returns-clause-gives : goal.returns-clause-gives
 returns-clause-gives c =

@@ -6,6 +6,7 @@ use Rattle.shard_docs.specs.Corpus.{dashes, documents}
 use Rattle.shard_docs.proofs.CorpusLemmas.{found_at_end, after_empty, found_at_dashes, document_fails, goes_on, place_is}
 use Rattle.shard_docs.proofs.LinesLemmas.{end_of_end}
 use Rattle.shard_docs.proofs.NamesLemmas.{names_more}
+use Rattle.shard_docs.proofs.TextLines.{begins_after, begins_at, said, said_so, text_of_next}
 use Rattle.shard_docs.proofs.corpus.read_documents.Goals as goal
 
 pub loop-line-preserved-then-is_empty : goal.loop-line-preserved-then-is_empty
@@ -13,6 +14,7 @@ loop-line-preserved-then-is_empty c =
     let empty : eqb (length c.in-Some.line.now) 0 ≡ true = sym c.is_empty.ensures ∙ c.if-is_empty.true in
     record {
       reads = after_empty c.loop-line.number c.loop-line.found (lines c.loop-line.rest.now) (documents 1 [] (lines c.args.bytes.now)) c.loop-line.invariant.reads c.in-Some.line.now (lines c.in-Some.after.now) c.in-Some.ensures.found empty;
+      begins = λ text. c.loop-line.invariant.begins (begins_after c.in-Some.line.now (lines c.loop-line.rest.now) (lines c.in-Some.after.now) c.in-Some.ensures.found empty text);
       names = c.loop-line.invariant.names;
       ends = end_of_end c.in-Some.after.now c.loop-line.rest.now c.args.bytes.now c.in-Some.ensures.ends c.loop-line.invariant.ends;
       fits = omega (arith, c.in-Some.ensures.shorter);
@@ -34,6 +36,23 @@ returns-in_err-document-clause-gives c =
     (document_fails c.loop-line.number c.loop-line.found (lines c.loop-line.rest.now) (documents 1 [] (lines c.args.bytes.now)) c.loop-line.invariant.reads c.in-Some.line.now (lines c.in-Some.after.now) c.in-Some.ensures.found some no_dashes
     c.loop-line.seen c.loop-line.invariant.names c.in_err-document.field-0.0 c.in_err-document.ensures.gives)
 
+pub returns-in_err-document-clause-memory : goal.returns-in_err-document-clause-memory
+returns-in_err-document-clause-memory c =
+    let some : eqb (length c.in-Some.line.now) 0 ≡ false = sym c.is_empty.ensures ∙ c.if-is_empty.false in
+    let p = err_from_is_err_and c.from_residual.result c.from_residual.ensures.1 in
+    rw (p.1, p.2)
+    (said_so _ _ c.in_err-document.field-0.0
+    (λ text. c.loop-line.invariant.begins (begins_at c.in-Some.line.now (lines c.loop-line.rest.now) (lines c.in-Some.after.now) c.in-Some.ensures.found some text))
+    c.in_err-document.ensures.memory)
+
+pub returns-in_err-push-clause-memory : goal.returns-in_err-push-clause-memory
+returns-in_err-push-clause-memory c =
+    let some : eqb (length c.in-Some.line.now) 0 ≡ false = sym c.is_empty.ensures ∙ c.if-is_empty.false in
+    said _ _
+    (c.loop-line.invariant.begins
+    (begins_at c.in-Some.line.now (lines c.loop-line.rest.now) (lines c.in-Some.after.now) c.in-Some.ensures.found some
+    (text_of_next c.in-Some.line.now c.loop-line.number _ (lines c.in-Some.after.now) _ c.in_ok-document.ensures.gives)))
+
 pub loop-line-preserved : goal.loop-line-preserved
 loop-line-preserved c =
     let some : eqb (length c.in-Some.line.now) 0 ≡ false = sym c.is_empty.ensures ∙ c.if-is_empty.false in
@@ -44,6 +63,10 @@ loop-line-preserved c =
       reads =
           goes_on c.loop-line.number c.loop-line.found (lines c.loop-line.rest.now) (documents 1 [] (lines c.args.bytes.now)) c.loop-line.invariant.reads c.in-Some.line.now (lines c.in-Some.after.now) c.in-Some.ensures.found some no_dashes
           c.loop-line.seen c.loop-line.invariant.names document (lines c.in_ok-document.left.now) c.in_ok-document.ensures.gives;
+      begins =
+          λ _. c.loop-line.invariant.begins
+          (begins_at c.in-Some.line.now (lines c.loop-line.rest.now) (lines c.in-Some.after.now) c.in-Some.ensures.found some
+          (text_of_next c.in-Some.line.now c.loop-line.number _ (lines c.in-Some.after.now) _ c.in_ok-document.ensures.gives));
       names = names_more c.loop-line.seen c.loop-line.found document c.loop-line.invariant.names;
       ends =
           end_of_end c.in_ok-document.left.now c.in-Some.after.now c.args.bytes.now c.in_ok-document.ensures.ends
