@@ -19,6 +19,11 @@ fn keeps_the_first_ban_of_a_parent(rt: HostRuntime) {
     assert!(rt; put(&mut bans, parent, 4) == Some(BanPut::Put));
     assert!(rt; put(&mut bans, parent, 5) == Some(BanPut::There(4)));
     assert!(rt; bans.find(parent) == Some(4));
+    let first = Ban { parent, cancel: 4 };
+    assert!(rt;
+        bans.list()
+            .is_ok_and(|list| list.as_slice() == [first].as_slice())
+    );
     assert!(rt; bans.remove(parent));
     assert!(rt; !bans.remove(parent));
     assert!(rt; bans.find(parent).is_none());
