@@ -99,12 +99,19 @@ impl BulkShardWork {
         Ok(notes)
     }
 
+    /// Whether a turn has left no document, so that it takes no further one. It takes no memory.
+    pub fn is_done(&self) -> bool
+        ensures { result ≡ is_written self.now }
+    {
+        self.has_turned && self.left.is_empty()
+    }
+
     /// What it does next: it takes a turn, or ends with its counts once a turn has left no document. Before the first
     /// turn it does not end, also where there is no document. It fails only for want of memory.
     pub fn next(&self) -> Result<Do, AllocError>
         ensures { IfOk result (λ step. step ≡ writing_next self.now) }
     {
-        if self.has_turned && self.left.is_empty() {
+        if self.is_done() {
             let counts = Tally::of(self.alloc, self.counts())?;
             Ok(Do::Finish(Reply::Wrote(counts)))
         } else {

@@ -5,7 +5,7 @@ use reindex::BulkShardWork;
 use shard_docs::Shard;
 use shared_value::Shared;
 use std::alloc::Global;
-use task_events::{BulkShardAsk, Do, WriteNote};
+use task_events::{BulkShardAsk, WriteNote};
 use task_ids::{Doc, Items, Text};
 
 /// A document of this id, with the number in its source.
@@ -35,14 +35,6 @@ fn three_docs(alloc: Global) -> Option<Vec<Doc>> {
     Some(docs)
 }
 
-/// Whether it ends next.
-fn is_done(work: &BulkShardWork) -> bool {
-    match work.next() {
-        Ok(Do::Finish(_)) => true,
-        _ => false,
-    }
-}
-
 fn is_note(note: &WriteNote, created: bool, id: &str) -> bool {
     note.index.get().as_str() == "b"
         && note.shard == 1
@@ -69,13 +61,13 @@ fn documents_are_written_in_order_and_noted(rt: HostRuntime) {
     };
     let mut shard = Shard::new(rt.alloc());
     let mut work = BulkShardWork::new(rt.alloc(), ask);
-    assert!(rt; !is_done(&work));
+    assert!(rt; !work.is_done());
     match work.turn(&mut shard) {
         Ok(notes) => assert!(rt; are_noted(notes.as_slice())),
         Err(_) => assert!(rt; false),
     }
     let counts = work.counts();
-    assert!(rt; is_done(&work) && counts.created == 2 && counts.updated == 1);
+    assert!(rt; work.is_done() && counts.created == 2 && counts.updated == 1);
     assert!(rt; shard.version() == 3 && shard.row(3, 0).is_none() && shard.row(3, 2).is_some());
 }
 
@@ -87,10 +79,10 @@ fn without_a_document_there_is_one_turn(rt: HostRuntime) {
     };
     let mut shard = Shard::new(rt.alloc());
     let mut work = BulkShardWork::new(rt.alloc(), ask);
-    assert!(rt; !is_done(&work));
+    assert!(rt; !work.is_done());
     match work.turn(&mut shard) {
         Ok(notes) => assert!(rt; notes.is_empty()),
         Err(_) => assert!(rt; false),
     }
-    assert!(rt; is_done(&work) && shard.version() == 0);
+    assert!(rt; work.is_done() && shard.version() == 0);
 }
