@@ -164,6 +164,7 @@ fn the_last_number_is_given_once(rt: HostRuntime) -> Result<(), Fail> {
     for number in 1..1_048_576 {
         assert!(rt; pass_root(rt.alloc(), &mut table) == Ok(number));
     }
+    assert!(rt; table.is_spent());
     assert!(rt; pass_root(rt.alloc(), &mut table) == Err("numbers spent"));
     Ok(())
 }

@@ -1,4 +1,4 @@
-ghost use Rattle.std.specs.Prelude.{◌≡◌, ◌+◌, ◌++◌, ◌<◌, ◌≤◌, ◌↔◌, length, IsErrOf, IfOk, IfErr, OnErr, IfSome, IfNone, All, Any};
+ghost use Rattle.std.specs.Prelude.{◌≡◌, ◌+◌, ◌++◌, ◌<◌, ◌≤◌, ◌↔◌, length, IsTrue, IsErrOf, IfOk, IfErr, OnErr, IfSome, IfNone, All, Any};
 ghost use Rattle.task_ids.specs.Limits.{IsNode, IsCancel};
 ghost use Rattle.child_track.specs.Token.{token_parent};
 ghost use Rattle.child_track.specs.Track.{unanswered, sealed};
@@ -85,6 +85,14 @@ impl TaskTable {
         }
         self.last = id.number;
         Ok(Ticket::new(id, token))
+    }
+
+    /// Whether a slot is free and the last number was given, so that the next task is refused for that (`NumbersSpent`). It takes no
+    /// memory.
+    pub fn is_spent(&self) -> bool
+        ensures { IsTrue result ↔ ((length self.now.live < self.now.slots) × (self.now.last ≡ LAST_NUMBER)) }
+    {
+        self.rows.len() < self.slots as usize && self.last == LAST_NUMBER
     }
 
     /// Ends a live task: its row goes, its ticket and its track, in which nothing is unanswered, are spent.
