@@ -1,7 +1,7 @@
 -- A bulk is as far as its asks and their answers say, whatever the order in which they come, and so does what its kind says.
 use Rattle.std.proofs.Common.{◌≡◌, ℕ, zero, suc, ◌+◌, ◌*◌, ◌^◌, ◌<◌, ◌≤◌, Bool, true, false, List, [], ◌∷◌, ◌++◌, length, map, Option, Some, None, refl, sym, ap, ◌∙◌, subst, arith}
 use Rattle.std.specs.Prelude.{slice_get, ◌==◌}
-use Rattle.std.proofs.lemmas.Bool.{and_parts, and_from, lt-ltb, eq-eqb, eqb-true, ne_eqb, or_right}
+use Rattle.std.proofs.lemmas.Bool.{and_parts, and_from, lt-ltb, ltb-true, eq-eqb, eqb-true, ne_eqb, or_right}
 use Rattle.task_events.specs.declared.request.BulkAsk.{BulkAsk}
 use Rattle.task_events.specs.declared.request.BulkShardAsk.{BulkShardAsk}
 use Rattle.task_events.specs.declared.request.Request.{Request}
@@ -134,9 +134,10 @@ module _ {ask : BulkAsk} {shards : ℕ} {asked : List Asked} {b : Bulking} (at :
 
   -- ---- it asks
 
-  pub bulk_asked : (request : Request) → bulk_next b ≡ AskNext request → IsBulkAt ask shards (asked ++ record { ask = length asked + 1; answer = None } ∷ []) (bulk_with_ask b (length asked + 1))
-  bulk_asked request next =
-      let left = (asks_part b.parts b.made (is_settled b.open_asks) (Wrote b.counts) request next).0 in
+  -- with one ask more, where it may ask
+  pub bulk_one_more : bulk_may_ask b ≡ true → IsBulkAt ask shards (asked ++ record { ask = length asked + 1; answer = None } ∷ []) (bulk_with_ask b (length asked + 1))
+  bulk_one_more may =
+      let left : b.made < length b.parts = ltb-true b.made (length b.parts) may in
       let longer = length_more (length asked + 1) asked in
       let more = open_more (length asked + 1) b.open_asks in
       record {
@@ -157,6 +158,9 @@ module _ {ask : BulkAsk} {shards : ℕ} {asked : List Asked} {b : Bulking} (at :
       open_more : (k : ℕ) (ks : List ℕ) → length (ks ++ k ∷ []) ≡ length ks + 1
       open_more k [] = refl
       open_more k (j ∷ ks) = let later = open_more k ks in omega arith
+
+  pub bulk_asked : (request : Request) → bulk_next b ≡ AskNext request → IsBulkAt ask shards (asked ++ record { ask = length asked + 1; answer = None } ∷ []) (bulk_with_ask b (length asked + 1))
+  bulk_asked request next = bulk_one_more (bulk_may_ask_when b request next)
 
   -- the ask that it makes next can be answered by each reply that its request can have
   pub bulk_may_take : (request : Request) → bulk_next b ≡ AskNext request → (reply : Reply) → can_have shards request reply ≡ true → bulk_takes (bulk_with_ask b (length asked + 1)) (length asked + 1) reply ≡ true

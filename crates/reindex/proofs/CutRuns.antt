@@ -1,7 +1,7 @@
 -- The state of a reindex that is cut into slices is tied to its asks, whatever the order of their answers, and so it follows its kind.
 use Rattle.std.proofs.Common.{◌≡◌, ℕ, ◌+◌, ◌^◌, ◌<◌, ◌≤◌, Bool, true, false, List, [], ◌∷◌, ◌++◌, length, map, Option, Some, None, refl, sym, ap, ◌∙◌, ⊎_elim, arith}
 use Rattle.std.specs.Prelude.{◌==◌, option_map}
-use Rattle.std.proofs.lemmas.Bool.{and_parts, and_from, cases_lt, eq-eqb, lt-ltb, or_right}
+use Rattle.std.proofs.lemmas.Bool.{and_parts, and_from, cases_lt, eq-eqb, lt-ltb, ltb-true, or_right}
 use Rattle.std.proofs.lemmas.List.{length_push}
 use Rattle.task_events.specs.declared.request.ReindexAsk.{ReindexAsk}
 use Rattle.task_events.specs.declared.request.Request.{Request}
@@ -93,13 +93,13 @@ asks_slice c request e =
 pub cut_may_ask_when : (c : Cutting) (request : Request) → cut_next c ≡ AskNext request → cut_may_ask c ≡ true
 cut_may_ask_when c request e = lt-ltb c.made c.ask.slices (asks_slice c request e).left
 
--- with the ask of its next slice
-pub cut_asked : {ask : ReindexAsk} {asked : List Asked} {c : Cutting} → IsCutAt ask asked c → (request : Request) → cut_next c ≡ AskNext request
+-- with one ask more, where it may ask
+pub cut_one_more : {ask : ReindexAsk} {asked : List Asked} {c : Cutting} → IsCutAt ask asked c → cut_may_ask c ≡ true
     → IsCutAt ask (asked ++ record { ask = length asked + 1; answer = None } ∷ []) (cut_with_ask c (length asked + 1))
-cut_asked {ask = ask} {asked = asked} {c = c} h request e =
+cut_one_more {ask = ask} {asked = asked} {c = c} h may =
     let a : Asked = row (length asked + 1) None in
     let slices : c.ask.slices ≡ ask.slices = ap (λ (r : ReindexAsk). r.slices) h.ask_is in
-    let left : c.made < c.ask.slices = (asks_slice c request e).left in
+    let left : c.made < c.ask.slices = ltb-true c.made c.ask.slices may in
     record {
       ask_is = h.ask_is;
       numbered = asked_numbered asked h.numbered;
@@ -108,6 +108,11 @@ cut_asked {ask = ask} {asked = asked} {c = c} h request e =
       open_are = ap (λ ks. ks ++ (length asked + 1) ∷ []) h.open_are ∙ sym (asked_open (length asked + 1) asked);
       counts_are = h.counts_are ∙ ap sums_of (sym (asked_answers (length asked + 1) asked));
     }
+
+-- with the ask of its next slice
+pub cut_asked : {ask : ReindexAsk} {asked : List Asked} {c : Cutting} → IsCutAt ask asked c → (request : Request) → cut_next c ≡ AskNext request
+    → IsCutAt ask (asked ++ record { ask = length asked + 1; answer = None } ∷ []) (cut_with_ask c (length asked + 1))
+cut_asked {c = c} h request e = cut_one_more h (cut_may_ask_when c request e)
 
 -- all slices can have the same replies
 slice_replies : (shards : ℕ) (a : SliceAsk) (reply : Reply) → can_have shards (asks.Slice a) reply ≡ writer_can_have (2 ^ 50) reply

@@ -231,38 +231,36 @@ counts_open k asked = let total = same_total asked in λ i. counts_said (total i
     same_total [] = refl
     same_total (x ∷ xs) = refl
 
-asked_phase : (s : Slicing) (ask : ReindexAsk) (asked : List Asked) (came : List ℕ) (request : Request) (now : ℕ) (phase : Phase) → length came ≡ length asked → next_in s now phase ≡ AskNext request
+asked_phase : (ask : ReindexAsk) (asked : List Asked) (came : List ℕ) (made : ℕ) (phase : Phase) → length came ≡ length asked → may_ask_in made phase ≡ true
     → IsPhaseAt ask asked came phase → IsPhaseAt ask (asked ++ row (length asked + 1) None ∷ []) (came ++ 0 ∷ []) (phase_with phase (length asked + 1))
-asked_phase s ask asked came request now First long e none = page_more asked (ap is_for_page none)
-asked_phase s ask asked came request now (Rests until) long e at = page_more asked at.for_bulk
-asked_phase s ask asked came request now (Holds docs moment) long e at = bulk_more asked came docs moment long at
-asked_phase s ask asked came request now (Reads open_ask) long e at = absurd cc
-asked_phase s ask asked came request now (Writes open_ask docs moment) long e at = absurd cc
-asked_phase s ask asked came request now Over long e at = absurd cc
+asked_phase ask asked came made First long may none = page_more asked (ap is_for_page none)
+asked_phase ask asked came made (Rests until) long may at = page_more asked at.for_bulk
+asked_phase ask asked came made (Holds docs moment) long may at = bulk_more asked came docs moment long at
+asked_phase ask asked came made (Reads open_ask) long may at = absurd cc
+asked_phase ask asked came made (Writes open_ask docs moment) long may at = absurd cc
+asked_phase ask asked came made Over long may at = absurd cc
 
-asked_few : (s : Slicing) (ask : ReindexAsk) (asked : List Asked) (came : List ℕ) (request : Request) (now : ℕ) (phase : Phase) → s.made ≡ length asked → length asked ≤ most_asks → next_in s now phase ≡ AskNext request
+asked_few : (ask : ReindexAsk) (asked : List Asked) (came : List ℕ) (made : ℕ) (phase : Phase) → made ≡ length asked → length asked ≤ most_asks → may_ask_in made phase ≡ true
     → IsPhaseAt ask asked came phase → length asked + 1 ≤ most_asks
-asked_few s ask asked came request now First made few e none = let empty : length asked ≡ 0 = ap length none in omega (arith, most_is)
-asked_few s ask asked came request now (Rests until) made few e at =
-    let left : s.made < 2000000 = ltb-true _ _ (asks_later s until now request (nat_lt s.made 2000000) s.context refl refl e).left in omega (arith, most_is)
-asked_few s ask asked came request now (Holds docs moment) made few e at = let odd : length asked % 2 ≡ 1 = eqb-true _ _ at.for_page in omega (arith, most_is)
-asked_few s ask asked came request now (Reads open_ask) made few e at = absurd cc
-asked_few s ask asked came request now (Writes open_ask docs moment) made few e at = absurd cc
-asked_few s ask asked came request now Over made few e at = absurd cc
+asked_few ask asked came made First same few may none = let empty : length asked ≡ 0 = ap length none in omega (arith, most_is)
+asked_few ask asked came made (Rests until) same few may at = let left : made < 2000000 = ltb-true _ _ may in omega (arith, most_is)
+asked_few ask asked came made (Holds docs moment) same few may at = let odd : length asked % 2 ≡ 1 = eqb-true _ _ at.for_page in omega (arith, most_is)
+asked_few ask asked came made (Reads open_ask) same few may at = absurd cc
+asked_few ask asked came made (Writes open_ask docs moment) same few may at = absurd cc
+asked_few ask asked came made Over same few may at = absurd cc
 
-none_open : (s : Slicing) (request : Request) (now : ℕ) (phase : Phase) → next_in s now phase ≡ AskNext request → not (is_open phase) ≡ true
-none_open s request now First e = refl
-none_open s request now (Rests until) e = refl
-none_open s request now (Holds docs moment) e = refl
-none_open s request now (Reads open_ask) e = absurd cc
-none_open s request now (Writes open_ask docs moment) e = absurd cc
-none_open s request now Over e = absurd cc
+none_open : (made : ℕ) (phase : Phase) → may_ask_in made phase ≡ true → not (is_open phase) ≡ true
+none_open made First may = refl
+none_open made (Rests until) may = refl
+none_open made (Holds docs moment) may = refl
+none_open made (Reads open_ask) may = absurd cc
+none_open made (Writes open_ask docs moment) may = absurd cc
+none_open made Over may = absurd cc
 
--- with the ask of what comes next
-pub slice_asked : {t : TaskId} {ask : ReindexAsk} {slice shards : ℕ} {asked : List Asked} {came : List ℕ} {s : Slicing} → IsSliceAt t ask slice shards asked came s → (request : Request) (now : ℕ)
-    → slice_next s now ≡ AskNext request
+-- with one ask more, where it may ask
+pub slice_one_more : {t : TaskId} {ask : ReindexAsk} {slice shards : ℕ} {asked : List Asked} {came : List ℕ} {s : Slicing} → IsSliceAt t ask slice shards asked came s → slice_may_ask s ≡ true
     → IsSliceAt t ask slice shards (asked ++ record { ask = length asked + 1; answer = None } ∷ []) (came ++ 0 ∷ []) (slice_with_ask s (length asked + 1))
-slice_asked {ask = ask} {asked = asked} {came = came} {s = s} h request now e =
+slice_one_more {ask = ask} {asked = asked} {came = came} {s = s} h may =
     let a : Asked = row (length asked + 1) None in
     record {
       task_is = h.task_is;
@@ -272,14 +270,20 @@ slice_asked {ask = ask} {asked = asked} {came = came} {s = s} h request now e =
       slices_are = h.slices_are;
       rate_is = h.rate_is;
       numbered = asked_numbered asked h.numbered;
-      few = let fits = asked_few s ask asked came request now s.phase h.made_is h.few e h.phase_is in omega (arith, length_push asked a);
+      few = let fits = asked_few ask asked came s.made s.phase h.made_is h.few may h.phase_is in omega (arith, length_push asked a);
       moments = let long = h.moments in omega (arith, length_push asked a, length_push came 0);
-      earlier = ap are_answered (earlier_is asked a) ∙ slice_settled h ∙ none_open s request now s.phase e;
+      earlier = ap are_answered (earlier_is asked a) ∙ slice_settled h ∙ none_open s.made s.phase may;
       made_is = let made = h.made_is in omega (arith, length_push asked a);
       context_is = h.context_is ∙ sym (first_context_open (length asked + 1) asked);
       counts_are = h.counts_are ∙ sym (counts_open (length asked + 1) asked);
-      phase_is = asked_phase s ask asked came request now s.phase h.moments e h.phase_is;
+      phase_is = asked_phase ask asked came s.made s.phase h.moments may h.phase_is;
     }
+
+-- with the ask of what comes next
+pub slice_asked : {t : TaskId} {ask : ReindexAsk} {slice shards : ℕ} {asked : List Asked} {came : List ℕ} {s : Slicing} → IsSliceAt t ask slice shards asked came s → (request : Request) (now : ℕ)
+    → slice_next s now ≡ AskNext request
+    → IsSliceAt t ask slice shards (asked ++ record { ask = length asked + 1; answer = None } ∷ []) (came ++ 0 ∷ []) (slice_with_ask s (length asked + 1))
+slice_asked {s = s} h request now e = slice_one_more h (slice_may_ask_when s request now e)
 
 same_request : {request other : Request} → AskNext request ≡ AskNext other → request ≡ other
 same_request e = cc

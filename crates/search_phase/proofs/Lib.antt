@@ -26,5 +26,7 @@ pub mod Readings
 pub mod Requests
 pub mod Roots
 pub mod Rows
+pub mod Runs
+pub mod SameRequests
 pub mod Sorting
 pub mod Turns

@@ -125,18 +125,23 @@ found_open {X = X} p (x ∷ xs) place e =
         let is : place ≡ suc i = cc in
         rw is (rest i e)
 
+-- an ask without an answer awaits what is asked for at its place
+pub awaits_none : (s : Searching) (ask : ℕ) → position (is_open ask) s.asked ≡ None → awaited s ask ≡ None
+awaits_none s ask e = find-zip (is_open ask) s.asked (requests_of s.reading s.asked) ∙ ap (λ o. at_first o (requests_of s.reading s.asked)) (sym (position-first_at (is_open ask) s.asked) ∙ e)
+
+pub awaits_at : (s : Searching) (fetching : Option Fetching) (capacity : ℕ) → IsRoot s fetching capacity → (ask place : ℕ) → position (is_open ask) s.asked ≡ Some place → awaited s ask ≡ request_by s.reading fetching place
+awaits_at s fetching capacity h ask place e =
+    find-zip (is_open ask) s.asked (requests_of s.reading s.asked)
+    ∙ ap (λ o. at_first o (requests_of s.reading s.asked)) (sym (position-first_at (is_open ask) s.asked) ∙ e)
+    ∙ request_at_place s fetching capacity h place
+
 pub takes_none : (s : Searching) (ask : ℕ) (reply : Reply) → position (is_open ask) s.asked ≡ None → takes s ask reply ≡ false
-takes_none s ask reply e =
-    ap (λ o. option_map_or (λ request. can_have (length s.reading.shards) request reply) o false)
-    (find-zip (is_open ask) s.asked (requests_of s.reading s.asked) ∙ ap (λ o. at_first o (requests_of s.reading s.asked)) (sym (position-first_at (is_open ask) s.asked) ∙ e))
+takes_none s ask reply e = ap (λ o. option_map_or (λ request. can_have (length s.reading.shards) request reply) o false) (awaits_none s ask e)
 
 pub takes_at : (s : Searching) (fetching : Option Fetching) (capacity : ℕ) → IsRoot s fetching capacity → (ask : ℕ) (reply : Reply) (place : ℕ) → position (is_open ask) s.asked ≡ Some place
     → takes s ask reply ≡ option_map_or (λ request. can_have (length s.reading.shards) request reply) (request_by s.reading fetching place) false
 takes_at s fetching capacity h ask reply place e =
-    ap (λ o. option_map_or (λ request. can_have (length s.reading.shards) request reply) o false)
-    (find-zip (is_open ask) s.asked (requests_of s.reading s.asked)
-    ∙ ap (λ o. at_first o (requests_of s.reading s.asked)) (sym (position-first_at (is_open ask) s.asked) ∙ e)
-    ∙ request_at_place s fetching capacity h place)
+    ap (λ o. option_map_or (λ request. can_have (length s.reading.shards) request reply) o false) (awaits_at s fetching capacity h ask place e)
 
 -- ---- what stays
 

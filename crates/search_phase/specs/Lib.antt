@@ -1,3 +1,4 @@
+pub mod Awaiting
 pub mod FetchPhase
 pub mod Fetches
 pub mod Growth
@@ -6,5 +7,6 @@ pub mod Merged
 pub mod Plans
 pub mod Queries
 pub mod Roots
+pub mod Runs
 pub mod Searching
 pub mod TurnAnswers

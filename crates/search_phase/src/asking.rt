@@ -47,7 +47,7 @@ fn fetch_request(alloc: Global, fetch: &FetchAsk) -> Result<Option<Request>, All
 }
 
 /// What the fetch phase asks for at a place.
-fn fetch_at(fetching: &Option<Fetching>, place: usize) -> Option<&FetchAsk>
+pub(crate) fn fetch_at(fetching: &Option<Fetching>, place: usize) -> Option<&FetchAsk>
     ensures { option_map Request.Fetch (option_copied result) ≡ fetch_by fetching.now place }
 {
     match fetching {

@@ -13,6 +13,7 @@ mod possible;
 mod query;
 mod reading;
 mod root;
+mod same;
 
 pub use fetch::{FetchAnswer, ShardFetch};
 pub use merging::merge;

@@ -1,6 +1,6 @@
 //! A search of all shards of an index, and a page of one.
 
-ghost use Rattle.std.specs.Prelude.{◌≡◌, ◌<◌, ◌≤◌, ℕ, List, Option, IfOk, OnOk, OnErr, Some, is_some, true, length, position, slice_get, slice_set, vec_capacity, option_copied};
+ghost use Rattle.std.specs.Prelude.{◌≡◌, ◌<◌, ◌≤◌, ◌↔◌, ℕ, List, Option, IfOk, OnOk, OnErr, Some, is_some, true, IsTrue, length, position, slice_get, slice_set, vec_capacity, option_copied};
 ghost use Rattle.task_ids.specs.declared.doc.Doc.{Doc};
 ghost use Rattle.task_ids.specs.declared.task_id.TaskId.{TaskId};
 ghost use Rattle.task_ids.specs.Limits.{IsShardCount};
@@ -13,14 +13,16 @@ ghost use Rattle.task_events.specs.Readings.{search_reading, page_reading};
 ghost use Rattle.task_events.specs.Searches.{are_answered};
 ghost use Rattle.search_phase.specs.Searching.{reading_for, new_search, next_request, next_step, is_open, wants_to_ask, has_ended, does_wait, is_above, with_ask, takes, with_answer, AllHonest, plain_reply, answer_of, reply_with};
 ghost use Rattle.search_phase.specs.Plans.{plan_of};
+ghost use Rattle.search_phase.specs.Awaiting.{IsOfReading, awaited_answer};
 
 use crate::answer::answer;
 use crate::asking::{can_answer, has_request, request_at};
 use crate::fetching::{Fetching, are_answered, fetching_in};
 use crate::reading::Reading;
+use crate::same::is_request_at;
 use std::alloc::{AllocError, Global};
 use std::marker::Model;
-use task_events::{Asked, Context, Reply, Request, SearchAsk, SearchReply};
+use task_events::{AnsweredRequest, Asked, Context, Reply, Request, SearchAsk, SearchReply};
 use task_ids::TaskId;
 
 /// What a search does next.
@@ -170,6 +172,18 @@ impl SearchRoot {
     {
         match place_of(self.asked.as_slice(), ask) {
             Some(place) => can_answer(&self.reading, &self.fetching, place, reply),
+            None => false,
+        }
+    }
+
+    /// Whether a request is the one that the ask of this number awaits an answer to. It compares the shard, the version, the cursor
+    /// and the places; that the request is over the search's own index, body and slice is the caller's to know. It takes no memory.
+    pub fn asks_for(&self, ask: u32, request: &AnsweredRequest) -> bool
+        ensures { IsOfReading self.now.reading request.now
+            → (IsTrue result ↔ (awaited_answer self.now ask ≡ Some request.now)) }
+    {
+        match place_of(self.asked.as_slice(), ask) {
+            Some(place) => is_request_at(&self.reading, &self.fetching, place, request),
             None => false,
         }
     }
