@@ -19,7 +19,7 @@ use Rattle.search_phase.specs.Fetches.{FetchState, IsFetched, new_fetch, fetched
 use Rattle.search_phase.specs.Queries.{QueryState, IsQueried, new_query, version_at, looked, queried, without_keys}
 use Rattle.search_phase.specs.Runs.{IsSearchAt, IsQueryAt, IsFetchAt}
 use Rattle.search_phase.specs.Searching.{Searching, new_search, next_step, with_ask, answered_by, with_answer}
-use Rattle.search_phase.proofs.Growing.{new_query-queried, new_fetch-fetched, IsQueried-grow, IsFetched-grow}
+use Rattle.search_phase.proofs.Growing.{new_query-queried, new_fetch-fetched}
 use Rattle.search_phase.proofs.QueryTurns.{queried-holds}
 use Rattle.search_phase.proofs.Sorting.{by_test}
 
@@ -109,10 +109,6 @@ module _ {ask : ShardAsk} {version : Option ℕ} {turns : ℕ} {writes : List Do
         on = queried-holds q writes (q.turns + 1) at.on;
       }
 
-  -- it stays where more is written
-  pub query_grown : (more : List Doc) → IfSome q.version (λ v. v ≤ length writes) → IsQueryAt ask version turns (writes ++ more) q
-  query_grown more within = record { ask_is = at.ask_is; turns_are = at.turns_are; version_is = at.version_is; on = IsQueried-grow q writes more within at.on }
-
 -- ---- a fetch
 
 pub fetch_first : (ask : FetchAsk) (writes : List Doc) → IsFetchAt ask 0 writes (new_fetch ask)
@@ -124,11 +120,3 @@ module _ {ask : FetchAsk} {turns : ℕ} {writes : List Doc} {f : FetchState} (at
 
   pub fetch_turned : IsFetchAt ask (1 + turns) writes (fetched_in f.ask (f.turns + 1) writes)
   fetch_turned = record { ask_is = at.ask_is; turns_are = one_turn_more f.turns turns at.turns_are; on = refl }
-
-  -- it stays where more is written
-  pub fetch_grown : (more : List Doc) → ask.version ≤ length writes → IsFetchAt ask turns (writes ++ more) f
-  fetch_grown more within = record {
-    ask_is = at.ask_is;
-    turns_are = at.turns_are;
-    on = IsFetched-grow f writes more (let same = ap (λ (k : FetchAsk). k.version) at.ask_is in omega (arith, same)) at.on;
-  }

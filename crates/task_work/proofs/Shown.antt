@@ -18,6 +18,7 @@ use Rattle.shard_docs.specs.Shown.{ShowsFrom}
 use Rattle.shard_docs.proofs.ShownMore.{same_alive, shows_more}
 use Rattle.search_phase.specs.Queries.{QueryState, IsQueried, version_at, looked, queried, without_keys}
 use Rattle.search_phase.specs.Fetches.{FetchState, has_fetched, fetched_in}
+use Rattle.search_phase.proofs.Runs.{queried_version}
 use Rattle.reindex.specs.Writing.{next_docs, with_notes}
 use Rattle.task_work.specs.declared.work.Work.{Work}
 use Rattle.task_work.specs.declared.work.Work.TheVariants.{Search, Query, Fetch, Scroll, Reindex, Slice, Bulk, BulkShard}
@@ -38,14 +39,6 @@ notes_same from index shard (doc ∷ docs) own shown shows low =
 -- work reads from a version on what its query reads from there on
 abbrev QueryReads : ℕ → QueryState → Type 0
 QueryReads from q = (version : ℕ) → q.version ≡ Some version → from ≤ version
-
--- a query that has looked at rows reads the version that it has looked at
-queried_version : (ask : ShardAsk) (version turns : ℕ) (writes : List Doc) → (queried ask version turns writes).version ≡ Some version
-queried_version ask version turns writes = of_either (is_done turns (length (rows_for ask version writes)))
-  where
-    of_either : (b : Bool) → (cond b (without_keys (looked ask version turns writes)) (looked ask version turns writes)).version ≡ Some version
-    of_either true = refl
-    of_either false = refl
 
 -- what a fetch finds at a place among the rows that are alive
 abbrev hit_in : List ℕ → List Row → ℕ → Option Hit

@@ -1,5 +1,10 @@
-ghost use Rattle.std.specs.Prelude.{◌≡◌, ℕ, ◌<◌, ◌^◌, ◌++◌, List, IfOk, OnOk, OnErr, true, is_some, option_map, option_copied};
+ghost use Rattle.std.specs.Prelude.{◌≡◌, ℕ, ◌<◌, ◌^◌, ◌+◌, ◌++◌, List, length, IfOk, OnOk, OnErr, true, is_some, option_map, option_copied};
 ghost use Rattle.task_ids.specs.declared.doc.Doc.{Doc};
+ghost use Rattle.task_ids.specs.declared.task_id.TaskId.{TaskId};
+ghost use Rattle.task_events.specs.declared.request.Request.{Request};
+ghost use Rattle.task_events.specs.Kind.{Progress};
+ghost use Rattle.task_events.specs.Kinds.{kind_of};
+ghost use Rattle.task_work.specs.Plans.{IsWorkAt, no_progress, progress_with_ask, progress_with_answer, progress_with_turn, AsPlanned};
 ghost use Rattle.task_work.specs.Works.{is_page, IsNewWork, IsBegun, IsWorkOn, HasTurned, BrokeOff, next_of, with_turn, can_ask, work_with_ask, work_takes, work_with_answer, EndsPlainly, does_wait, due_in, place_of, docs_next, work_notes, counts_of};
 
 use crate::bulk_shard::{new_part, turn_of_part};
@@ -51,6 +56,8 @@ impl Work {
             IsNewWork task request.now cluster.now.shards (option_copied context.entry) work) }
         ensures begun { (writes : List Doc) → IfOk result (λ work. IsWorkOn work writes) }
         ensures tied { IfOk result (λ work. IsBegun task request.now cluster.now.shards work) }
+        ensures at { (writes : List Doc) → IfOk result (λ work.
+            IsWorkAt task request.now cluster.now.shards (no_progress (option_copied context.entry)) writes work) }
     {
         match request {
             Request::Search(ask) => {
@@ -110,6 +117,7 @@ impl Work {
         ensures step { (writes : List Doc) → IsWorkOn self.now writes
             → IfOk result (λ step. step ≡ next_of self.now writes now) }
         ensures plain { IfOk result (λ step. EndsPlainly self.now step) }
+        ensures planned { AsPlanned self.now now (λ plan. IfOk result (λ step. step ≡ plan)) }
     {
         match self {
             Work::Search(root) | Work::Scroll(root) => next_of_search(root),
@@ -126,7 +134,8 @@ impl Work {
     /// Whether it waits at this moment in milliseconds, for an answer or for a later moment. It takes no memory, so a world asks
     /// it where it only notes who waits.
     pub fn waits(&self, now: u64) -> bool
-        ensures { (writes : List Doc) → result ≡ does_wait (next_of self.now writes now) }
+        ensures step { (writes : List Doc) → result ≡ does_wait (next_of self.now writes now) }
+        ensures planned { AsPlanned self.now now (λ plan. result ≡ does_wait plan) }
     {
         match self {
             Work::Search(root) | Work::Scroll(root) => root.waits(),
@@ -139,7 +148,8 @@ impl Work {
 
     /// The moment for which it waits, where it waits for one, both in milliseconds. It takes no memory.
     pub fn due(&self, now: u64) -> Option<u64>
-        ensures { (writes : List Doc) → result ≡ due_in (next_of self.now writes now) }
+        ensures step { (writes : List Doc) → result ≡ due_in (next_of self.now writes now) }
+        ensures planned { AsPlanned self.now now (λ plan. result ≡ due_in plan) }
     {
         match self {
             Work::Reindex(root) => root.due(now),
@@ -153,7 +163,10 @@ impl Work {
     /// takes no memory.
     pub fn asked(&mut self, ask: u32, now: u64)
         requires { can_ask self.old ask ≡ true }
-        ensures { self.new ≡ work_with_ask self.old ask }
+        ensures asked { self.new ≡ work_with_ask self.old ask }
+        ensures at { (task : TaskId) (request : Request) (shards : ℕ) (p : Progress) (writes : List Doc)
+            → ask ≡ length p.asked + 1 → IsWorkAt task request shards p writes self.old
+            → IsWorkAt task request shards (progress_with_ask p ask) writes self.new }
     {
         match self {
             Work::Search(root) => root.asked(ask),
@@ -184,6 +197,9 @@ impl Work {
         requires takes { work_takes self.old ask reply ≡ true }
         requires moment { now < 2 ^ 60 }
         ensures ok { OnOk result (self.new ≡ work_with_answer self.old ask reply now) }
+        ensures at { (task : TaskId) (request : Request) (shards : ℕ) (p : Progress) (writes : List Doc)
+            → IsWorkAt task request shards p writes self.old
+            → OnOk result (IsWorkAt task request shards (progress_with_answer p ask reply now) writes self.new) }
         ensures err { OnErr result (self.new ≡ self.old) }
     {
         match self {
@@ -210,6 +226,9 @@ impl Work {
         ensures turned { OnOk result (HasTurned self.old shard.old self.new) }
         ensures ok { IsWorkOn self.old shard.old → OnOk result (self.new ≡ with_turn self.old shard.old) }
         ensures holds_on { IsWorkOn self.old shard.old → OnOk result (IsWorkOn self.new shard.new) }
+        ensures at { (task : TaskId) (request : Request) (shards : ℕ) (p : Progress)
+            → IsWorkAt task request shards p shard.old self.old
+            → OnOk result (IsWorkAt task request shards (progress_with_turn p shard.old (work_notes self.old shard.old)) shard.new self.new) }
         ensures err { OnErr result (BrokeOff self.old self.new shard.old shard.new) }
     {
         match self {
@@ -249,7 +268,10 @@ impl Work {
     /// The reply of a task that ends since it was cancelled, by the cancellation of this number, with what it has counted. It
     /// fails only for want of memory, and takes none where nothing was counted.
     pub fn cancelled(&self, alloc: Global, task: TaskId, cancel: u32) -> Result<Reply, AllocError>
-        ensures { IfOk result (λ reply. reply ≡ Reply.Cancelled task cancel (counts_of self.now)) }
+        ensures reply { IfOk result (λ reply. reply ≡ Reply.Cancelled task cancel (counts_of self.now)) }
+        ensures counted { (request : Request) (shards : ℕ) (p : Progress) (writes : List Doc)
+            → IsWorkAt task request shards p writes self.now
+            → IfOk result (λ reply. reply ≡ Reply.Cancelled task cancel ((kind_of request).counts p)) }
     {
         let counts = Tally::of(alloc, self.counts())?;
         Ok(Reply::Cancelled {

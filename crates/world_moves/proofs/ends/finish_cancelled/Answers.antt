@@ -24,7 +24,7 @@ leave-requires-clause-leaves c =
     let t = c.args.task in
     let was = sym c.get.ensures.value ∙ ap option_copied c.in-Some.is ∙ ap Some (sym c.get-2.ensures) in
     let counts = counted_so s.cluster s.corpus.now s.script.now s.history _ _ _ c.requires.tied.ties t c.requires.live c.requires.passed _ was in
-    let says = c.in-Ok.ensures ∙ ap (Cancelled t c.args.cancel) (sym counts) in
+    let says = c.in-Ok.ensures.reply ∙ ap (Cancelled t c.args.cancel) (sym counts) in
     let allowed : EndAllowed t (Cancelled t c.args.cancel (counts_in s t)) s.history = record {
       goes_on = record { live = c.requires.live; passed = c.requires.passed };
       answered = c.requires.answered;
@@ -47,7 +47,7 @@ returns-clause-happened c =
     let t = c.args.task in
     let was = sym c.get.ensures.value ∙ ap option_copied c.in-Some.is ∙ ap Some (sym c.get-2.ensures) in
     let counts = counted_so s.cluster s.corpus.now s.script.now s.history _ _ _ c.requires.tied.ties t c.requires.live c.requires.passed _ was in
-    let says = c.in-Ok.ensures ∙ ap (Cancelled t c.args.cancel) (sym counts) in
+    let says = c.in-Ok.ensures.reply ∙ ap (Cancelled t c.args.cancel) (sym counts) in
     subst (λ reply. OnOk c.leave.result (c.leave.new.state.history ≡ with_due (End t reply) s.history)) says c.leave.ensures.happened
 
 pub returns-clause-part : goal.returns-clause-part
@@ -56,7 +56,7 @@ returns-clause-part c =
     let t = c.args.task in
     let was = sym c.get.ensures.value ∙ ap option_copied c.in-Some.is ∙ ap Some (sym c.get-2.ensures) in
     let counts = counted_so s.cluster s.corpus.now s.script.now s.history _ _ _ c.requires.tied.ties t c.requires.live c.requires.passed _ was in
-    let says = c.in-Ok.ensures ∙ ap (Cancelled t c.args.cancel) (sym counts) in
+    let says = c.in-Ok.ensures.reply ∙ ap (Cancelled t c.args.cancel) (sym counts) in
     subst (λ reply. OnErr c.leave.result (IsPartOf s.history c.leave.new.state.history (with_due (End t reply) s.history))) says c.leave.ensures.part
 
 pub returns-clause-full : goal.returns-clause-full
@@ -65,5 +65,5 @@ returns-clause-full c =
     let t = c.args.task in
     let was = sym c.get.ensures.value ∙ ap option_copied c.in-Some.is ∙ ap Some (sym c.get-2.ensures) in
     let counts = counted_so s.cluster s.corpus.now s.script.now s.history _ _ _ c.requires.tied.ties t c.requires.live c.requires.passed _ was in
-    let says = c.in-Ok.ensures ∙ ap (Cancelled t c.args.cancel) (sym counts) in
+    let says = c.in-Ok.ensures.reply ∙ ap (Cancelled t c.args.cancel) (sym counts) in
     subst (λ reply. c.leave.result ≡ Err HistoryFull → IsCutShort (λ past. IsPartOf s.history past (with_due (End t reply) s.history)) c.leave.new.state.history) says c.leave.ensures.full
