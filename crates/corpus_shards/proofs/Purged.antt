@@ -1,5 +1,5 @@
 -- A shard forgets rows: from the version that it forgot below it still shows what was written.
-use Rattle.std.proofs.Common.{◌≡◌, ℕ, ◌≤◌, ◌⊎◌, inl, inr, Bool, true, false, cond, max, ◌&&◌, List, length, Option, Some, None, sym, subst, ap, ◌∙◌, refl, arith}
+use Rattle.std.proofs.Common.{◌≡◌, ℕ, ◌≤◌, ◌⊎◌, inl, inr, Bool, true, false, cond, max, ◌-◌, ◌&&◌, List, length, Option, Some, None, sym, subst, ap, ◌∙◌, refl, arith}
 use Rattle.std.specs.Prelude.{◌==◌, IfSome, option_map}
 use Rattle.std.specs.Str.{bytes_eq}
 use Rattle.std.specs.HashMap.{get_by_text}
@@ -8,10 +8,10 @@ use Rattle.std.proofs.Math.Nat.{le-max_left, le-max_right, max-le}
 use Rattle.std.proofs.lemmas.Bool.Decides.{nat_tests}
 use Rattle.task_ids.specs.declared.corpus.Corpus.{Corpus}
 use Rattle.task_events.specs.Documents.{writes_of}
-use Rattle.shard_docs.specs.ShardView.{ShardView}
+use Rattle.shard_docs.specs.ShardView.{ShardView, empty_shard, dead_rows}
 use Rattle.shard_docs.specs.Shown.{ShowsFrom}
 use Rattle.shard_docs.proofs.Ids.{same_or_other}
-use Rattle.shard_docs.proofs.ShownMore.{shows_then}
+use Rattle.shard_docs.proofs.ShownMore.{shows_all, shows_then}
 use Rattle.corpus_shards.specs.declared.Shards.{Shards}
 use Rattle.corpus_shards.specs.Stored.{ShownFrom, raised, HasWritten, Forgets, Replaces, shard_in, writes_in}
 use Rattle.corpus_shards.proofs.Cases.{AreSameOrOther}
@@ -96,3 +96,25 @@ forgets s t index shard from left low replaces shows forgot = record {
   elsewhere = replaces.elsewhere;
   from_start = replaces.from_start;
 }
+
+-- ---- there is no such shard
+
+module _ (s : Shards) (index : List ℕ) (shard from : ℕ) (none : shard_in s index shard ≡ empty_shard) (low : from ≤ length (writes_in s index shard)) where
+  at_start : (from ≡ 0) × ((shard_in s index shard).oldest ≡ 0)
+  at_start =
+      let many : length (writes_in s index shard) ≡ 0 = ap (λ (v : ShardView). length v.writes) none in
+      let oldest : (shard_in s index shard).oldest ≡ 0 = ap (λ (v : ShardView). v.oldest) none in
+      (omega arith, oldest)
+
+  pub none_forgotten : (t : Shards) → Replaces index shard (shard_in s index shard) s t → Forgets index shard from s t
+  none_forgotten t replaces =
+      let start = at_start in
+      let zero_from = start.0 in
+      let zero_oldest = start.1 in
+      forgets s t index shard from (shard_in s index shard) low replaces (shows_all from (writes_in s index shard)) (omega arith)
+
+  pub none_counted : 0 ≡ dead_rows from (writes_in s index shard) - dead_rows (shard_in s index shard).oldest (writes_in s index shard)
+  none_counted =
+      let start = at_start in
+      let same : dead_rows from (writes_in s index shard) ≡ dead_rows (shard_in s index shard).oldest (writes_in s index shard) = ap (λ n. dead_rows n (writes_in s index shard)) (start.0 ∙ sym start.1) in
+      omega arith

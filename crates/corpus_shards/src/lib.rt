@@ -13,7 +13,7 @@ ghost use Rattle.corpus_shards.specs.Lent.{LendsShard};
 ghost use Rattle.shard_docs.specs.ShardView.{empty_shard, dead_rows, has_dead};
 ghost use Rattle.corpus_shards.specs.Placed.{AreShards, has_index};
 ghost use Rattle.corpus_shards.specs.Noted.{AreNoted, KeepsNotes};
-ghost use Rattle.corpus_shards.specs.Stored.{ShownFrom, HasWritten, IsNotedAs, AllNoted, is_noted, bound_of, Forgets, shard_in, has_shards, was_there, NoneMade};
+ghost use Rattle.corpus_shards.specs.Stored.{ShownFrom, HasWritten, IsNotedAs, AllNoted, is_among, is_noted, bound_of, Forgets, shard_in, has_shards, was_there, NoneMade};
 
 use shard_docs::{Shard, shard_of};
 use shared_value::Shared;
@@ -96,18 +96,26 @@ fn place(
     Ok(())
 }
 
-/// Notes a shard of an index. It fails only for want of memory.
-fn note(
+/// Notes a shard of an index, if a row has died in it that is not forgotten. It fails only for want of memory.
+fn note_if_dead(
     alloc: Global,
     stale: &mut Vec<Stale>,
     index: &str,
-    shard: u32,
+    number: u32,
+    shard: &Shard,
 ) -> Result<(), AllocError>
-    ensures { OnOk result (stale.new.items ≡ stale.old.items ++ record { index = index.now; shard = shard } ∷ []) }
+    ensures noted { OnOk result (has_dead shard.now ≡ true → is_among stale.new.items index.now number ≡ true) }
+    ensures still { KeepsNotes stale.old.items stale.new.items }
 {
+    if !shard.has_dead() {
+        return Ok(());
+    }
     let name = Text::new(String::from_str(alloc, index)?);
     let index = Shared::new(alloc, name)?;
-    stale.push(Stale { index, shard })?;
+    stale.push(Stale {
+        index,
+        shard: number,
+    })?;
     Ok(())
 }
 
@@ -118,16 +126,13 @@ fn note_dead(
     index: &str,
     shards: &[Shard],
 ) -> Result<(), AllocError>
-    requires { length shards.now < 2 ^ 32 }
     ensures noted { OnOk result (AreNoted stale.new.items index.now shards.now) }
     ensures still { KeepsNotes stale.old.items stale.new.items }
 {
     let mut number = 0u32;
     for shard in shards {
-        if shard.has_dead() {
-            note(alloc, stale, index, number)?;
-        }
-        number += 1;
+        note_if_dead(alloc, stale, index, number, shard)?;
+        number = number.saturating_add(1);
     }
     Ok(())
 }
@@ -137,7 +142,6 @@ fn stale_among(
     alloc: Global,
     by_index: &HashMap<String, Vec<Shard>>,
 ) -> Result<Vec<Stale>, AllocError>
-    requires { (index : List ℕ) → IfSome (get_by_text by_index.now index) (λ shards. length shards.items < 2 ^ 32) }
     ensures { IfOk result (λ stale. (index : List ℕ) → IfSome (get_by_text by_index.now index) (λ shards. AreNoted stale.items index shards.items)) }
 {
     let mut stale = Vec::new(alloc);

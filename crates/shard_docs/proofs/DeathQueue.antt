@@ -25,7 +25,6 @@ up_to version deaths = count_by (λ died. nat_le died version) deaths
 abbrev pub above : ℕ → List ℕ → List ℕ
 above version deaths = filter (λ died. nat_lt version died) deaths
 
-
 up_to-cons : (version died : ℕ) (deaths : List ℕ) → up_to version (died ∷ deaths) ≡ one_if (nat_le died version) + up_to version deaths
 up_to-cons version died deaths = sum_by-cons (λ d. one_if (nat_le d version)) died deaths
 
@@ -185,6 +184,6 @@ module _ (oldest : ℕ) (writes : List Doc) (deaths : List ℕ) (are : AreDeaths
     ascend = IsNonDecreasingBy-filter (λ d. d) (λ died. nat_lt version died) deaths are.ascend;
     within = All-filter (λ died. nat_lt version died) (λ d. d ≤ length shown) deaths (subst (λ n. All (λ d. d ≤ n) deaths) (sym shows.as_many) are.within);
     counted = λ later above_it.
-    omega
-    (arith, dead_same version writes shown shows version (omega arith), dead_same version writes shown shows later above_it, up_to-above version later deaths above_it, are.counted version from, are.counted later (omega arith));
+        omega
+        (arith, dead_same version writes shown shows version (omega arith), dead_same version writes shown shows later above_it, up_to-above version later deaths above_it, are.counted version from, are.counted later (omega arith));
   }

@@ -26,3 +26,6 @@ pub returns-clause-from_start : goal.returns-clause-from_start
 returns-clause-from_start c =
     let all = take_all c.loop-line.line-index c.as_slice-line-items.result.now c.loop-line-test.false ∙ c.as_slice-line-items.ensures in
     placed_indices c.args.corpus.now.lines c.args.count (record { count = c.args.count; by_index = c.loop-line.by_index; made = c.new.result; empty = c.new-2.result; stale = c.in_ok-stale.stale }) (subst (λ lines. AreShards lines c.args.count c.loop-line.by_index) all c.loop-line.invariant) c.new.ensures.empty
+
+pub returns-clause-noted : goal.returns-clause-noted
+returns-clause-noted c = ?

@@ -29,7 +29,7 @@ invariant_of-self c =
     let many = ap length (same_writes c.self.view_is) in
     let above : s.oldest ≤ c.args.oldest = omega (arith, c.if-oldest.false, c.oldest.ensures) in (
       purged s c.forget.new.self c.self.inside.living c.self.inside.index c.self.inside.spoiled c.self.inside.numbers c.args.oldest c.forget.ensures.rows c.forget.ensures.oldest above
-      (omega (arith, c.requires, many, length-map s.rows (λ (r : SeenRow). r.doc))) c.self.invariant.0,
+          (omega (arith, c.requires, many, length-map s.rows (λ (r : SeenRow). r.doc))) c.self.invariant.0,
       deaths_left s c.forget.new.self c.args.oldest c.self.inside.deaths.items c.take_deaths-count.new.deaths.items c.forget.ensures.rows c.forget.ensures.oldest above c.self.invariant.0.0.died c.take_deaths-count.ensures.left c.self.invariant.1,
     )
 
@@ -39,7 +39,7 @@ invariant_of-self-else-self-stored c =
     let many = ap length (same_writes c.self.view_is) in
     let above : s.oldest ≤ c.args.oldest = omega (arith, c.if-oldest.false, c.oldest.ensures) in (
       purged s c.forget.new.self c.self.inside.living c.self.inside.index c.self.inside.spoiled c.self.inside.numbers c.args.oldest c.forget.ensures.rows c.forget.ensures.oldest above
-      (omega (arith, c.requires, many, length-map s.rows (λ (r : SeenRow). r.doc))) c.self.invariant.0,
+          (omega (arith, c.requires, many, length-map s.rows (λ (r : SeenRow). r.doc))) c.self.invariant.0,
       deaths_left s c.forget.new.self c.args.oldest c.self.inside.deaths.items c.take_deaths-count.new.deaths.items c.forget.ensures.rows c.forget.ensures.oldest above c.self.invariant.0.0.died c.take_deaths-count.ensures.left c.self.invariant.1,
     )
 
