@@ -1,29 +1,37 @@
 -- Which shards are noted after one more note, and after one less.
 use Rattle.std.proofs.Common.{◌≡◌, ℕ, zero, suc, ◌+◌, ◌-◌, ◌<◌, ◌≤◌, ◌^◌, ◌⊎◌, inl, inr, Bool, true, false, cond, ◌&&◌, ◌||◌, List, [], ◌∷◌, ◌++◌, length, take, set, map, get_or, Option, Some, None, string_bytes, refl, sym, ap, subst, ◌∙◌, arith, true≢false}
 use Rattle.std.specs.Prelude.{◌==◌, count_by, nat_lt, IfSome, String}
-use Rattle.std.specs.List.{list_any, swap_remove, AllByRecursion, slice_get}
+use Rattle.std.specs.List.{list_any, swap_remove, AllByRecursion}
 use Rattle.std.specs.Map.{lookup}
 use Rattle.std.specs.Map.Iter.{deref_pair}
 use Rattle.std.specs.Option.{option_map_or}
 use Rattle.std.specs.HashMap.{get_by_text}
 use Rattle.std.specs.Str.{bytes_eq}
+use Rattle.std.specs.Cmp.Lexicographic.{nat_list_eq_equiv}
 use Rattle.std.specs.Global.{Vec}
 use Rattle.std.specs.Borrow.{Bor}
 use Rattle.std.specs.declared.alloc.Global.{Global}
-use Rattle.std.proofs.lemmas.Bool.{cases_lt, ltb-true}
+use Rattle.std.proofs.lemmas.Bool.{cases_lt}
 use Rattle.std.proofs.lemmas.Bool.Decides.{nat_tests}
-use Rattle.std.proofs.lemmas.List.{take-set-le, take-append-le, get_or_past, length-take, length-set}
+use Rattle.std.proofs.lemmas.List.{take-set-le, get_or_past, length-take, length-set}
 use Rattle.std.proofs.lemmas.List.Folds.{list_any-append}
 use Rattle.std.proofs.lemmas.List.Sums.{sum_by-cons, sum_by-swap_remove}
 use Rattle.std.proofs.lemmas.Slice.Eq.{bytes_eq-Decides}
+use Rattle.task_ids.specs.declared.corpus.Corpus.{Corpus}
 use Rattle.shard_docs.specs.ShardView.{ShardView, empty_shard, has_dead}
 use Rattle.corpus_shards.specs.declared.Shards.{Shards}
 use Rattle.corpus_shards.specs.declared.Stale.{Stale}
 use Rattle.corpus_shards.specs.Noted.{AreNoted, KeepsNotes}
-use Rattle.corpus_shards.specs.Stored.{AllNoted, is_among, shard_in}
+use Rattle.corpus_shards.specs.Stored.{ShownFrom, raised, HasWritten, AllNoted, Forgets, bound_of, is_among, shard_in}
 
 abbrev is_of : List ℕ → ℕ → Stale → Bool
 is_of index shard note = bytes_eq index note.index && (shard == note.shard)
+
+abbrev one_if : Bool → ℕ
+one_if b = cond b 1 0
+
+abbrev weigh : List ℕ → ℕ → Stale → ℕ
+weigh index shard note = one_if (is_of index shard note)
 
 or_true : (b : Bool) → (b || true) ≡ true
 or_true true = refl
@@ -54,9 +62,9 @@ push_notes notes note index shard is = among_push notes note index shard ∙ ap 
 
 any_count : {X : Type 0} (test : X → Bool) (xs : List X) → list_any test xs ≡ nat_lt 0 (count_by test xs)
 any_count test [] = refl
-any_count test (x ∷ xs) = let rest = any_count test xs in let counted = sum_by-cons (λ y. cond (test y) 1 0) x xs in by (test x) (count_by test (x ∷ xs)) (count_by test xs) counted rest
+any_count {X} test (x ∷ xs) = let rest = any_count test xs in let counted = sum_by-cons (λ (y : X). one_if (test y)) x xs in by (test x) (count_by test (x ∷ xs)) (count_by test xs) counted rest
   where
-    by : (b : Bool) (all others : ℕ) → all ≡ cond b 1 0 + others → list_any test xs ≡ nat_lt 0 others → (b || list_any test xs) ≡ nat_lt 0 all
+    by : (b : Bool) (all others : ℕ) → all ≡ one_if b + others → list_any test xs ≡ nat_lt 0 others → (b || list_any test xs) ≡ nat_lt 0 all
     by true all others counted rest = grind (arith, nat_tests)
     by false all others counted rest = let same : all ≡ others = omega arith in rest ∙ ap (nat_lt 0) (sym same)
 
@@ -64,8 +72,8 @@ any_count test (x ∷ xs) = let rest = any_count test xs in let counted = sum_by
 pub taken_keeps : (notes : List Stale) (place : ℕ) (note : Stale) → place < length notes → note ≡ get_or notes place note → (index : List ℕ) (shard : ℕ) → is_of index shard note ≡ false → is_among notes index shard ≡ true
     → is_among (swap_remove notes place note) index shard ≡ true
 taken_keeps notes place note within is index shard other was =
-    let counted = sum_by-swap_remove (λ n. cond (is_of index shard n) 1 0) notes place note within in
-    let none : (λ n. cond (is_of index shard n) 1 0) (get_or notes place note) ≡ 0 = ap (λ n. cond (is_of index shard n) 1 0) (sym is) ∙ ap (λ b. cond b 1 0) other in
+    let counted = sum_by-swap_remove (weigh index shard) notes place note within in
+    let none : weigh index shard (get_or notes place note) ≡ 0 = ap (weigh index shard) (sym is) ∙ ap one_if other in
     let same : count_by (is_of index shard) (swap_remove notes place note) ≡ count_by (is_of index shard) notes = omega (arith, counted, none) in
     any_count (is_of index shard) (swap_remove notes place note) ∙ ap (nat_lt 0) same ∙ sym (any_count (is_of index shard) notes) ∙ was
 
@@ -125,3 +133,57 @@ pub one_more_noted : (notes : List Stale) (pairs : List (Bor (String Global) × 
     → AreNoted notes (string_bytes pair.0.now) pair.1.now.items → AllByRecursion (λ p. AreNoted notes (string_bytes p.0.now) p.1.now.items) (pairs ++ pair ∷ [])
 one_more_noted notes [] pair all last = (last, tt)
 one_more_noted notes (first_pair ∷ pairs) pair (first, later) last = (first, one_more_noted notes pairs pair later last)
+
+-- ---- a shard that was noted has forgotten rows
+
+-- what is written does not tell which shards are noted
+renoted : (s : Shards) (stale : Vec Stale) (corpus : Corpus) (shards : ℕ) (oldest : ShownFrom) → HasWritten corpus shards oldest s → HasWritten corpus shards oldest (record s { stale = stale })
+renoted s stale corpus shards oldest has = record { count = has.count; some = has.some; low = has.low; each = has.each; own = has.own; as_many = has.as_many; few = has.few; empty = has.empty }
+
+pub forgets_as : (s t : Shards) (old new : Vec Stale) (index : List ℕ) (shard version : ℕ) → Forgets index shard version (record s { stale = old }) t → Forgets index shard version s (record t { stale = new })
+forgets_as s t old new index shard version forgets = record {
+  written = λ corpus shards oldest has. renoted t new corpus shards (raised index shard version oldest) (forgets.written corpus shards oldest (renoted s old corpus shards oldest has));
+  here = forgets.here;
+  elsewhere = forgets.elsewhere;
+  from_start = forgets.from_start;
+}
+
+-- the shard of a note forgot what is dead at the version that is kept of it
+pub forgot_at : (s t : Shards) (old : Vec Stale) (note : Stale) (name : List ℕ) (kept : Option ℕ) (found : ShardView) (version : ℕ) → name ≡ note.index → found ≡ shard_in s name note.shard → version ≡ bound_of kept found
+    → Forgets name note.shard version (record s { stale = old }) t → Forgets note.index note.shard (bound_of kept (shard_in s note.index note.shard)) (record s { stale = old }) t
+forgot_at s t old note name kept found version named there is forgets =
+    subst (λ n. Forgets note.index note.shard n (record s { stale = old }) t) (is ∙ ap (bound_of kept) (there ∙ ap (λ i. shard_in s i note.shard) named))
+    (subst (λ (i : List ℕ). Forgets i note.shard version (record s { stale = old }) t) named forgets)
+
+flipped : (a b : List ℕ) (m n : ℕ) → (bytes_eq a b && (m == n)) ≡ (bytes_eq b a && (n == m))
+flipped a b m n = let number : (m == n) ≡ (n == m) = grind (arith, nat_tests) in ap (λ t. t && (m == n)) (nat_list_eq_equiv.symm a b) ∙ ap (λ t. bytes_eq b a && t) number
+
+module _ (s t : Shards) (place : ℕ) (note : Stale) (within : place < length s.stale.items) (is : note ≡ get_or s.stale.items place note)
+    (elsewhere : (q : List ℕ) (k : ℕ) → (bytes_eq note.index q && (note.shard == k)) ≡ false → shard_in t q k ≡ shard_in s q k) where
+  -- the others are noted as before
+  others_noted : AllNoted s → (q : List ℕ) (k : ℕ) → is_of q k note ≡ false → has_dead (shard_in t q k) ≡ true → is_among (swap_remove s.stale.items place note) q k ≡ true
+  others_noted all q k other dead = taken_keeps s.stale.items place note within is q k other (all q k (sym (ap has_dead (elsewhere q k (flipped note.index q note.shard k ∙ other))) ∙ dead))
+
+  -- it is noted again
+  pub noted_again : t.stale.items ≡ swap_remove s.stale.items place note ++ note ∷ [] → AllNoted s → AllNoted t
+  noted_again left all q k dead = subst (λ notes. is_among notes q k ≡ true) (sym left) (by (is_of q k note) refl)
+    where
+      by : (b : Bool) → is_of q k note ≡ b → is_among (swap_remove s.stale.items place note ++ note ∷ []) q k ≡ true
+      by true here = push_notes (swap_remove s.stale.items place note) note q k here
+      by false other = push_keeps (swap_remove s.stale.items place note) note q k (others_noted all q k other dead)
+
+  -- or no dead row of it is left
+  pub noted_no_more : t.stale.items ≡ swap_remove s.stale.items place note → has_dead (shard_in t note.index note.shard) ≡ false → AllNoted s → AllNoted t
+  noted_no_more left none all q k dead = subst (λ notes. is_among notes q k ≡ true) (sym left) (by (bytes_eq q note.index) refl (k == note.shard) refl)
+    where
+      by : (b : Bool) → bytes_eq q note.index ≡ b → (d : Bool) → (k == note.shard) ≡ d → is_among (swap_remove s.stale.items place note) q k ≡ true
+      by true e true f =
+          let name : q ≡ note.index = (bytes_eq-Decides q note.index).0 e in
+          let number : k ≡ note.shard = grind (arith, nat_tests) in
+          absurd (true≢false (sym dead ∙ ap (λ i. has_dead (shard_in t i k)) name ∙ ap (λ n. has_dead (shard_in t note.index n)) number ∙ none))
+      by true e false f = others_noted all q k (ap (λ b. b && (k == note.shard)) e ∙ f) dead
+      by false e d f = others_noted all q k (ap (λ b. b && (k == note.shard)) e) dead
+
+-- with the same shards and notes as before
+pub made_noted : (s t : Shards) → ((q : List ℕ) (k : ℕ) → shard_in t q k ≡ shard_in s q k) → t.stale ≡ s.stale → AllNoted s → AllNoted t
+made_noted s t same stale all q k dead = ap (λ (v : Vec Stale). is_among v.items q k) stale ∙ all q k (sym (ap has_dead (same q k)) ∙ dead)

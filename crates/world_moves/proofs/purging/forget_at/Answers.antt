@@ -1,5 +1,15 @@
-use Rattle.world_moves.proofs.PurgedTies.{noted_tied}
+use Rattle.std.proofs.Common.{◌≡◌, ◌≤◌, ◌∙◌, sym, ap, subst}
+use Rattle.std.specs.Prelude.{IfSome}
+use Rattle.std.specs.List.{slice_get}
+use Rattle.std.proofs.lemmas.Option.{slice_get_read}
+use Rattle.corpus_shards.specs.Stored.{bound_of, shard_in}
+use Rattle.corpus_shards.proofs.Notes.{bound_kept}
+use Rattle.world_moves.specs.Purging.{oldest_in}
+use Rattle.world_moves.proofs.PurgedTies.{forgotten}
 use Rattle.world_moves.proofs.purging.forget_at.Goals as goal
 
-pub returns-then-forget_in-clause-tied : goal.returns-then-forget_in-clause-tied
-returns-then-forget_in-clause-tied c = noted_tied c.forget_in.new.state c.drop_stale.new.self c.forget_in.ensures.tied c.drop_stale.ensures.noted
+pub returns-clause-tied : goal.returns-clause-tied
+returns-clause-tied c = ?
+
+pub returns-clause-forgets : goal.returns-clause-forgets
+returns-clause-forgets c = ?
