@@ -1,5 +1,5 @@
 -- Which shards are noted after one more note, and after one less.
-use Rattle.std.proofs.Common.{◌≡◌, ℕ, zero, suc, ◌+◌, ◌-◌, ◌<◌, ◌≤◌, ◌^◌, ◌⊎◌, inl, inr, Bool, true, false, cond, ◌&&◌, ◌||◌, List, [], ◌∷◌, ◌++◌, length, take, set, map, get_or, Option, Some, None, string_bytes, refl, sym, ap, subst, ◌∙◌, arith, true≢false}
+use Rattle.std.proofs.Common.{◌≡◌, ℕ, zero, suc, ◌+◌, ◌-◌, ◌<◌, ◌≤◌, ◌^◌, ◌⊎◌, inl, inr, Bool, true, false, cond, ◌&&◌, ◌||◌, List, [], ◌∷◌, ◌++◌, length, take, set, map, get_or, min, max, Option, Some, None, string_bytes, refl, sym, ap, subst, ◌∙◌, arith, true≢false}
 use Rattle.std.specs.Prelude.{◌==◌, count_by, nat_lt, IfSome, String}
 use Rattle.std.specs.List.{list_any, swap_remove, AllByRecursion}
 use Rattle.std.specs.Map.{lookup}
@@ -18,13 +18,14 @@ use Rattle.std.proofs.lemmas.List.Folds.{list_any-append}
 use Rattle.std.proofs.lemmas.List.Sums.{sum_by-cons, sum_by-swap_remove}
 use Rattle.std.proofs.lemmas.Slice.Eq.{bytes_eq-Decides}
 use Rattle.task_ids.specs.declared.corpus.Corpus.{Corpus}
-use Rattle.shard_docs.specs.ShardView.{ShardView, empty_shard, has_dead}
+use Rattle.shard_docs.specs.ShardView.{ShardView, empty_shard, dead_rows, has_dead}
+use Rattle.shard_docs.proofs.DeadRows.{dead_grows}
 use Rattle.corpus_shards.specs.declared.Shards.{Shards}
 use Rattle.corpus_shards.specs.declared.Stale.{Stale}
 use Rattle.corpus_shards.specs.Noted.{AreNoted, KeepsNotes}
-use Rattle.corpus_shards.specs.Stored.{ShownFrom, raised, HasWritten, AllNoted, Forgets, bound_of, is_among, shard_in}
+use Rattle.corpus_shards.specs.Stored.{ShownFrom, raised, HasWritten, IsNotedAs, AllNoted, HasForgotten, Forgets, Replaces, bound_of, is_among, is_noted, shard_in}
 
-abbrev is_of : List ℕ → ℕ → Stale → Bool
+abbrev pub is_of : List ℕ → ℕ → Stale → Bool
 is_of index shard note = bytes_eq index note.index && (shard == note.shard)
 
 abbrev one_if : Bool → ℕ
@@ -144,6 +145,7 @@ pub forgets_as : (s t : Shards) (old new : Vec Stale) (index : List ℕ) (shard 
 forgets_as s t old new index shard version forgets = record {
   written = λ corpus shards oldest has. renoted t new corpus shards (raised index shard version oldest) (forgets.written corpus shards oldest (renoted s old corpus shards oldest has));
   here = forgets.here;
+  as_many = forgets.as_many;
   elsewhere = forgets.elsewhere;
   from_start = forgets.from_start;
 }
@@ -155,7 +157,7 @@ forgot_at s t old note name kept found version named there is forgets =
     subst (λ n. Forgets note.index note.shard n (record s { stale = old }) t) (is ∙ ap (bound_of kept) (there ∙ ap (λ i. shard_in s i note.shard) named))
     (subst (λ (i : List ℕ). Forgets i note.shard version (record s { stale = old }) t) named forgets)
 
-flipped : (a b : List ℕ) (m n : ℕ) → (bytes_eq a b && (m == n)) ≡ (bytes_eq b a && (n == m))
+pub flipped : (a b : List ℕ) (m n : ℕ) → (bytes_eq a b && (m == n)) ≡ (bytes_eq b a && (n == m))
 flipped a b m n = let number : (m == n) ≡ (n == m) = grind (arith, nat_tests) in ap (λ t. t && (m == n)) (nat_list_eq_equiv.symm a b) ∙ ap (λ t. bytes_eq b a && t) number
 
 module _ (s t : Shards) (place : ℕ) (note : Stale) (within : place < length s.stale.items) (is : note ≡ get_or s.stale.items place note)
@@ -183,6 +185,63 @@ module _ (s t : Shards) (place : ℕ) (note : Stale) (within : place < length s.
           absurd (true≢false (sym dead ∙ ap (λ i. has_dead (shard_in t i k)) name ∙ ap (λ n. has_dead (shard_in t note.index n)) number ∙ none))
       by true e false f = others_noted all q k (ap (λ b. b && (k == note.shard)) e ∙ f) dead
       by false e d f = others_noted all q k (ap (λ b. b && (k == note.shard)) e) dead
+
+-- ---- what is forgotten
+
+bound_within : (kept : Option ℕ) (shard : ShardView) → bound_of kept shard ≤ length shard.writes
+bound_within None shard = omega arith
+bound_within (Some version) shard = omega arith
+
+-- the bound is not above what is kept
+pub bound_kept : (kept : Option ℕ) (shard : ShardView) → IfSome kept (λ version. bound_of kept shard ≤ version)
+bound_kept None shard = tt
+bound_kept (Some version) shard = omega arith
+
+-- where no dead row is left nothing is to be forgotten
+pub none_left : (kept : Option ℕ) (shard : ShardView) → has_dead shard ≡ false → HasForgotten (bound_of kept shard) shard
+none_left kept shard none =
+    let grows = dead_grows (bound_of kept shard) (length shard.writes) shard.writes (bound_within kept shard) in
+    let all : dead_rows (length shard.writes) shard.writes ≤ dead_rows shard.oldest shard.writes = grind (arith, nat_tests) in
+    omega (arith, grows, all)
+
+-- a shard that forgot what is dead at its bound has forgotten it
+pub has_forgotten : (kept : Option ℕ) (was is : ShardView) → length is.writes ≡ length was.writes → is.oldest ≡ max was.oldest (bound_of kept was) → HasForgotten (bound_of kept is) is
+has_forgotten kept was is many oldest =
+    let same : bound_of kept is ≡ bound_of kept was = same_bound kept in
+    dead_grows (bound_of kept is) is.oldest is.writes (omega (arith, same, oldest))
+  where
+    same_bound : (kept : Option ℕ) → bound_of kept is ≡ bound_of kept was
+    same_bound None = many
+    same_bound (Some version) = ap (min version) many
+
+-- ---- after a shard was written to
+
+-- it is noted where a row has died since
+pub noted_after : (s t marked : Shards) (index : List ℕ) (shard : ℕ) (left : ShardView) (had has : Bool) → AllNoted s → Replaces index shard left s t → IsNotedAs t marked → had ≡ has_dead (shard_in s index shard) → has ≡ has_dead left
+    → (had ≡ false → has ≡ true → is_noted marked index shard ≡ true) → AllNoted marked
+noted_after s t marked index shard left had has all replaces as_new was is noted q k dead = by (bytes_eq index q) refl (shard == k) refl
+  where
+    -- what was noted before still is
+    before : has_dead (shard_in s q k) ≡ true → is_noted marked q k ≡ true
+    before died = as_new.still q k (ap (λ (v : Vec Stale). is_among v.items q k) replaces.stale ∙ all q k died)
+
+    elsewhere : (bytes_eq index q && (shard == k)) ≡ false → is_noted marked q k ≡ true
+    elsewhere other = before (sym (ap has_dead (replaces.elsewhere q k other)) ∙ sym (ap has_dead (as_new.shards q k)) ∙ dead)
+
+    here : index ≡ q → shard ≡ k → (b : Bool) → had ≡ b → is_noted marked q k ≡ true
+    here name number true e = before (sym (ap (λ i. has_dead (shard_in s i k)) name) ∙ sym (ap (λ n. has_dead (shard_in s index n)) number) ∙ sym was ∙ e)
+    here name number false e =
+        let died : has ≡ true = is ∙ sym (ap has_dead replaces.here) ∙ ap (λ i. has_dead (shard_in t i shard)) name ∙ ap (λ n. has_dead (shard_in t q n)) number ∙ sym (ap has_dead (as_new.shards q k)) ∙ dead in
+        ap (λ i. is_noted marked i k) (sym name) ∙ ap (λ n. is_noted marked index n) (sym number) ∙ noted e died
+
+    by : (b : Bool) → bytes_eq index q ≡ b → (d : Bool) → (shard == k) ≡ d → is_noted marked q k ≡ true
+    by true e true f = here ((bytes_eq-Decides index q).0 e) (grind (arith, nat_tests)) had refl
+    by true e false f = elsewhere (ap (λ b. b && (shard == k)) e ∙ f)
+    by false e d f = elsewhere (ap (λ b. b && (shard == k)) e)
+
+-- a shard is not noted by a note of another one
+pub not_pushed : (notes : List Stale) (note : Stale) (index : List ℕ) (shard : ℕ) → is_among notes index shard ≡ false → is_of index shard note ≡ false → is_among (notes ++ note ∷ []) index shard ≡ false
+not_pushed notes note index shard none other = among_push notes note index shard ∙ ap (λ b. b || (is_of index shard note || false)) none ∙ ap (λ b. b || false) other
 
 -- with the same shards and notes as before
 pub made_noted : (s t : Shards) → ((q : List ℕ) (k : ℕ) → shard_in t q k ≡ shard_in s q k) → t.stale ≡ s.stale → AllNoted s → AllNoted t

@@ -93,6 +93,7 @@ pub forgets : (s t : Shards) (index : List ℕ) (shard from : ℕ) (left : Shard
 forgets s t index shard from left low replaces shows forgot = record {
   written = λ corpus shards old has. purged corpus shards old s t index shard from left has low replaces shows forgot;
   here = ap (λ (v : ShardView). v.oldest) replaces.here ∙ forgot;
+  as_many = ap (λ (v : ShardView). length v.writes) replaces.here ∙ shows.as_many;
   elsewhere = replaces.elsewhere;
   from_start = replaces.from_start;
 }

@@ -81,15 +81,15 @@ abbrev pub bound_of : Option ℕ → ShardView → ℕ
 bound_of (Some version) shard = min version (length shard.writes)
 bound_of None shard = length shard.writes
 
--- A shard has forgotten exactly the rows that are dead at a version: none that is alive there, and as many as are dead.
-pub record HasForgotten (version : ℕ) (shard : ShardView) : Type 0 where
-  pub none_later : shard.oldest ≤ version
-  pub all_dead : dead_rows shard.oldest shard.writes ≡ dead_rows version shard.writes
+-- a shard has forgotten all rows that are dead at a version
+abbrev pub HasForgotten : ℕ → ShardView → Type 0
+HasForgotten version shard = dead_rows version shard.writes ≤ dead_rows shard.oldest shard.writes
 
 -- t is s after a shard of an index has forgotten the rows that are dead at a version
 pub record Forgets (index : List ℕ) (shard version : ℕ) (s t : Shards) : Type 0 where
   pub written : (corpus : Corpus) (shards : ℕ) (oldest : ShownFrom) → HasWritten corpus shards oldest s → HasWritten corpus shards (raised index shard version oldest) t
   pub here : (shard_in t index shard).oldest ≡ max (shard_in s index shard).oldest version
+  pub as_many : length (writes_in t index shard) ≡ length (writes_in s index shard)
   pub elsewhere : (q : List ℕ) (k : ℕ) → (bytes_eq index q && (shard == k)) ≡ false → shard_in t q k ≡ shard_in s q k
   pub from_start : (q : List ℕ) → was_there t q ≡ was_there s q
 

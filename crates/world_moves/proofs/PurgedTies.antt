@@ -1,5 +1,5 @@
 -- While no task is live, the tables fit the past with shards that forgot what no context keeps.
-use Rattle.std.proofs.Common.{◌≡◌, ℕ, ◌+◌, ◌<◌, ◌≤◌, Bool, true, false, cond, ◌&&◌, List, [], ◌∷◌, ◌++◌, length, take, get_or, Some, None, refl, sym, ap, subst, ◌∙◌, arith, true≢false}
+use Rattle.std.proofs.Common.{◌≡◌, ℕ, zero, suc, ◌+◌, ◌<◌, ◌≤◌, Bool, true, false, cond, ◌&&◌, List, [], ◌∷◌, ◌++◌, length, take, get_or, Some, None, refl, sym, ap, subst, ◌∙◌, arith, true≢false}
 use Rattle.std.specs.Prelude.{IfSome, ◌==◌, slice_get}
 use Rattle.std.specs.BTreeMap.{BTreeMap, btree_map_len, is_at}
 use Rattle.std.specs.Map.{lookup}
@@ -123,6 +123,11 @@ none_noted tables shards left all noted index shard other = by (has_dead (shard_
     by : (b : Bool) → has_dead (shard_in shards index shard) ≡ b → HasForgotten (bound_in tables shards index shard) (shard_in shards index shard)
     by true dead = absurd (true≢false (sym (ap (λ notes. is_among notes index shard) (take_all left shards.stale.items all) ∙ noted index shard dead) ∙ other))
     by false none = none_left (oldest_in index shard tables) (shard_in shards index shard) none
+
+pub note_there : (notes : List Stale) (place : ℕ) → place < length notes → (note : Stale) × (slice_get notes place ≡ Some note)
+note_there [] place within = absurd (omega arith)
+note_there (note ∷ notes) zero within = (note, refl)
+note_there (note ∷ notes) (suc place) within = note_there notes place (omega arith)
 
 -- then one more has
 pub one_more_forgot : (tables : List (FinMap task_id_cmp Context)) (s t : Shards) (left : ℕ) (note : Stale) → left < length s.stale.items → slice_get s.stale.items left ≡ Some note → Forgets note.index note.shard (bound_in tables s note.index note.shard) s t
