@@ -13,11 +13,12 @@ use Rattle.task_ids.specs.declared.corpus.CorpusLine.{CorpusLine}
 use Rattle.task_ids.specs.declared.doc.Doc.{Doc}
 use Rattle.task_ids.specs.Placing.{shard_of}
 use Rattle.task_events.specs.Documents.{writes_of}
+use Rattle.shard_docs.specs.ShardView.{ShardView}
 use Rattle.shard_docs.specs.Shown.{ShowsFrom}
 use Rattle.shard_docs.proofs.Ids.{same_or_other}
 use Rattle.shard_docs.proofs.ShownMore.{shows_more}
 use Rattle.corpus_shards.specs.declared.Shards.{Shards}
-use Rattle.corpus_shards.specs.Stored.{ShownFrom, HasWritten, Replaces, writes_in, lines_of}
+use Rattle.corpus_shards.specs.Stored.{ShownFrom, HasWritten, Replaces, shard_in, writes_in, lines_of}
 use Rattle.corpus_shards.proofs.Cases.{AreSameOrOther}
 
 -- what lies in a shard of more lines is what lies in it of the first ones and then of the others
@@ -43,8 +44,8 @@ writes_of_one index (doc ∷ docs) shards shard q k (first, all) = one (bytes_eq
     one false e later = rw (first, e) (later ∙ ap (λ b. cond b docs []) e)
 
 -- documents were written to their shard, and there are few enough
-module _ (corpus : Corpus) (shards : ℕ) (oldest : ShownFrom) (s t : Shards) (index : List ℕ) (shard : ℕ) (docs : List Doc) (has : HasWritten corpus shards oldest s)
-    (replaces : Replaces index shard (writes_in s index shard ++ docs) s t) (placed : AllByRecursion (λ doc. shard_of doc.id shards ≡ shard) docs) where
+module _ (corpus : Corpus) (shards : ℕ) (oldest : ShownFrom) (s t : Shards) (index : List ℕ) (shard : ℕ) (docs : List Doc) (has : HasWritten corpus shards oldest s) (left : ShardView)
+    (replaces : Replaces index shard left s t) (wrote : left.writes ≡ writes_in s index shard ++ docs) (kept : left.oldest ≡ (shard_in s index shard).oldest) (placed : AllByRecursion (λ doc. shard_of doc.id shards ≡ shard) docs) where
   abbrev pub more : Corpus
   more = record { lines = corpus.lines ++ lines_of index docs }
 
@@ -66,14 +67,20 @@ module _ (corpus : Corpus) (shards : ℕ) (oldest : ShownFrom) (s t : Shards) (i
 
   each : (q : List ℕ) (k : ℕ) → Where q k → ShowsFrom (oldest q k) (writes_of more shards q k) (writes_in t q k)
   each q k (inl (here, same, one)) =
-      let there : writes_in t q k ≡ writes_in s q k ++ docs = subst (λ i. writes_in t i k ≡ writes_in s i k ++ docs) same (subst (λ n. writes_in t index n ≡ writes_in s index n ++ docs) one replaces.here) in
-      let wrote : writes_of more shards q k ≡ writes_of corpus shards q k ++ docs = written q k ∙ ap (λ b. writes_of corpus shards q k ++ cond b docs []) here in
-      subst (λ those. ShowsFrom (oldest q k) those (writes_in t q k)) (sym wrote)
+      let there : writes_in t q k ≡ writes_in s q k ++ docs = subst (λ i. writes_in t i k ≡ writes_in s i k ++ docs) same (subst (λ n. writes_in t index n ≡ writes_in s index n ++ docs) one (ap (λ (v : ShardView). v.writes) replaces.here ∙ wrote)) in
+      let all : writes_of more shards q k ≡ writes_of corpus shards q k ++ docs = written q k ∙ ap (λ b. writes_of corpus shards q k ++ cond b docs []) here in
+      subst (λ those. ShowsFrom (oldest q k) those (writes_in t q k)) (sym all)
       (subst (ShowsFrom (oldest q k) (writes_of corpus shards q k ++ docs)) (sym there) (shows_more (oldest q k) (writes_of corpus shards q k) (writes_in s q k) (has.each q k) (has.low q k) docs))
   each q k (inr (back, off)) =
-      let wrote : writes_of more shards q k ≡ writes_of corpus shards q k = written q k ∙ ap (λ b. writes_of corpus shards q k ++ cond b docs []) back ∙ append-nil (writes_of corpus shards q k) in
-      subst (λ those. ShowsFrom (oldest q k) those (writes_in t q k)) (sym wrote)
-      (subst (ShowsFrom (oldest q k) (writes_of corpus shards q k)) (sym (replaces.elsewhere q k off)) (has.each q k))
+      let all : writes_of more shards q k ≡ writes_of corpus shards q k = written q k ∙ ap (λ b. writes_of corpus shards q k ++ cond b docs []) back ∙ append-nil (writes_of corpus shards q k) in
+      subst (λ those. ShowsFrom (oldest q k) those (writes_in t q k)) (sym all)
+      (subst (ShowsFrom (oldest q k) (writes_of corpus shards q k)) (sym (ap (λ (v : ShardView). v.writes) (replaces.elsewhere q k off))) (has.each q k))
+
+  own : (q : List ℕ) (k : ℕ) → Where q k → (shard_in t q k).oldest ≡ oldest q k
+  own q k (inl (here, same, one)) =
+      let there = subst (λ i. (shard_in t i k).oldest ≡ (shard_in s i k).oldest) same (subst (λ n. (shard_in t index n).oldest ≡ (shard_in s index n).oldest) one (ap (λ (v : ShardView). v.oldest) replaces.here ∙ kept)) in
+      there ∙ has.own q k
+  own q k (inr (back, off)) = ap (λ (v : ShardView). v.oldest) (replaces.elsewhere q k off) ∙ has.own q k
 
   low : (q : List ℕ) (k : ℕ) → oldest q k ≤ length (writes_of more shards q k)
   low q k =
@@ -88,7 +95,7 @@ module _ (corpus : Corpus) (shards : ℕ) (oldest : ShownFrom) (s t : Shards) (i
   few few_here q k (inr (back, off)) =
       subst (λ those. length those < 2 ^ 32) (sym (written q k ∙ ap (λ b. writes_of corpus shards q k ++ cond b docs []) back ∙ append-nil (writes_of corpus shards q k))) (has.few q k)
 
-  as_many : (q : List ℕ) (o p : Option (Vec (List Doc))) → option_map (λ list. length list.items) p ≡ option_map (λ list. length list.items) o → IfSome o (λ list. length list.items ≡ shards) → IfSome p (λ list. length list.items ≡ shards)
+  as_many : (q : List ℕ) (o p : Option (Vec ShardView)) → option_map (λ list. length list.items) p ≡ option_map (λ list. length list.items) o → IfSome o (λ list. length list.items ≡ shards) → IfSome p (λ list. length list.items ≡ shards)
   as_many q o None same many = tt
   as_many q None (Some list) same many = absurd (cc)
   as_many q (Some old) (Some list) same many = let e : length list.items ≡ length old.items = cc in e ∙ many
@@ -99,6 +106,7 @@ module _ (corpus : Corpus) (shards : ℕ) (oldest : ShownFrom) (s t : Shards) (i
     some = has.some;
     low = low;
     each = λ q k. each q k (find q k);
+    own = λ q k. own q k (find q k);
     as_many = λ q. as_many q (get_by_text s.by_index q) (get_by_text t.by_index q) (replaces.as_many q) (has.as_many q);
     few = λ q k. few few_here q k (find q k);
     empty = replaces.empty ∙ has.empty;

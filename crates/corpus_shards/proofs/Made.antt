@@ -1,5 +1,5 @@
 -- An index gets shards without a document: nothing that is written changes.
-use Rattle.std.proofs.Common.{◌≡◌, ℕ, zero, suc, ◌+◌, inl, inr, Bool, true, false, not, ◌&&◌, ◌||◌, cond, List, [], length, map, get_or, Option, Some, None, sym, subst, ap, ◌∙◌, refl}
+use Rattle.std.proofs.Common.{◌≡◌, ℕ, zero, suc, ◌+◌, inl, inr, Bool, true, false, not, ◌&&◌, ◌||◌, cond, List, length, map, get_or, Option, Some, None, sym, subst, ap, ◌∙◌, refl}
 use Rattle.std.specs.Prelude.{IfSome, is_some, Result, Ok, Err, OnOk, OnErr}
 use Rattle.std.specs.Option.{option_map_or}
 use Rattle.std.specs.List.{range_with_len}
@@ -17,16 +17,16 @@ use Rattle.std.proofs.lemmas.Map.Text.{hash_map_updates_text, hash_set_updates_t
 use Rattle.std.specs.Global.{Vec}
 use Rattle.std.proofs.lemmas.List.FromFn.{length-map-range_with_len}
 use Rattle.task_ids.specs.declared.corpus.Corpus.{Corpus}
-use Rattle.task_ids.specs.declared.doc.Doc.{Doc}
 use Rattle.task_events.specs.Documents.{writes_of}
+use Rattle.shard_docs.specs.ShardView.{ShardView, empty_shard}
 use Rattle.shard_docs.specs.Shown.{ShowsFrom}
 use Rattle.shard_docs.proofs.Ids.{same_or_other}
 use Rattle.corpus_shards.specs.declared.Shards.{Shards}
-use Rattle.corpus_shards.specs.Stored.{ShownFrom, HasWritten, writes_in, has_shards, was_there}
+use Rattle.corpus_shards.specs.Stored.{ShownFrom, HasWritten, shard_in, has_shards, was_there}
 use Rattle.corpus_shards.proofs.Cases.{AreSameOrOther}
 
 -- nothing lies in shards without a document
-nothing_in : (a n k : ℕ) → get_or {A = List Doc} (map (λ _. []) (range_with_len a n)) k [] ≡ []
+nothing_in : (a n k : ℕ) → get_or {A = ShardView} (map (λ _. empty_shard) (range_with_len a n)) k empty_shard ≡ empty_shard
 nothing_in a zero k = refl
 nothing_in a (suc n) zero = refl
 nothing_in a (suc n) (suc k) = nothing_in (a + 1) n k
@@ -50,7 +50,7 @@ others_either s t index (Err e) ok err q off = err q
 -- what is written does not tell which were made
 pub noted_written : (s : Shards) (made : HashSet (String Global) (BuildHasherDefault FoldHasher)) (corpus : Corpus) (shards : ℕ) (oldest : ShownFrom)
     → HasWritten corpus shards oldest s → HasWritten corpus shards oldest (record s { made = made })
-noted_written s made corpus shards oldest has = record { count = has.count; some = has.some; low = has.low; each = has.each; as_many = has.as_many; few = has.few; empty = has.empty }
+noted_written s made corpus shards oldest has = record { count = has.count; some = has.some; low = has.low; each = has.each; own = has.own; as_many = has.as_many; few = has.few; empty = has.empty }
 
 module _ (s t : Shards) (index : List ℕ) (none : has_shards s index ≡ false) where
   -- an index that had no shards is noted as one that was made
@@ -70,7 +70,7 @@ module _ (s t : Shards) (index : List ℕ) (none : has_shards s index ≡ false)
           ap (λ made. has_shards t q && not made) (noted q ∙ ap (λ b. cond b true (contains_text s.made q)) off)
           ∙ ap (λ has. has && not (contains_text s.made q)) (others q off)
 
-  module _ (list : Vec (List Doc)) (blank : list.items ≡ map (λ _. []) (range_with_len 0 s.count))
+  module _ (list : Vec ShardView) (blank : list.items ≡ map (λ _. empty_shard) (range_with_len 0 s.count))
       (changed : (q : List ℕ) → get_by_text t.by_index q ≡ cond (bytes_eq index q) (Some list) (get_by_text s.by_index q)) where
     pub has_made : (q : List ℕ) → has_shards t q ≡ bytes_eq index q || has_shards s q
     has_made q = ap is_some (changed q) ∙ of_either (bytes_eq index q)
@@ -82,19 +82,19 @@ module _ (s t : Shards) (index : List ℕ) (none : has_shards s index ≡ false)
     pub others_stay : (q : List ℕ) → bytes_eq index q ≡ false → has_shards t q ≡ has_shards s q
     others_stay q off = has_made q ∙ ap (λ b. b || has_shards s q) off
 
-    abbrev found_as : (o : Option (Vec (List Doc))) (k : ℕ) → List Doc
-    found_as o k = option_map_or (λ those. get_or those.items k []) o []
+    abbrev found_as : (o : Option (Vec ShardView)) (k : ℕ) → ShardView
+    found_as o k = option_map_or (λ those. get_or those.items k empty_shard) o empty_shard
 
-    pub same_writes : (q : List ℕ) (k : ℕ) → writes_in t q k ≡ writes_in s q k
-    same_writes q k = ap (λ o. found_as o k) (changed q) ∙ by_case (same_or_other index q)
+    pub same_shards : (q : List ℕ) (k : ℕ) → shard_in t q k ≡ shard_in s q k
+    same_shards q k = ap (λ o. found_as o k) (changed q) ∙ by_case (same_or_other index q)
       where
-        nothing_at : (o : Option (Vec (List Doc))) → is_some o ≡ false → found_as o k ≡ []
+        nothing_at : (o : Option (Vec ShardView)) → is_some o ≡ false → found_as o k ≡ empty_shard
         nothing_at None e = refl
         nothing_at (Some those) e = absurd (cc)
 
-        by_case : AreSameOrOther index q → found_as (cond (bytes_eq index q) (Some list) (get_by_text s.by_index q)) k ≡ writes_in s q k
+        by_case : AreSameOrOther index q → found_as (cond (bytes_eq index q) (Some list) (get_by_text s.by_index q)) k ≡ shard_in s q k
         by_case (inl (hit, back, same)) =
-            ap (λ b. found_as (cond b (Some list) (get_by_text s.by_index q)) k) hit ∙ ap (λ items. get_or items k []) blank ∙ nothing_in 0 s.count k
+            ap (λ b. found_as (cond b (Some list) (get_by_text s.by_index q)) k) hit ∙ ap (λ items. get_or items k empty_shard) blank ∙ nothing_in 0 s.count k
             ∙ sym (nothing_at (get_by_text s.by_index q) (ap (has_shards s) (sym same) ∙ none))
         by_case (inr (off, back)) = ap (λ b. found_as (cond b (Some list) (get_by_text s.by_index q)) k) off
 
@@ -103,12 +103,13 @@ module _ (s t : Shards) (index : List ℕ) (none : has_shards s index ≡ false)
       count = count ∙ has.count;
       some = has.some;
       low = has.low;
-      each = λ q k. subst (ShowsFrom (oldest q k) (writes_of corpus shards q k)) (sym (same_writes q k)) (has.each q k);
+      each = λ q k. subst (ShowsFrom (oldest q k) (writes_of corpus shards q k)) (sym (ap (λ (v : ShardView). v.writes) (same_shards q k))) (has.each q k);
+      own = λ q k. ap (λ (v : ShardView). v.oldest) (same_shards q k) ∙ has.own q k;
       as_many = λ q. as_many_at q (bytes_eq index q) refl;
       few = has.few;
       empty = empty ∙ has.empty;
     }
       where
         as_many_at : (q : List ℕ) (b : Bool) → bytes_eq index q ≡ b → IfSome (get_by_text t.by_index q) (λ those. length those.items ≡ shards)
-        as_many_at q true e = rw (changed q, e) (ap length blank ∙ length-map-range_with_len {X = List Doc} (λ _. []) 0 s.count ∙ has.count)
+        as_many_at q true e = rw (changed q, e) (ap length blank ∙ length-map-range_with_len {X = ShardView} (λ _. empty_shard) 0 s.count ∙ has.count)
         as_many_at q false e = rw (changed q, e) (has.as_many q)

@@ -18,8 +18,9 @@ use Rattle.task_ids.specs.declared.corpus.CorpusLine.{CorpusLine}
 use Rattle.task_ids.specs.declared.doc.Doc.{Doc}
 use Rattle.task_ids.specs.Placing.{shard_of}
 use Rattle.task_events.specs.Documents.{writes_of}
+use Rattle.shard_docs.specs.ShardView.{ShardView, empty_shard}
 use Rattle.shard_docs.proofs.Ids.{same_or_other}
-use Rattle.corpus_shards.specs.Placed.{has_index, shards_of, shards_among, AreShards}
+use Rattle.corpus_shards.specs.Placed.{has_index, shard_with, shards_of, shards_among, AreShards}
 use Rattle.corpus_shards.proofs.Appended.{writes_append}
 use Rattle.corpus_shards.proofs.Cases.{AreSameOrOther}
 
@@ -83,11 +84,19 @@ more_elsewhere : (lines : List CorpusLine) (line : CorpusLine) (shards : ℕ) (i
 more_elsewhere lines line shards index shard off = one_more lines line shards index shard ∙ rw off (append-nil (written_by lines shards index shard))
 
 abbrev pub Table : Type 0
-Table = HashMap (String Global) (Vec (List Doc)) (BuildHasherDefault FoldHasher)
+Table = HashMap (String Global) (Vec ShardView) (BuildHasherDefault FoldHasher)
+
+-- a shard to which the lines of it were written
+abbrev shard_by : List CorpusLine → ℕ → List ℕ → ℕ → ShardView
+shard_by lines shards index shard = shard_with (written_by lines shards index shard)
+
+-- a shard after one more write
+abbrev with_doc : ShardView → Doc → ShardView
+with_doc s doc = record s { writes = s.writes ++ doc ∷ [] }
 
 -- the shards of an index after one more document was written to one of them
-abbrev pub with_write : List (List Doc) → ℕ → Doc → List (List Doc)
-with_write list shard doc = set list shard (get_or list shard [] ++ doc ∷ [])
+abbrev pub with_write : List ShardView → ℕ → Doc → List ShardView
+with_write list shard doc = set list shard (with_doc (get_or list shard empty_shard) doc)
 
 module _ (lines : List CorpusLine) (line : CorpusLine) (shards : ℕ) (some : 0 < shards) where
   pub more_here : written_by (lines ++ line ∷ []) shards line.index (shard_of line.doc.id shards) ≡ written_by lines shards line.index (shard_of line.doc.id shards) ++ line.doc ∷ []
@@ -102,21 +111,21 @@ module _ (lines : List CorpusLine) (line : CorpusLine) (shards : ℕ) (some : 0 
   pub in_range : shard_of line.doc.id shards < shards
   in_range = omega arith
 
-  pub at_shard : get_or (shards_of lines shards line.index) (shard_of line.doc.id shards) [] ≡ written_by lines shards line.index (shard_of line.doc.id shards)
-  at_shard = get_or-map-range_with_len (written_by lines shards line.index) 0 shards (shard_of line.doc.id shards) _ [] in_range (omega arith)
+  pub at_shard : get_or (shards_of lines shards line.index) (shard_of line.doc.id shards) empty_shard ≡ shard_by lines shards line.index (shard_of line.doc.id shards)
+  at_shard = get_or-map-range_with_len (shard_by lines shards line.index) 0 shards (shard_of line.doc.id shards) _ empty_shard in_range (omega arith)
 
   more_shards : shards_of (lines ++ line ∷ []) shards line.index ≡ with_write (shards_of lines shards line.index) (shard_of line.doc.id shards) line.doc
   more_shards =
-      set_one (written_by lines shards line.index) (written_by (lines ++ line ∷ []) shards line.index) 0 shards (shard_of line.doc.id shards) _ in_range (omega arith)
-      (λ k other. more_elsewhere lines line shards line.index k (off (bytes_eq line.index line.index) _ other))
-      ∙ ap (set (shards_of lines shards line.index) (shard_of line.doc.id shards)) (more_here ∙ ap (λ docs. docs ++ line.doc ∷ []) (sym at_shard))
+      set_one (shard_by lines shards line.index) (shard_by (lines ++ line ∷ []) shards line.index) 0 shards (shard_of line.doc.id shards) _ in_range (omega arith)
+      (λ k other. ap shard_with (more_elsewhere lines line shards line.index k (off (bytes_eq line.index line.index) _ other)))
+      ∙ ap (set (shards_of lines shards line.index) (shard_of line.doc.id shards)) (ap shard_with more_here ∙ ap (λ s. with_doc s line.doc) (sym at_shard))
     where
       off : (b c : Bool) → c ≡ false → (b && c) ≡ false
       off true c e = e
       off false c e = refl
 
   same_shards : (index : List ℕ) → bytes_eq index line.index ≡ false → shards_of (lines ++ line ∷ []) shards index ≡ shards_of lines shards index
-  same_shards index other = same_from (written_by lines shards index) (written_by (lines ++ line ∷ []) shards index) 0 shards (λ k l. more_elsewhere lines line shards index k (rw other refl))
+  same_shards index other = same_from (shard_by lines shards index) (shard_by (lines ++ line ∷ []) shards index) 0 shards (λ k l. ap shard_with (more_elsewhere lines line shards index k (rw other refl)))
 
 index_more : (lines : List CorpusLine) (line : CorpusLine) (index : List ℕ) → has_index (lines ++ line ∷ []) index ≡ (has_index lines index || bytes_eq index line.index)
 index_more [] line index = or_nothing (bytes_eq index line.index)
@@ -130,7 +139,7 @@ index_more (l ∷ lines) line index = ap (λ b. bytes_eq index l.index || b) (in
     across true b c = refl
     across false b c = refl
 
-pub found_shards : (lines : List CorpusLine) (shards : ℕ) (table : Table) (index : List ℕ) (list : Vec (List Doc)) → AreShards lines shards table → get_by_text table index ≡ Some list
+pub found_shards : (lines : List CorpusLine) (shards : ℕ) (table : Table) (index : List ℕ) (list : Vec ShardView) → AreShards lines shards table → get_by_text table index ≡ Some list
     → list.items ≡ shards_of lines shards index
 found_shards lines shards table index list are found = by_case (has_index lines index) refl (rw found at (are.by_index index))
   where
@@ -146,10 +155,10 @@ none_found lines shards table index are found = by_case (has_index lines index) 
     by_case false e among = e
 
 -- an index without lines has empty shards
-pub empty_at : (lines : List CorpusLine) (shards : ℕ) (index : List ℕ) → has_index lines index ≡ false → map (λ _. []) (range_with_len 0 shards) ≡ shards_of lines shards index
-empty_at lines shards index none = sym (same_from (λ _. []) (written_by lines shards index) 0 shards (λ k l. unknown_index lines shards index k none))
+pub empty_at : (lines : List CorpusLine) (shards : ℕ) (index : List ℕ) → has_index lines index ≡ false → map (λ _. empty_shard) (range_with_len 0 shards) ≡ shards_of lines shards index
+empty_at lines shards index none = sym (same_from (λ _. empty_shard) (shard_by lines shards index) 0 shards (λ k l. ap shard_with (unknown_index lines shards index k none)))
 
-pub after_line : (lines : List CorpusLine) (line : CorpusLine) (shards : ℕ) (table after : Table) (list : Vec (List Doc)) → AreShards lines shards table
+pub after_line : (lines : List CorpusLine) (line : CorpusLine) (shards : ℕ) (table after : Table) (list : Vec ShardView) → AreShards lines shards table
     → ((index : List ℕ) → get_by_text after index ≡ cond (bytes_eq line.index index) (Some list) (get_by_text table index))
     → list.items ≡ with_write (shards_of lines shards line.index) (shard_of line.doc.id shards) line.doc
     → length (written_by lines shards line.index (shard_of line.doc.id shards) ++ line.doc ∷ []) < 2 ^ 32
@@ -196,20 +205,23 @@ after_line lines line shards table after list are changed wrote few = record {
         (subst (λ i. length (written_by (lines ++ line ∷ []) shards i (shard_of line.doc.id shards)) < 2 ^ 32) same
         (subst (λ docs. length docs < 2 ^ 32) (sym (more_here lines line shards are.some_shards)) few))
 
+same_view : (s t : ShardView) → s.writes ≡ t.writes → s.oldest ≡ t.oldest → s ≡ t
+same_view s t writes oldest = λ i. record { writes = writes i; oldest = oldest i }
+
 -- the same where the new list is said by what it was and by the shard that was written to
-pub after_write : (lines : List CorpusLine) (line : CorpusLine) (shards : ℕ) (table after : Table) (list : Vec (List Doc)) (before : List (List Doc)) (at : ℕ) (old new : List Doc) → AreShards lines shards table
+pub after_write : (lines : List CorpusLine) (line : CorpusLine) (shards : ℕ) (table after : Table) (list : Vec ShardView) (before : List ShardView) (at : ℕ) (old new : ShardView) → AreShards lines shards table
     → ((index : List ℕ) → get_by_text after index ≡ cond (bytes_eq line.index index) (Some list) (get_by_text table index))
-    → before ≡ shards_of lines shards line.index → at ≡ shard_of line.doc.id shards → old ≡ get_or before at old → new ≡ old ++ line.doc ∷ [] → length new < 2 ^ 32 → list.items ≡ set before at new
+    → before ≡ shards_of lines shards line.index → at ≡ shard_of line.doc.id shards → old ≡ get_or before at old → new.writes ≡ old.writes ++ line.doc ∷ [] → new.oldest ≡ old.oldest → length new.writes < 2 ^ 32 → list.items ≡ set before at new
     → AreShards (lines ++ line ∷ []) shards after
-after_write lines line shards table after list before at old new are changed b a o n few items =
-    let here : old ≡ written_by lines shards line.index (shard_of line.doc.id shards) =
+after_write lines line shards table after list before at old new are changed b a o n same few items =
+    let here : old ≡ shard_by lines shards line.index (shard_of line.doc.id shards) =
     o ∙ ap (λ xs. get_or xs at old) b ∙ ap (λ k. get_or (shards_of lines shards line.index) k old) a
-    ∙ get_or-map-range_with_len (written_by lines shards line.index) 0 shards (shard_of line.doc.id shards) _ old (in_range lines line shards are.some_shards) (omega arith) in
-    let newer : new ≡ written_by lines shards line.index (shard_of line.doc.id shards) ++ line.doc ∷ [] = n ∙ ap (λ docs. docs ++ line.doc ∷ []) here in
+    ∙ get_or-map-range_with_len (shard_by lines shards line.index) 0 shards (shard_of line.doc.id shards) _ old (in_range lines line shards are.some_shards) (omega arith) in
+    let newer : new ≡ with_doc (shard_by lines shards line.index (shard_of line.doc.id shards)) line.doc = same_view new (with_doc old line.doc) n same ∙ ap (λ s. with_doc s line.doc) here in
     after_line lines line shards table after list are changed
     (items ∙ ap (λ xs. set xs at new) b ∙ ap (λ k. set (shards_of lines shards line.index) k new) a
-    ∙ ap (set (shards_of lines shards line.index) (shard_of line.doc.id shards)) (newer ∙ ap (λ docs. docs ++ line.doc ∷ []) (sym (at_shard lines line shards are.some_shards))))
-    (subst (λ docs. length docs < 2 ^ 32) newer few)
+    ∙ ap (set (shards_of lines shards line.index) (shard_of line.doc.id shards)) (newer ∙ ap (λ s. with_doc s line.doc) (sym (at_shard lines line shards are.some_shards))))
+    (subst (λ (s : ShardView). length s.writes < 2 ^ 32) newer few)
 
 pub no_lines : (shards : ℕ) (table : Table) → 0 < shards → table.entries ≡ [] → AreShards [] shards table
 no_lines shards table some empty = record {
@@ -221,6 +233,6 @@ no_lines shards table some empty = record {
 pub as_many_shards : (lines : List CorpusLine) (shards : ℕ) (table : Table) → AreShards lines shards table → (index : List ℕ) → IfSome (get_by_text table index) (λ list. length list.items ≡ shards)
 as_many_shards lines shards table are index = by_case (get_by_text table index) refl
   where
-    by_case : (o : Option (Vec (List Doc))) → get_by_text table index ≡ o → IfSome o (λ list. length list.items ≡ shards)
+    by_case : (o : Option (Vec ShardView)) → get_by_text table index ≡ o → IfSome o (λ list. length list.items ≡ shards)
     by_case None e = tt
-    by_case (Some list) e = ap length (found_shards lines shards table index list are e) ∙ length-map-range_with_len (written_by lines shards index) 0 shards
+    by_case (Some list) e = ap length (found_shards lines shards table index list are e) ∙ length-map-range_with_len (shard_by lines shards index) 0 shards

@@ -1,3 +1,4 @@
 pub mod Lent
+pub mod Noted
 pub mod Placed
 pub mod Stored

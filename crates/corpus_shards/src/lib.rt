@@ -1,7 +1,7 @@
 //! The shards of indices: where each document lies that the corpus has or that was written since.
 #![tactic(auto)]
 
-ghost use Rattle.std.specs.Prelude.{◌≡◌, ℕ, List, ◌++◌, ◌∷◌, [], ◌<◌, ◌^◌, ◌||◌, ◌&&◌, ◌==◌, ◌≤◌, true, false, length, map, IfOk, IfSome, OnOk, OnErr, is_some};
+ghost use Rattle.std.specs.Prelude.{◌≡◌, ℕ, List, ◌++◌, ◌∷◌, [], ◌<◌, ◌^◌, ◌||◌, ◌-◌, ◌≤◌, true, false, length, map, take, slice_get, vec_len, Some, IfOk, IfSome, OnOk, OnErr, is_some};
 ghost use Rattle.std.specs.List.{list_any, range_with_len};
 ghost use Rattle.std.specs.HashMap.{get_by_text};
 ghost use Rattle.std.specs.Str.{bytes_eq};
@@ -10,8 +10,10 @@ ghost use Rattle.task_ids.specs.declared.corpus.Corpus.{Corpus};
 ghost use Rattle.task_ids.specs.declared.corpus.CorpusLine.{CorpusLine};
 ghost use Rattle.std.specs.Borrow.{sem};
 ghost use Rattle.corpus_shards.specs.Lent.{LendsShard};
+ghost use Rattle.shard_docs.specs.ShardView.{empty_shard, dead_rows, has_dead};
 ghost use Rattle.corpus_shards.specs.Placed.{AreShards, has_index};
-ghost use Rattle.corpus_shards.specs.Stored.{ShownFrom, raised, HasWritten, IsNotedAs, writes_in, has_shards, was_there, NoneMade};
+ghost use Rattle.corpus_shards.specs.Noted.{AreNoted, KeepsNotes};
+ghost use Rattle.corpus_shards.specs.Stored.{ShownFrom, HasWritten, IsNotedAs, AllNoted, is_among, is_noted, bound_of, Forgets, shard_in, has_shards, was_there, NoneMade};
 
 use shard_docs::{Shard, shard_of};
 use shared_value::Shared;
@@ -52,8 +54,9 @@ fn number_of(doc: &Doc, count: u32) -> usize
 
 /// Writes a copy of a document.
 fn write_copy(shard: &mut Shard, doc: &Doc) -> Result<(), AllocError>
-    ensures ok { OnOk result (shard.new ≡ shard.old ++ doc.now ∷ []) }
-    ensures few { OnOk result (length shard.new < 2 ^ 32) }
+    ensures ok { OnOk result (shard.new.writes ≡ shard.old.writes ++ doc.now ∷ []) }
+    ensures oldest { shard.new.oldest ≡ shard.old.oldest }
+    ensures few { OnOk result (length shard.new.writes < 2 ^ 32) }
 {
     shard.write(doc.copy()?)?;
     let _version = shard.version();
@@ -62,7 +65,7 @@ fn write_copy(shard: &mut Shard, doc: &Doc) -> Result<(), AllocError>
 
 /// Shards without a document.
 fn empty_shards(alloc: Global, count: u32) -> Result<Vec<Shard>, AllocError>
-    ensures { IfOk result (λ shards. shards.items ≡ map (λ _. []) (range_with_len 0 count)) }
+    ensures { IfOk result (λ shards. shards.items ≡ map (λ _. empty_shard) (range_with_len 0 count)) }
 {
     let mut shards = Vec::with_capacity(alloc, count as usize)?;
     for _ in 0..count {
@@ -93,11 +96,54 @@ fn place(
     Ok(())
 }
 
-/// Notes those of some shards in which rows have died.
+/// Notes a shard of an index, if a row has died in it that is not forgotten. It fails only for want of memory.
+fn note_if_dead(
+    alloc: Global,
+    stale: &mut Vec<Stale>,
+    index: &str,
+    number: u32,
+    shard: &Shard,
+) -> Result<(), AllocError>
+    ensures noted { OnOk result (has_dead shard.now ≡ true → is_among stale.new.items index.now number ≡ true) }
+    ensures still { KeepsNotes stale.old.items stale.new.items }
+{
+    if !shard.has_dead() {
+        return Ok(());
+    }
+    let name = Text::new(String::from_str(alloc, index)?);
+    let index = Shared::new(alloc, name)?;
+    stale.push(Stale {
+        index,
+        shard: number,
+    })?;
+    Ok(())
+}
+
+/// Notes those shards of an index in which rows have died. It fails only for want of memory.
+fn note_dead(
+    alloc: Global,
+    stale: &mut Vec<Stale>,
+    index: &str,
+    shards: &[Shard],
+) -> Result<(), AllocError>
+    ensures noted { OnOk result (AreNoted stale.new.items index.now shards.now) }
+    ensures still { KeepsNotes stale.old.items stale.new.items }
+{
+    let mut number = 0u32;
+    for shard in shards {
+        note_if_dead(alloc, stale, index, number, shard)?;
+        number = number.saturating_add(1);
+    }
+    Ok(())
+}
+
+/// Notes those of some shards in which rows have died. It fails only for want of memory.
 fn stale_among(
     alloc: Global,
     by_index: &HashMap<String, Vec<Shard>>,
-) -> Result<Vec<Stale>, AllocError> {
+) -> Result<Vec<Stale>, AllocError>
+    ensures { IfOk result (λ stale. (index : List ℕ) → IfSome (get_by_text by_index.now index) (λ shards. AreNoted stale.items index shards.items)) }
+{
     let mut stale = Vec::new(alloc);
     for (index, shards) in by_index.iter() {
         note_dead(alloc, &mut stale, index.as_str(), shards.as_slice())?;
@@ -105,26 +151,15 @@ fn stale_among(
     Ok(stale)
 }
 
-/// Notes those shards of an index in which rows have died.
-fn note_dead(
-    alloc: Global,
-    stale: &mut Vec<Stale>,
-    index: &str,
-    shards: &[Shard],
-) -> Result<(), AllocError> {
-    let mut number = 0u32;
-    for shard in shards {
-        if shard.has_dead() {
-            let name = Text::new(String::from_str(alloc, index)?);
-            let index = Shared::new(alloc, name)?;
-            stale.push(Stale {
-                index,
-                shard: number,
-            })?;
-        }
-        number = number.saturating_add(1);
+/// The version that is kept of a shard, or its newest one where none is.
+fn bound(kept: Option<u32>, shard: &Shard) -> u32
+    ensures { result ≡ bound_of kept shard.now }
+{
+    let newest = shard.version();
+    match kept {
+        Some(version) => version.min(newest),
+        None => newest,
     }
-    Ok(())
 }
 
 impl Shards {
@@ -136,6 +171,7 @@ impl Shards {
         ensures from_start { IfOk result (λ shards. (index : List ℕ)
             → was_there shards index ≡ has_index corpus.now.lines index) }
         ensures none_made { IfOk result (λ shards. NoneMade shards) }
+        ensures noted { IfOk result (λ shards. AllNoted shards) }
     {
         let mut by_index = HashMap::new(alloc);
         for line in corpus.lines.as_slice() {
@@ -160,8 +196,8 @@ impl Shards {
 
     /// The shard of an index, from 0: the documents of the index that it has. It is empty where there is no such.
     pub fn get(&self, index: &str, shard: u32) -> &Shard
-        requires { self.now.empty ≡ [] }
-        ensures { result.now ≡ writes_in self.now index.now shard }
+        requires { self.now.empty ≡ empty_shard }
+        ensures { result.now ≡ shard_in self.now index.now shard }
     {
         let Some(shards) = self.by_index.get(index) else {
             return &self.empty;
@@ -177,7 +213,7 @@ impl Shards {
         requires { IfSome (get_by_text self.old.by_index index.now) (λ shards. shard < length shards.items) }
         ensures* lent { sem 𝓛 (LendsShard self.entry index.now shard result) }
         ensures there { is_some result ≡ has_shards self.old index.now }
-        ensures writes { IfSome result (λ found. found.now ≡ writes_in self.old index.now shard) }
+        ensures shard { IfSome result (λ found. found.now ≡ shard_in self.old index.now shard) }
     {
         let shards = self.by_index.get_mut(index)?;
         Some(&mut shards[shard as usize])
@@ -185,16 +221,13 @@ impl Shards {
 
     /// Forgets the rows of a shard that are dead at a version, and tells how many. There is nothing to forget where there is no
     /// such shard.
-    pub fn purge(&mut self, index: &str, shard: u32, oldest: u32) -> u32
-        requires { oldest ≤ length (writes_in self.old index.now shard) }
-        ensures written { (corpus : Corpus) (shards : ℕ) (old : ShownFrom) → HasWritten corpus shards old self.old
-            → HasWritten corpus shards (raised index.now shard oldest old) self.new }
-        ensures elsewhere { (q : List ℕ) (k : ℕ) → (bytes_eq index.now q && (shard == k)) ≡ false
-            → writes_in self.new q k ≡ writes_in self.old q k }
-        ensures from_start { (q : List ℕ) → was_there self.new q ≡ was_there self.old q }
-        ensures made { self.new.made ≡ self.old.made }
-        ensures count { self.new.count ≡ self.old.count }
+    fn purge(&mut self, index: &str, shard: u32, oldest: u32) -> u32
+        requires { oldest ≤ length (shard_in self.old index.now shard).writes }
+        ensures forgets { Forgets index.now shard oldest self.old self.new }
+        ensures count { let s = shard_in self.old index.now shard in
+            result ≡ dead_rows oldest s.writes - dead_rows s.oldest s.writes }
         ensures stale { self.new.stale ≡ self.old.stale }
+        ensures empty { self.new.empty ≡ self.old.empty }
     {
         let Some(shards) = self.by_index.get_mut(index) else {
             return 0;
@@ -206,34 +239,32 @@ impl Shards {
         shards[place].purge(oldest)
     }
 
-    /// Whether a row of a shard has died that is not forgotten.
-    pub fn has_dead(&self, index: &str, shard: u32) -> bool {
-        let Some(shards) = self.by_index.get(index) else {
-            return false;
-        };
-        match shards.get(shard as usize) {
-            Some(shard) => shard.has_dead(),
-            None => false,
+    /// The shard at a place of those that are noted forgets the rows that are dead at the version that is kept of it, or at its
+    /// newest one where none is. It is noted no more where no dead row is left. It takes no memory.
+    pub fn forget_noted(&mut self, place: usize, kept: Option<u32>)
+        requires there { place < vec_len self.old.stale }
+        requires empty { self.old.empty ≡ empty_shard }
+        ensures forgets { (note : Stale) → slice_get self.old.stale.items place ≡ Some note
+            → Forgets note.index note.shard (bound_of kept (shard_in self.old note.index note.shard)) self.old self.new }
+        ensures noted { AllNoted self.old → AllNoted self.new }
+        ensures before { take place self.new.stale.items ≡ take place self.old.stale.items }
+    {
+        let stale = self.stale.swap_remove(place);
+        let index = stale.index.get().as_str();
+        let oldest = bound(kept, self.get(index, stale.shard));
+        self.purge(index, stale.shard, oldest);
+        if self.get(index, stale.shard).has_dead() {
+            self.stale.push_reserved(stale);
         }
     }
 
     /// Notes a shard in which rows have died. It fails only for want of memory, and then nothing is noted.
     pub fn note_stale(&mut self, index: Shared<Text>, shard: u32) -> Result<(), AllocError>
-        ensures ok { OnOk result (self.new.stale.items ≡ self.old.stale.items ++ record { index = index; shard = shard } ∷ []) }
+        ensures ok { OnOk result (is_noted self.new index shard ≡ true) }
         ensures noted { IsNotedAs self.old self.new }
     {
         self.stale.push(Stale { index, shard })?;
         Ok(())
-    }
-
-    /// A shard that was noted is not any more: that at a place of the notes. There is nothing to do where there is no such place.
-    pub fn drop_stale(&mut self, place: usize)
-        ensures fewer { length self.new.stale.items ≤ length self.old.stale.items }
-        ensures noted { IsNotedAs self.old self.new }
-    {
-        if place < self.stale.len() {
-            self.stale.swap_remove(place);
-        }
     }
 
     /// Gives an index that has none its shards, without a document. It fails only for want of memory.
@@ -242,7 +273,8 @@ impl Shards {
         ensures added { OnOk result ((q : List ℕ) → has_shards self.new q
             ≡ (bytes_eq index.now q || has_shards self.old q)) }
         ensures err { OnErr result ((q : List ℕ) → has_shards self.new q ≡ has_shards self.old q) }
-        ensures same { (q : List ℕ) (shard : ℕ) → writes_in self.new q shard ≡ writes_in self.old q shard }
+        ensures same { (q : List ℕ) (shard : ℕ) → shard_in self.new q shard ≡ shard_in self.old q shard }
+        ensures stale { self.new.stale ≡ self.old.stale }
         ensures made { self.new.made ≡ self.old.made }
         ensures written { (corpus : Corpus) (shards : ℕ) (oldest : ShownFrom) → HasWritten corpus shards oldest self.old
             → HasWritten corpus shards oldest self.new }
@@ -259,7 +291,8 @@ impl Shards {
         requires none_made { NoneMade self.old }
         ensures known { OnOk result ((q : List ℕ) → was_there self.new q ≡ (bytes_eq index.now q || was_there self.old q)) }
         ensures err { OnErr result ((q : List ℕ) → was_there self.new q ≡ was_there self.old q) }
-        ensures same { (q : List ℕ) (shard : ℕ) → writes_in self.new q shard ≡ writes_in self.old q shard }
+        ensures same { (q : List ℕ) (shard : ℕ) → shard_in self.new q shard ≡ shard_in self.old q shard }
+        ensures stale { self.new.stale ≡ self.old.stale }
         ensures none_made { NoneMade self.new }
         ensures written { (corpus : Corpus) (shards : ℕ) (oldest : ShownFrom) → HasWritten corpus shards oldest self.old
             → HasWritten corpus shards oldest self.new }
@@ -275,6 +308,8 @@ impl Shards {
     pub fn know_all(&mut self, alloc: Global, indices: &[Text]) -> Result<(), AllocError>
         requires none_made { NoneMade self.old }
         ensures known { OnOk result ((q : List ℕ) → was_there self.new q ≡ (was_there self.old q || list_any (bytes_eq q) indices.now)) }
+        ensures same { (q : List ℕ) (shard : ℕ) → shard_in self.new q shard ≡ shard_in self.old q shard }
+        ensures stale { self.new.stale ≡ self.old.stale }
         ensures written { (corpus : Corpus) (shards : ℕ) (oldest : ShownFrom) → HasWritten corpus shards oldest self.old
             → HasWritten corpus shards oldest self.new }
     {
@@ -290,7 +325,8 @@ impl Shards {
         ensures made { OnOk result ((q : List ℕ) → has_shards self.new q
             ≡ (bytes_eq index.now q || has_shards self.old q)) }
         ensures err { OnErr result ((q : List ℕ) → has_shards self.new q ≡ has_shards self.old q) }
-        ensures same { (q : List ℕ) (shard : ℕ) → writes_in self.new q shard ≡ writes_in self.old q shard }
+        ensures same { (q : List ℕ) (shard : ℕ) → shard_in self.new q shard ≡ shard_in self.old q shard }
+        ensures stale { self.new.stale ≡ self.old.stale }
         ensures from_start { (q : List ℕ) → was_there self.new q ≡ was_there self.old q }
         ensures written { (corpus : Corpus) (shards : ℕ) (oldest : ShownFrom) → HasWritten corpus shards oldest self.old
             → HasWritten corpus shards oldest self.new }

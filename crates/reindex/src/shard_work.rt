@@ -86,11 +86,12 @@ impl BulkShardWork {
     /// the first may be lost; the counts are as before.
     pub fn turn(&mut self, shard: &mut Shard) -> Result<Vec<WriteNote>, AllocError>
         requires { is_written self.old ≡ false }
-        ensures written { OnOk result (shard.new ≡ shard.old ++ next_docs self.old) }
+        ensures written { OnOk result (shard.new.writes ≡ shard.old.writes ++ next_docs self.old) }
+        ensures oldest { shard.new.oldest ≡ shard.old.oldest }
         ensures notes { IfOk result (λ notes. notes.items
-            ≡ notes_of self.old.index self.old.shard shard.old (next_docs self.old)) }
-        ensures ok { OnOk result (self.new ≡ after_turn self.old shard.old) }
-        ensures err { OnErr result (StopsShort self.old self.new shard.old shard.new) }
+            ≡ notes_of self.old.index self.old.shard shard.old.writes (next_docs self.old)) }
+        ensures ok { OnOk result (self.new ≡ after_turn self.old shard.old.writes) }
+        ensures err { OnErr result (StopsShort self.old self.new shard.old.writes shard.new.writes) }
     {
         let notes = write_next(self.alloc, &self.index, self.shard, shard, &mut self.left)?;
         self.created += number_created(notes.as_slice()) as u64;

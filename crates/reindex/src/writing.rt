@@ -23,9 +23,10 @@ fn write_one(
     shard: &mut Shard,
     doc: Doc,
 ) -> Result<WriteNote, AllocError>
-    ensures note { IfOk result (λ note. note ≡ note_of index.now number shard.old doc) }
-    ensures ok { OnOk result (shard.new ≡ shard.old ++ doc ∷ []) }
-    ensures err { OnErr result (shard.new ≡ shard.old) }
+    ensures note { IfOk result (λ note. note ≡ note_of index.now number shard.old.writes doc) }
+    ensures ok { OnOk result (shard.new.writes ≡ shard.old.writes ++ doc ∷ []) }
+    ensures oldest { shard.new.oldest ≡ shard.old.oldest }
+    ensures err { OnErr result (shard.new.writes ≡ shard.old.writes) }
 {
     let index = index.copy()?;
     let id = doc.id.copy()?;
@@ -49,11 +50,12 @@ pub(crate) fn write_next(
     shard: &mut Shard,
     left: &mut VecDeque<Doc>,
 ) -> Result<Vec<WriteNote>, AllocError>
-    ensures written { OnOk result (shard.new ≡ shard.old ++ take rows_per_turn left.old.items) }
+    ensures written { OnOk result (shard.new.writes ≡ shard.old.writes ++ take rows_per_turn left.old.items) }
+    ensures oldest { shard.new.oldest ≡ shard.old.oldest }
     ensures left { OnOk result (left.new.items ≡ drop rows_per_turn left.old.items) }
     ensures notes { IfOk result (λ notes. notes.items
-        ≡ notes_of index.now number shard.old (take rows_per_turn left.old.items)) }
-    ensures err { OnErr result (BreaksOff left.old.items left.new.items shard.old shard.new) }
+        ≡ notes_of index.now number shard.old.writes (take rows_per_turn left.old.items)) }
+    ensures err { OnErr result (BreaksOff left.old.items left.new.items shard.old.writes shard.new.writes) }
 {
     let much = left.len().min(DOCS_PER_TURN);
     let mut notes = Vec::with_capacity(alloc, much)?;

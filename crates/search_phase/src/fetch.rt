@@ -52,7 +52,7 @@ impl Model for ShardFetch {
 /// Adds the document of a place, where it has a row alive at the version.
 fn add_hit(hits: &mut Vec<Hit>, ask: &FetchAsk, shard: &Shard, place: u32) -> Result<(), AllocError>
     ensures { OnOk result (hits.new.items
-        ≡ hits.old.items ++ filter_map (hit_at ask.now.index ask.now.version shard.now) (place ∷ [])) }
+        ≡ hits.old.items ++ filter_map (hit_at ask.now.index ask.now.version shard.now.writes) (place ∷ [])) }
 {
     if let Some(doc) = shard.row(ask.version, place) {
         hits.push(Hit {
@@ -75,7 +75,7 @@ fn hits_at(
     requires ordered { start ≤ end }
     requires within { end ≤ length ask.now.places }
     ensures { IfOk result (λ hits. hits.items
-        ≡ filter_map (hit_at ask.now.index ask.now.version shard.now) (slice_range ask.now.places start end)) }
+        ≡ filter_map (hit_at ask.now.index ask.now.version shard.now.writes) (slice_range ask.now.places start end)) }
 {
     let places = &ask.places.as_slice()[start..end];
     let mut hits = Vec::new(alloc);
@@ -114,12 +114,12 @@ impl ShardFetch {
         requires { has_fetched self.old ≡ false }
         ensures turned { OnOk result (HasTurned self.old self.new) }
         ensures ready { IfOk result (λ answer. has_all answer ≡ has_fetched self.new) }
-        ensures ok { IsFetched self.old shard.now
-            → OnOk result (self.new ≡ fetched_in self.old.ask (self.old.turns + 1) shard.now) }
-        ensures goes_on { IsFetched self.old shard.now → OnOk result (IsFetched self.new shard.now) }
-        ensures stays { IsFetched self.old shard.now → OnOk result (StaysFetched self.new shard.now) }
-        ensures answer { IsFetched self.old shard.now
-            → IfOk result (λ answer. answer ≡ fetch_answer self.new shard.now) }
+        ensures ok { IsFetched self.old shard.now.writes
+            → OnOk result (self.new ≡ fetched_in self.old.ask (self.old.turns + 1) shard.now.writes) }
+        ensures goes_on { IsFetched self.old shard.now.writes → OnOk result (IsFetched self.new shard.now.writes) }
+        ensures stays { IsFetched self.old shard.now.writes → OnOk result (StaysFetched self.new shard.now.writes) }
+        ensures answer { IsFetched self.old shard.now.writes
+            → IfOk result (λ answer. answer ≡ fetch_answer self.new shard.now.writes) }
         ensures err { OnErr result (self.new ≡ self.old) }
     {
         let ask = self.ask.get();

@@ -122,15 +122,15 @@ impl ShardQuery {
     ///
     /// What it finds is what is asked for where all turns are over one shard, which may grow between them.
     pub fn turn(&mut self, shard: &Shard) -> Result<TurnAnswer, AllocError>
-        requires { has_ended self.old shard.now ≡ false }
-        ensures turned { OnOk result (HasTurned self.old shard.now self.new) }
-        ensures ready { IfOk result (λ answer. is_ready answer ≡ has_none_left self.new shard.now) }
-        ensures ok { IsQueried self.old shard.now
-            → OnOk result (self.new ≡ queried self.old.ask (version_at self.old shard.now) (self.old.turns + 1) shard.now) }
-        ensures goes_on { IsQueried self.old shard.now → OnOk result (IsQueried self.new shard.now) }
-        ensures stays { IsQueried self.old shard.now → OnOk result (StaysQueried self.new shard.now) }
-        ensures answer { IsQueried self.old shard.now
-            → IfOk result (λ answer. answer ≡ query_answer self.new shard.now) }
+        requires { has_ended self.old shard.now.writes ≡ false }
+        ensures turned { OnOk result (HasTurned self.old shard.now.writes self.new) }
+        ensures ready { IfOk result (λ answer. is_ready answer ≡ has_none_left self.new shard.now.writes) }
+        ensures ok { IsQueried self.old shard.now.writes
+            → OnOk result (self.new ≡ queried self.old.ask (version_at self.old shard.now.writes) (self.old.turns + 1) shard.now.writes) }
+        ensures goes_on { IsQueried self.old shard.now.writes → OnOk result (IsQueried self.new shard.now.writes) }
+        ensures stays { IsQueried self.old shard.now.writes → OnOk result (StaysQueried self.new shard.now.writes) }
+        ensures answer { IsQueried self.old shard.now.writes
+            → IfOk result (λ answer. answer ≡ query_answer self.new shard.now.writes) }
         ensures err { OnErr result (self.new ≡ self.old) }
     {
         let version = self.version.unwrap_or(shard.version());
@@ -142,10 +142,10 @@ impl ShardQuery {
 
     /// Looks at the rows of its next turn, and tells whether rows are left after them.
     fn look_on(&mut self, shard: &Shard, version: u32) -> Result<bool, AllocError>
-        requires reads { version ≡ version_at self.old shard.now }
+        requires reads { version ≡ version_at self.old shard.now.writes }
         requires few { self.old.turns * 1024 ≤ version }
-        ensures ok { OnOk result (self.new ≡ with_rows self.old version (next_rows self.old version shard.now)) }
-        ensures more { IfOk result (λ more. IsTrue more ↔ (1024 < length (rows_left self.old version shard.now))) }
+        ensures ok { OnOk result (self.new ≡ with_rows self.old version (next_rows self.old version shard.now.writes)) }
+        ensures more { IfOk result (λ more. IsTrue more ↔ (1024 < length (rows_left self.old version shard.now.writes))) }
         ensures err { OnErr result (self.new ≡ self.old) }
     {
         if version as usize <= SMALL_ROOM {
@@ -162,11 +162,11 @@ impl ShardQuery {
         version: u32,
         places: &mut [u32],
     ) -> Result<bool, AllocError>
-        requires reads { version ≡ version_at self.old shard.now }
+        requires reads { version ≡ version_at self.old shard.now.writes }
         requires few { self.old.turns * 1024 ≤ version }
         requires room { (1024 < length places.old) ⊎ (version ≤ length places.old) }
-        ensures ok { OnOk result (self.new ≡ with_rows self.old version (next_rows self.old version shard.now)) }
-        ensures more { IfOk result (λ more. IsTrue more ↔ (1024 < length (rows_left self.old version shard.now))) }
+        ensures ok { OnOk result (self.new ≡ with_rows self.old version (next_rows self.old version shard.now.writes)) }
+        ensures more { IfOk result (λ more. IsTrue more ↔ (1024 < length (rows_left self.old version shard.now.writes))) }
         ensures err { OnErr result (self.new ≡ self.old) }
     {
         let pick = self.ask.get().body.get().query.pick();
@@ -178,10 +178,10 @@ impl ShardQuery {
 
     /// Looks at the rows of its next turn, which have these places.
     fn look(&mut self, shard: &Shard, version: u32, places: &[u32]) -> Result<(), AllocError>
-        requires next { places.now ≡ map (λ row. row.0) (next_rows self.old version shard.now) }
-        requires reads { version ≡ version_at self.old shard.now }
+        requires next { places.now ≡ map (λ row. row.0) (next_rows self.old version shard.now.writes) }
+        requires reads { version ≡ version_at self.old shard.now.writes }
         requires few { self.old.turns * 1024 ≤ version }
-        ensures ok { OnOk result (self.new ≡ with_rows self.old version (next_rows self.old version shard.now)) }
+        ensures ok { OnOk result (self.new ≡ with_rows self.old version (next_rows self.old version shard.now.writes)) }
         ensures err { OnErr result (self.new ≡ self.old) }
     {
         let found = self.find(shard, version, places)?;
@@ -204,12 +204,12 @@ impl ShardQuery {
 
     /// What the rows of its next turn come to.
     fn find(&self, shard: &Shard, version: u32, places: &[u32]) -> Result<Matches, AllocError>
-        requires { places.now ≡ map (λ row. row.0) (next_rows self.now version shard.now) }
+        requires { places.now ≡ map (λ row. row.0) (next_rows self.now version shard.now.writes) }
         ensures ordered { IfOk result (λ found. IsHeap hit_cmp (heap_items found.first)) }
         ensures count { IfOk result (λ found.
-            found.count ≡ length (keys_of_rows self.now.ask (next_rows self.now version shard.now))) }
+            found.count ≡ length (keys_of_rows self.now.ask (next_rows self.now version shard.now.writes))) }
         ensures first { IfOk result (λ found. in_hit_order (heap_items found.first)
-            ≡ first_keys self.now.ask (keys_of_rows self.now.ask (next_rows self.now version shard.now))) }
+            ≡ first_keys self.now.ask (keys_of_rows self.now.ask (next_rows self.now version shard.now.writes))) }
     {
         let most = self.most();
         let all = counts_all(self.ask.get());
@@ -233,7 +233,7 @@ impl ShardQuery {
 
     /// The numbers that rows have at the first field of the sort, as far as they are known.
     fn numbers<'s>(&self, shard: &'s Shard, version: u32) -> &'s [NumberAt]
-        ensures { IfSome (slice_get self.now.ask.body.sort 0) (λ by. AllByRecursion (IsNumberAt by.field version shard.now) result.now) }
+        ensures { IfSome (slice_get self.now.ask.body.sort 0) (λ by. AllByRecursion (IsNumberAt by.field version shard.now.writes) result.now) }
     {
         match self.ask.get().body.get().sort.as_slice().first() {
             Some(by) => shard.numbers(version, by.field.as_str()),

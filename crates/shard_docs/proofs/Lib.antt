@@ -4,6 +4,8 @@ pub mod Adding
 pub mod AtKey
 pub mod Chosen
 pub mod CorpusLemmas
+pub mod DeadRows
+pub mod DeathQueue
 pub mod Exact
 pub mod FloatLemmas
 pub mod Forgetting

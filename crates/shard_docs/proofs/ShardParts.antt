@@ -1,8 +1,9 @@
 -- The tables of a shard while it is written to, and after rows were forgotten.
-use Rattle.std.proofs.Common.{◌≡◌, ℕ, zero, suc, ◌<◌, ◌≤◌, ◌^◌, Bool, true, false, not, ◌&&◌, ◌||◌, List, [], ◌∷◌, ◌++◌, length, set, Some, None, refl, sym, ap, subst, ◌∙◌, arith, true≢false, length-set}
+use Rattle.std.proofs.Common.{◌≡◌, ℕ, zero, suc, ◌<◌, ◌≤◌, ◌^◌, Bool, true, false, not, ◌&&◌, ◌||◌, List, [], ◌∷◌, ◌++◌, length, set, filter, Some, None, refl, sym, ap, subst, ◌∙◌, arith, true≢false, length-set}
 use Rattle.std.proofs.lemmas.Bool.{le-ltb, lt-ltb}
 use Rattle.std.proofs.lemmas.List.{length-map, length_push}
 use Rattle.std.specs.List.{slice_get}
+use Rattle.std.specs.Prelude.{nat_lt}
 use Rattle.std.specs.Option.{option_map_or}
 use Rattle.task_ids.specs.declared.doc.Doc.{Doc}
 use Rattle.query_match.specs.declared.scalar.Scalar.{Scalar}
@@ -12,14 +13,22 @@ use Rattle.shard_docs.specs.declared.numbers.Numbers.{Numbers}
 use Rattle.shard_docs.specs.Numbers.{has_number, AreNumbersOf}
 use Rattle.shard_docs.specs.Places.{MayAdd, KeepsUnless, has_value_at, IsIndexOf, IsExactFor}
 use Rattle.shard_docs.specs.SeenRows.{SeenRow, SeenRows, new_row, forgotten}
+use Rattle.shard_docs.specs.ShardView.{ShardView}
 use Rattle.shard_docs.specs.Shown.{ShowsFrom}
-use Rattle.shard_docs.specs.Tables.{IsTables}
+use Rattle.shard_docs.specs.Tables.{last_place, IsTables, AreDeaths}
+use Rattle.shard_docs.proofs.DeathQueue.{none_kept, none_more, one_more, kept_above}
 use Rattle.shard_docs.proofs.Exact.{MayHave, still_exact, exact_still}
 use Rattle.shard_docs.proofs.Forgetting.{Dies, as_many, still_die, same_rows, same_last, stays, died_early, next, now, later_die}
 use Rattle.shard_docs.proofs.Indexed.{At, HasAll, with_row, indexed, still_indexed, index_of_fewer, alike_set}
 use Rattle.shard_docs.proofs.KeptForgotten.{alive_then}
 use Rattle.shard_docs.proofs.Numbered.{numbers_still}
 use Rattle.shard_docs.proofs.TableLemmas.{Living, docs_of}
+
+pub same_writes : {s t : ShardView} → s ≡ t → s.writes ≡ t.writes
+same_writes e = ap (λ (v : ShardView). v.writes) e
+
+pub same_oldest : {s t : ShardView} → s ≡ t → s.oldest ≡ t.oldest
+same_oldest e = ap (λ (v : ShardView). v.oldest) e
 
 -- what a shard keeps of its rows
 abbrev pub Holds : SeenRows → Living → Index → Bool → Numbers → Type 0
@@ -36,6 +45,13 @@ rows_with s rows oldest = record { rows = rows; oldest = oldest; room = s.room }
 pub alike : (s t : SeenRows) (living : Living) (index : Index) (spoiled : Bool) (numbers : Numbers) → t.rows ≡ s.rows → t.oldest ≡ s.oldest → Holds s living index spoiled numbers → Holds t living index spoiled numbers
 alike s t living index spoiled numbers rows oldest holds =
     subst (λ o. Holds (rows_with t t.rows o) living index spoiled numbers) (sym oldest) (subst (λ l. Holds (rows_with t l s.oldest) living index spoiled numbers) (sym rows) holds)
+
+pub alike_deaths : (s t : SeenRows) (old new : List ℕ) → t.rows ≡ s.rows → t.oldest ≡ s.oldest → new ≡ old → AreDeaths s.oldest (docs_of s.rows) old → AreDeaths t.oldest (docs_of t.rows) new
+alike_deaths s t old new rows oldest same are =
+    subst (λ o. AreDeaths o (docs_of t.rows) new) (sym oldest) (subst (λ l. AreDeaths s.oldest (docs_of l) new) (sym rows) (subst (AreDeaths s.oldest (docs_of s.rows)) (sym same) are))
+
+pub no_deaths : (s : SeenRows) (deaths : List ℕ) → s.rows ≡ [] → s.oldest ≡ 0 → deaths ≡ [] → AreDeaths s.oldest (docs_of s.rows) deaths
+no_deaths s deaths rows oldest none = subst (λ o. AreDeaths o (docs_of s.rows) deaths) (sym oldest) (subst (λ l. AreDeaths 0 (docs_of l) deaths) (sym rows) (subst (AreDeaths 0 []) (sym none) none_kept))
 
 -- ---- forgetting
 
@@ -106,6 +122,13 @@ shows s t oldest rows dies =
       rows = λ version from. same_rows oldest version s.rows dies from;
     })
 
+-- the deaths that are kept of the rows that are left
+pub deaths_left : (s t : SeenRows) (oldest : ℕ) (deaths left : List ℕ) → t.rows ≡ forgotten oldest 0 s.rows → t.oldest ≡ oldest → s.oldest ≤ oldest → Dies 0 s.rows → left ≡ filter (λ died. nat_lt oldest died) deaths
+    → AreDeaths s.oldest (docs_of s.rows) deaths → AreDeaths t.oldest (docs_of t.rows) left
+deaths_left s t oldest deaths left rows is above dies kept are =
+    subst (λ o. AreDeaths o (docs_of t.rows) left) (sym is)
+    (subst (AreDeaths oldest (docs_of t.rows)) (sym kept) (kept_above s.oldest (docs_of s.rows) deaths are oldest (docs_of t.rows) above (shows s t oldest rows dies)))
+
 -- ---- one more write
 
 -- the places of it may be in the index already
@@ -121,6 +144,24 @@ written s doc room place old new spoiled at may added kept places exact =
 
 pub with_next : (s : SeenRows) (doc : Doc) → s.oldest ≤ length s.rows → s.oldest ≤ length (s.rows ++ new_row doc ∷ [])
 with_next s doc low = omega (arith, length_push s.rows (new_row doc))
+
+-- a row that has no death is one more
+pub written_deaths : (s t : SeenRows) (doc : Doc) (deaths same : List ℕ) → s.oldest ≤ length s.rows → last_place doc.id (docs_of s.rows) ≡ None → docs_of t.rows ≡ docs_of s.rows ++ doc ∷ [] → t.oldest ≡ s.oldest → same ≡ deaths
+    → AreDeaths s.oldest (docs_of s.rows) deaths → AreDeaths t.oldest (docs_of t.rows) same
+written_deaths s t doc deaths same low none docs oldest is are =
+    let within : s.oldest ≤ length (docs_of s.rows) = let many = length-map s.rows (λ (r : SeenRow). r.doc) in omega arith in
+    subst (λ o. AreDeaths o (docs_of t.rows) same) (sym oldest)
+    (subst (λ l. AreDeaths s.oldest l same) (sym docs) (subst (AreDeaths s.oldest (docs_of s.rows ++ doc ∷ [])) (sym is) (none_more s.oldest (docs_of s.rows) deaths are doc within none)))
+
+-- or takes the place of one, whose death is kept then
+pub replaced_deaths : (s t : SeenRows) (doc : Doc) (place version : ℕ) (deaths more : List ℕ) → s.oldest ≤ length s.rows → last_place doc.id (docs_of s.rows) ≡ Some place → version ≡ suc (length s.rows)
+    → docs_of t.rows ≡ docs_of s.rows ++ doc ∷ [] → t.oldest ≡ s.oldest → more ≡ deaths ++ version ∷ [] → AreDeaths s.oldest (docs_of s.rows) deaths → AreDeaths t.oldest (docs_of t.rows) more
+replaced_deaths s t doc place version deaths more low some at docs oldest is are =
+    let many = length-map s.rows (λ (r : SeenRow). r.doc) in
+    let within : s.oldest ≤ length (docs_of s.rows) = omega arith in
+    subst (λ o. AreDeaths o (docs_of t.rows) more) (sym oldest)
+    (subst (λ l. AreDeaths s.oldest l more) (sym docs)
+    (subst (AreDeaths s.oldest (docs_of s.rows ++ doc ∷ [])) (sym is) (one_more s.oldest (docs_of s.rows) deaths are doc within place version some (omega (arith, at, many)))))
 
 -- and another dies, at a version that can be read
 pub replaced : (s t : SeenRows) (i version : ℕ) (row : SeenRow) (index : Index) (spoiled : Bool) (numbers : Numbers) → slice_get s.rows i ≡ Some row → row.died ≡ None → s.oldest < version

@@ -112,7 +112,7 @@ died_at-more id place next (first ∷ later) doc e =
     at_once false died last = refl
 
 -- the row of a place dies, if there is one
-abbrev kill : Option ℕ → ℕ → List (Option ℕ) → List (Option ℕ)
+abbrev pub kill : Option ℕ → ℕ → List (Option ℕ) → List (Option ℕ)
 kill None version ds = ds
 kill (Some place) version ds = set ds place (Some version)
 
@@ -141,7 +141,7 @@ first_dies (Some d) (Some p) true version h = refl
 first_dies (Some d) (Some p) false version h = refl
 
 -- one more write kills the last row of its id, and is alive itself
-deaths-more : (place next : ℕ) (writes : List Doc) (doc : Doc) → next ≡ place + length writes
+pub deaths-more : (place next : ℕ) (writes : List Doc) (doc : Doc) → next ≡ place + length writes
     → deaths place (writes ++ doc ∷ []) ≡ kill (last_place doc.id writes) (suc next) (deaths place writes) ++ None ∷ []
 deaths-more place next [] doc e = refl
 deaths-more place next (first ∷ later) doc e =
@@ -189,7 +189,7 @@ found_place rows living doc key old found tables named is_old is_found =
     sym (ap (λ id. last_place id (docs_of rows)) named) ∙ sym (tables.places (string_bytes key)) ∙ sym is_old ∙ is_found
 
 -- the last row of an id is alive
-last_alive : (id : List ℕ) (first place : ℕ) (writes : List Doc) → last_place id writes ≡ Some place → slice_get (deaths first writes) place ≡ Some None
+pub last_alive : (id : List ℕ) (first place : ℕ) (writes : List Doc) → last_place id writes ≡ Some place → slice_get (deaths first writes) place ≡ Some None
 last_alive id first place [] e = cc
 last_alive id first place (doc ∷ later) e = by (last_place id later) refl place refl (λ p is. last_alive id (suc first) p later is)
   where

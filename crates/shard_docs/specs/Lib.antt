@@ -11,6 +11,7 @@ pub mod Numbers
 pub mod Places
 pub mod Seen
 pub mod SeenRows
+pub mod ShardView
 pub mod Shown
 pub mod Tables
 pub mod Written

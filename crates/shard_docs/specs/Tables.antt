@@ -1,5 +1,7 @@
 -- What the tables of a shard say of its writes.
-use Rattle.std.specs.Prelude.{◌≡◌, ℕ, suc, ◌<◌, ◌^◌, List, [], ◌∷◌, length, map, Option, Some, None, if◌then◌else◌, String}
+use Rattle.std.specs.Prelude.{◌≡◌, ℕ, suc, ◌+◌, ◌<◌, ◌≤◌, ◌^◌, nat_le, List, [], ◌∷◌, length, map, count_by, Option, Some, None, if◌then◌else◌, String}
+use Rattle.std.specs.List.{All}
+use Rattle.std.specs.List.Sorted.{IsNonDecreasing}
 use Rattle.std.specs.Str.{bytes_eq}
 use Rattle.std.specs.HashMap.{HashMap, get_by_text}
 use Rattle.std.specs.declared.alloc.Global.{Global}
@@ -7,6 +9,7 @@ use Rattle.std.specs.declared.hash.FoldHasher.{FoldHasher}
 use Rattle.std.specs.declared.hash.BuildHasherDefault.{BuildHasherDefault}
 use Rattle.task_ids.specs.declared.doc.Doc.{Doc}
 use Rattle.shard_docs.specs.SeenRows.{SeenRow}
+use Rattle.shard_docs.specs.ShardView.{dead_rows}
 
 -- the version at which the row of an id dies by the writes that come after it, of which the first has this place
 abbrev pub died_at : List ℕ → ℕ → List Doc → Option ℕ
@@ -33,3 +36,9 @@ pub record IsTables (rows : List SeenRow) (living : HashMap (String Global) ℕ 
   pub few : length rows < 2 ^ 32
   pub died : map (λ row. row.died) rows ≡ deaths 0 (map (λ row. row.doc) rows)
   pub places : (id : List ℕ) → get_by_text living id ≡ last_place id (map (λ row. row.doc) rows)
+
+-- The deaths that are kept are those above the oldest version: they ascend, and up to each version from that one on there are as many as rows died.
+pub record AreDeaths (oldest : ℕ) (writes : List Doc) (deaths : List ℕ) : Type 0 where
+  pub ascend : IsNonDecreasing deaths
+  pub within : All (λ died. died ≤ length writes) deaths
+  pub counted : (version : ℕ) → oldest ≤ version → dead_rows oldest writes + count_by (λ died. nat_le died version) deaths ≡ dead_rows version writes

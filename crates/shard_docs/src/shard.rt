@@ -1,13 +1,15 @@
-ghost use Rattle.std.specs.Prelude.{◌≡◌, ℕ, ◌<◌, ◌≤◌, ◌+◌, ◌-◌, ◌^◌, ◌∷◌, [], ◌++◌, if◌then◌else◌, length, take, filter, true, false, Some, None, option_copied, option_map, IfOk, IfSome, OnOk, OnErr};
+ghost use Rattle.std.specs.Prelude.{◌≡◌, ℕ, ◌<◌, ◌≤◌, ◌+◌, ◌-◌, ◌^◌, max, nat_lt, nat_le, ◌∷◌, [], ◌++◌, if◌then◌else◌, length, take, filter, count_by, true, false, Some, None, option_copied, option_map, IfOk, IfSome, OnOk, OnErr};
 ghost use Rattle.task_ids.specs.Rows.{row_at};
 ghost use Rattle.query_match.specs.Picks.{picked};
 ghost use Rattle.query_match.specs.Values.{is_key};
 ghost use Rattle.std.specs.List.{AllByRecursion};
+ghost use Rattle.std.specs.List.Sorted.{IsNonDecreasing};
 ghost use Rattle.shard_docs.specs.Numbers.{IsNumberAt, AreNumbersOf};
 ghost use Rattle.shard_docs.specs.Candidates.{next_places, living_row, is_candidate, is_above};
 ghost use Rattle.shard_docs.specs.Written.{outcome_of};
 ghost use Rattle.shard_docs.specs.Places.{IsIndexOf, IsExactFor};
 ghost use Rattle.shard_docs.specs.Shown.{ShowsFrom};
+ghost use Rattle.shard_docs.specs.ShardView.{empty_shard, dead_rows, has_dead};
 
 use crate::index::{Index, places_above};
 use crate::numbers::{NumberAt, Numbers};
@@ -32,7 +34,8 @@ pub enum Written {
 }
 
 /// A shard of an index: the documents that were written to it, in order, of which a newer one takes the place of an
-/// older one of its id. Contracts see the list of all writes. It can be read as of any version, which is a number of
+/// older one of its id. Contracts see the list of all writes, and a version: the rows that are dead there are forgotten
+/// (`ShardView`). It can be read as of any version, which is a number of
 /// first writes.
 ///
 /// Rows that died before a version can be forgotten: `purge`. A write that is forgotten is seen as one of the next
@@ -55,29 +58,28 @@ pub struct Shard {
 }
 
 impl Model for Shard {
-    ghost use Rattle.std.specs.Prelude.{◌≡◌, ◌≤◌, List, map, length, false};
-    ghost use Rattle.task_ids.specs.declared.doc.Doc.{Doc};
-    ghost use Rattle.task_ids.specs.contracts.doc.Doc as doc;
-    ghost use Rattle.std.specs.Coded.{coded_list};
+    ghost use Rattle.std.specs.Prelude.{◌≡◌, ◌≤◌, map, length, false};
+    ghost use Rattle.shard_docs.specs.ShardView.{ShardView, coded_shard};
 
-    ghost Value = { List Doc };
+    ghost Value = { ShardView };
 
-    ghost coded = { coded_list doc.the_row.coded };
+    ghost coded = { coded_shard };
 
-    ghost use Rattle.shard_docs.specs.Tables.{IsTables};
+    ghost use Rattle.shard_docs.specs.Tables.{IsTables, AreDeaths};
     ghost use Rattle.shard_docs.specs.Places.{IsIndexOf, IsExactFor};
     ghost use Rattle.shard_docs.specs.Numbers.{AreNumbersOf};
 
-    ghost view = { λ s. map (λ row. row.doc) s.rows.rows };
+    ghost view = { λ s. record { writes = map (λ row. row.doc) s.rows.rows; oldest = s.rows.oldest } };
 
-    ghost invariant = { λ s. IsTables s.rows.rows s.living × (s.rows.oldest ≤ length s.rows.rows) × IsIndexOf s.rows s.index
-        × (s.spoiled ≡ false → IsExactFor s.rows s.index) × AreNumbersOf s.rows s.numbers };
+    ghost invariant = { λ s. (IsTables s.rows.rows s.living × (s.rows.oldest ≤ length s.rows.rows) × IsIndexOf s.rows s.index
+        × (s.spoiled ≡ false → IsExactFor s.rows s.index) × AreNumbersOf s.rows s.numbers)
+        × AreDeaths s.rows.oldest (map (λ row. row.doc) s.rows.rows) s.deaths.items };
 }
 
 impl Shard {
     /// No write yet, which takes no memory.
     pub fn new(alloc: Global) -> Shard
-        ensures { result ≡ [] }
+        ensures { result ≡ empty_shard }
     {
         Shard {
             rows: Rows::new(alloc),
@@ -93,9 +95,10 @@ impl Shard {
     /// Writes a document. Its row stands last; the living row of its id, if there is one, dies at this version.
     /// It fails only for want of memory, or where the shard has 4,294,967,295 rows, and then nothing has changed.
     pub fn write(&mut self, doc: Doc) -> Result<Written, AllocError>
-        ensures outcome { IfOk result (λ written. written ≡ outcome_of doc.id self.old) }
-        ensures ok { OnOk result (self.new ≡ self.old ++ doc ∷ []) }
-        ensures err { OnErr result (self.new ≡ self.old) }
+        ensures outcome { IfOk result (λ written. written ≡ outcome_of doc.id self.old.writes) }
+        ensures ok { OnOk result (self.new.writes ≡ self.old.writes ++ doc ∷ []) }
+        ensures oldest { self.new.oldest ≡ self.old.oldest }
+        ensures err { OnErr result (self.new.writes ≡ self.old.writes) }
     {
         let place = self.rows.len();
         if place == MAX_ROWS {
@@ -127,8 +130,10 @@ impl Shard {
     /// must have, and a step for each row that it forgets. At times the memory of all that is forgotten is given back,
     /// which takes a step for each row that is kept, at most as many as were forgotten since.
     pub fn purge(&mut self, oldest: u32) -> u32
-        requires { oldest ≤ length self.old }
-        ensures { ShowsFrom oldest self.old self.new }
+        requires { oldest ≤ length self.old.writes }
+        ensures shows { ShowsFrom oldest self.old.writes self.new.writes }
+        ensures oldest { self.new.oldest ≡ max self.old.oldest oldest }
+        ensures count { result ≡ dead_rows oldest self.old.writes - dead_rows self.old.oldest self.old.writes }
     {
         if oldest <= self.rows.oldest() {
             return 0;
@@ -143,7 +148,9 @@ impl Shard {
     }
 
     /// Whether a row has died that is not forgotten.
-    pub fn has_dead(&self) -> bool {
+    pub fn has_dead(&self) -> bool
+        ensures { result ≡ has_dead self.now }
+    {
         !self.deaths.is_empty()
     }
 
@@ -163,21 +170,21 @@ impl Shard {
 
     /// The number of writes so far.
     pub fn version(&self) -> u32
-        ensures { result ≡ length self.now }
+        ensures { result ≡ length self.now.writes }
     {
         self.rows.len() as u32
     }
 
     /// The number of places, from 0. Each write has one.
     pub fn rows(&self) -> u32
-        ensures { result ≡ length self.now }
+        ensures { result ≡ length self.now.writes }
     {
         self.rows.len() as u32
     }
 
     /// The row of a place, if it was alive at a version.
     pub fn row(&self, version: u32, place: u32) -> Option<&Doc>
-        ensures { option_copied result ≡ row_at version place self.now }
+        ensures { option_copied result ≡ row_at version place self.now.writes }
     {
         if place < version {
             self.rows.alive(version, place)
@@ -189,7 +196,7 @@ impl Shard {
     /// The place and the document of the row of an id that is alive at the newest version. `None` where no row of it is
     /// alive.
     pub fn living(&self, id: &[u8]) -> Option<(u32, &Doc)>
-        ensures { option_map (λ found. (found.0, found.1.now)) result ≡ living_row id.now self.now }
+        ensures { option_map (λ found. (found.0, found.1.now)) result ≡ living_row id.now self.now.writes }
     {
         let living = &self.living;
         let Ok(id) = str::from_utf8(id) else {
@@ -202,7 +209,7 @@ impl Shard {
     /// Of rows whose one value at a field is a number, the number and the place: of those that are known, ascending by place,
     /// at a field without a dot.
     pub fn numbers(&self, version: u32, field: &str) -> &[NumberAt]
-        ensures { AllByRecursion (IsNumberAt field.now version self.now) result.now }
+        ensures { AllByRecursion (IsNumberAt field.now version self.now.writes) result.now }
     {
         // nothing is known of rows that are forgotten
         if self.rows.oldest() <= version {
@@ -223,8 +230,8 @@ impl Shard {
         out: &mut [u32],
     ) -> usize
         requires { IfSome pick (λ p. is_key p.field.now ≡ true) }
-        ensures count { result ≡ length (take (length out.old) (next_places (option_map picked pick.entry) version after self.now)) }
-        ensures places { take result out.new ≡ take (length out.old) (next_places (option_map picked pick.entry) version after self.now) }
+        ensures count { result ≡ length (take (length out.old) (next_places (option_map picked pick.entry) version after self.now.writes)) }
+        ensures places { take result out.new ≡ take (length out.old) (next_places (option_map picked pick.entry) version after self.now.writes) }
     {
         match pick {
             Some(pick) => self.picked_places(version, pick, after, out),
@@ -241,8 +248,8 @@ impl Shard {
         out: &mut [u32],
     ) -> usize
         requires { is_key pick.field.now ≡ true }
-        ensures count { result ≡ length (take (length out.old) (next_places (Some (picked pick.entry)) version after self.now)) }
-        ensures places { take result out.new ≡ take (length out.old) (next_places (Some (picked pick.entry)) version after self.now) }
+        ensures count { result ≡ length (take (length out.old) (next_places (Some (picked pick.entry)) version after self.now.writes)) }
+        ensures places { take result out.new ≡ take (length out.old) (next_places (Some (picked pick.entry)) version after self.now.writes) }
     {
         // the index knows nothing of rows that are forgotten
         if version < self.rows.oldest() {
@@ -265,8 +272,8 @@ impl Shard {
         out: &mut [u32],
     ) -> usize
         requires { IfSome pick (λ p. is_key p.field.now ≡ true) }
-        ensures count { result ≡ length (take (length out.old) (filter (is_candidate (option_map picked pick.entry) version self.now) places.now)) }
-        ensures places { take result out.new ≡ take (length out.old) (filter (is_candidate (option_map picked pick.entry) version self.now) places.now) }
+        ensures count { result ≡ length (take (length out.old) (filter (is_candidate (option_map picked pick.entry) version self.now.writes) places.now)) }
+        ensures places { take result out.new ≡ take (length out.old) (filter (is_candidate (option_map picked pick.entry) version self.now.writes) places.now) }
     {
         let mut count = 0;
         for place in places {
@@ -289,8 +296,8 @@ impl Shard {
         out: &mut [u32],
     ) -> usize
         requires { IfSome pick (λ p. is_key p.field.now ≡ true) }
-        ensures count { result ≡ length (take (length out.old) (next_places (option_map picked pick.entry) version after self.now)) }
-        ensures places { take result out.new ≡ take (length out.old) (next_places (option_map picked pick.entry) version after self.now) }
+        ensures count { result ≡ length (take (length out.old) (next_places (option_map picked pick.entry) version after self.now.writes)) }
+        ensures places { take result out.new ≡ take (length out.old) (next_places (option_map picked pick.entry) version after self.now.writes) }
     {
         let mut count = 0;
         for place in first_above(after)..version.min(self.rows()) {
@@ -306,7 +313,7 @@ impl Shard {
     /// The row of a place is alive at a version and has what is picked, where something is.
     fn is_candidate(&self, version: u32, pick: Option<Pick<'_>>, place: u32) -> bool
         requires { IfSome pick (λ p. is_key p.field.now ≡ true) }
-        ensures { result ≡ is_candidate (option_map picked pick.entry) version self.now place }
+        ensures { result ≡ is_candidate (option_map picked pick.entry) version self.now.writes place }
     {
         match (self.row(version, place), pick) {
             (Some(doc), Some(pick)) => has_picked(pick, &doc.source),
@@ -316,19 +323,23 @@ impl Shard {
     }
 }
 
-/// Takes those of some versions out, in order, that are not above one, and tells how many.
-fn take_deaths(deaths: &mut VecDeque<u32>, oldest: u32) -> u32 {
-    let mut count = 0u32;
-    for _ in 0..deaths.len() {
+/// Takes those of some versions out that are not above one, and tells how many. They stand in order.
+fn take_deaths(deaths: &mut VecDeque<u32>, oldest: u32) -> u32
+    requires ascend { IsNonDecreasing deaths.old.items }
+    requires few { length deaths.old.items < 2 ^ 32 }
+    ensures count { result ≡ count_by (λ died. nat_le died oldest) deaths.old.items }
+    ensures left { deaths.new.items ≡ filter (λ died. nat_lt oldest died) deaths.old.items }
+{
+    let len = deaths.len() as u32;
+    for count in 0..len {
         match deaths.front() {
             Some(died) if *died <= oldest => {
                 deaths.pop_front();
-                count = count.saturating_add(1);
             }
             _ => return count,
         }
     }
-    count
+    len
 }
 
 /// The index of some rows. It fails only for want of memory.

@@ -26,10 +26,11 @@ pub(crate) fn turn_of_part(
 ) -> Result<Vec<WriteNote>, AllocError>
     requires { is_written part.old ≡ false }
     ensures notes { IfOk result (λ notes. notes.items
-        ≡ notes_of part.old.index part.old.shard shard.old (next_docs part.old)) }
-    ensures written { OnOk result (shard.new ≡ shard.old ++ next_docs part.old) }
-    ensures ok { OnOk result (part.new ≡ after_turn part.old shard.old) }
-    ensures err { OnErr result (BrokeOff (BulkShard part.old) (BulkShard part.new) shard.old shard.new) }
+        ≡ notes_of part.old.index part.old.shard shard.old.writes (next_docs part.old)) }
+    ensures written { OnOk result (shard.new.writes ≡ shard.old.writes ++ next_docs part.old) }
+    ensures oldest { shard.new.oldest ≡ shard.old.oldest }
+    ensures ok { OnOk result (part.new ≡ after_turn part.old shard.old.writes) }
+    ensures err { OnErr result (BrokeOff (BulkShard part.old) (BulkShard part.new) shard.old.writes shard.new.writes) }
 {
     part.turn(shard)
 }

@@ -29,10 +29,10 @@ pub(crate) fn turn_of_fetch(
     requires { has_fetched fetch.old ≡ false }
     ensures turned { OnOk result (fetches.HasTurned fetch.old fetch.new) }
     ensures ready { OnOk result (is_some hits.new ≡ (is_some hits.old || has_fetched fetch.new)) }
-    ensures fetch { IsFetched fetch.old shard.now → let f = fetch.old in
-        OnOk result (fetch.new ≡ fetched_in f.ask (f.turns + 1) shard.now) }
-    ensures hits { IsFetched fetch.old shard.now → hits.old ≡ None
-        → OnOk result (hits.new ≡ found_hits fetch.new shard.now) }
+    ensures fetch { IsFetched fetch.old shard.now.writes → let f = fetch.old in
+        OnOk result (fetch.new ≡ fetched_in f.ask (f.turns + 1) shard.now.writes) }
+    ensures hits { IsFetched fetch.old shard.now.writes → hits.old ≡ None
+        → OnOk result (hits.new ≡ found_hits fetch.new shard.now.writes) }
     ensures same_fetch { OnErr result (fetch.new ≡ fetch.old) }
     ensures same_hits { OnErr result (hits.new ≡ hits.old) }
 {

@@ -25,14 +25,14 @@ pub(crate) fn turn_of_query(
     top: &mut Option<ShardTop>,
     shard: &Shard,
 ) -> Result<(), AllocError>
-    requires { has_ended query.old shard.now ≡ false }
-    ensures turned { OnOk result (queries.HasTurned query.old shard.now query.new) }
-    ensures ready { OnOk result (is_some top.new ≡ (is_some top.old || has_none_left query.new shard.now)) }
-    ensures query { IsQueried query.old shard.now → let q = query.old in
-        OnOk result (query.new ≡ queried q.ask (version_at q shard.now) (q.turns + 1) shard.now) }
-    ensures on { IsQueried query.old shard.now → OnOk result (IsQueried query.new shard.now) }
-    ensures top { IsQueried query.old shard.now → top.old ≡ None
-        → OnOk result (top.new ≡ found_top query.new shard.now) }
+    requires { has_ended query.old shard.now.writes ≡ false }
+    ensures turned { OnOk result (queries.HasTurned query.old shard.now.writes query.new) }
+    ensures ready { OnOk result (is_some top.new ≡ (is_some top.old || has_none_left query.new shard.now.writes)) }
+    ensures query { IsQueried query.old shard.now.writes → let q = query.old in
+        OnOk result (query.new ≡ queried q.ask (version_at q shard.now.writes) (q.turns + 1) shard.now.writes) }
+    ensures on { IsQueried query.old shard.now.writes → OnOk result (IsQueried query.new shard.now.writes) }
+    ensures top { IsQueried query.old shard.now.writes → top.old ≡ None
+        → OnOk result (top.new ≡ found_top query.new shard.now.writes) }
     ensures same_query { OnErr result (query.new ≡ query.old) }
     ensures same_top { OnErr result (top.new ≡ top.old) }
 {

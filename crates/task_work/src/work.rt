@@ -220,16 +220,17 @@ impl Work {
     ///
     /// What it finds is what is asked for where all turns are over one shard, which may grow between them.
     pub fn turn(&mut self, shard: &mut Shard) -> Result<Vec<WriteNote>, AllocError>
-        requires { (now : ℕ) × (next_of self.old shard.old now ≡ Do.Turn) }
-        ensures notes { IfOk result (λ notes. notes.items ≡ work_notes self.old shard.old) }
-        ensures written { OnOk result (shard.new ≡ shard.old ++ docs_next self.old) }
-        ensures turned { OnOk result (HasTurned self.old shard.old self.new) }
-        ensures ok { IsWorkOn self.old shard.old → OnOk result (self.new ≡ with_turn self.old shard.old) }
-        ensures holds_on { IsWorkOn self.old shard.old → OnOk result (IsWorkOn self.new shard.new) }
+        requires { (now : ℕ) × (next_of self.old shard.old.writes now ≡ Do.Turn) }
+        ensures notes { IfOk result (λ notes. notes.items ≡ work_notes self.old shard.old.writes) }
+        ensures written { OnOk result (shard.new.writes ≡ shard.old.writes ++ docs_next self.old) }
+        ensures oldest { shard.new.oldest ≡ shard.old.oldest }
+        ensures turned { OnOk result (HasTurned self.old shard.old.writes self.new) }
+        ensures ok { IsWorkOn self.old shard.old.writes → OnOk result (self.new ≡ with_turn self.old shard.old.writes) }
+        ensures holds_on { IsWorkOn self.old shard.old.writes → OnOk result (IsWorkOn self.new shard.new.writes) }
         ensures at { (task : TaskId) (request : Request) (shards : ℕ) (p : Progress)
-            → IsWorkAt task request shards p shard.old self.old
-            → OnOk result (IsWorkAt task request shards (progress_with_turn p shard.old (work_notes self.old shard.old)) shard.new self.new) }
-        ensures err { OnErr result (BrokeOff self.old self.new shard.old shard.new) }
+            → IsWorkAt task request shards p shard.old.writes self.old
+            → OnOk result (IsWorkAt task request shards (progress_with_turn p shard.old.writes (work_notes self.old shard.old.writes)) shard.new.writes self.new) }
+        ensures err { OnErr result (BrokeOff self.old self.new shard.old.writes shard.new.writes) }
     {
         match self {
             Work::Search(_) | Work::Scroll(_) | Work::Reindex(_) | Work::Slice(_) | Work::Bulk(_) =>

@@ -85,7 +85,7 @@ fn ask(
 
 /// What a query finds in its next turn, if that is its last.
 fn turned(query: &mut ShardQuery, shard: &Shard) -> Option<ShardTop>
-    requires { has_ended query.old shard.now ≡ false }
+    requires { has_ended query.old shard.now.writes ≡ false }
 {
     match query.turn(shard) {
         Ok(TurnAnswer::Ready(top)) => Some(top),

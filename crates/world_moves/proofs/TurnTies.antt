@@ -23,6 +23,7 @@ use Rattle.task_events.specs.Requests.{request_of}
 use Rattle.task_events.specs.Same.{same_task}
 use Rattle.task_events.specs.Tasks.{is_live, is_new}
 use Rattle.task_events.specs.Written.{with_notes}
+use Rattle.shard_docs.specs.ShardView.{ShardView}
 use Rattle.shard_docs.specs.Shown.{ShowsFrom}
 use Rattle.shard_docs.proofs.ShownMore.{shows_more}
 use Rattle.task_work.specs.declared.work.Work.{Work}
@@ -31,7 +32,7 @@ use Rattle.task_work.specs.Works.{IsWorkOn, next_of, place_of, docs_next, with_t
 use Rattle.task_work.proofs.Shown.{works_on_shown, works_on_own, notes_shown, turn_shown, reads_after_turn}
 use Rattle.command_roots.specs.Roots.{scripted}
 use Rattle.corpus_shards.specs.declared.Shards.{Shards}
-use Rattle.corpus_shards.specs.Stored.{HasWritten, IsNotedAs, Replaces, was_there, writes_in, lines_of}
+use Rattle.corpus_shards.specs.Stored.{HasWritten, IsNotedAs, AllNoted, Replaces, shard_in, was_there, writes_in, lines_of}
 use Rattle.corpus_shards.proofs.Appended.{appended, writes_append, writes_of_one}
 use Rattle.node_parts.specs.declared.running.Running.{Running}
 use Rattle.node_parts.specs.Running.{DoesNext}
@@ -111,8 +112,8 @@ module _ (s : State) (tied : IsTied s) (t : TaskId) (r : Running) (live : is_liv
       pub noted_is : (notes : List WriteNote) → notes ≡ work_notes r.work found → turned_in s t ≡ with_notes notes (worked t ∷ s.history)
       noted_is notes are = past_is ∙ ap (λ those. with_notes those (worked t ∷ s.history)) (sym (are ∙ notes_shown from own found shows was_written r.work))
 
-      module _ (w : Work) (left : List Doc) (turned : w ≡ with_turn r.work found) (on : IsWorkOn w left) (written : left ≡ found ++ docs_next r.work) (few : length left < 2 ^ 32)
-          (replaces : Replaces index number left old new) (from_start : (q : List ℕ) → was_there old q ≡ was_there s.shards q) (marked : Shards) (as_new : IsNotedAs new marked)
+      module _ (w : Work) (left : ShardView) (turned : w ≡ with_turn r.work found) (on : IsWorkOn w left.writes) (written : left.writes ≡ found ++ docs_next r.work) (kept : left.oldest ≡ (shard_in old index number).oldest) (few : length left.writes < 2 ^ 32)
+          (replaces : Replaces index number left old new) (from_start : (q : List ℕ) → was_there old q ≡ was_there s.shards q) (marked : Shards) (as_new : IsNotedAs new marked) (all_noted : AllNoted marked)
           (after : BTreeMap TaskId Running) (now_here : task_at after t ≡ Some (record r { work = w })) (others : (q : TaskId) → same_task t q ≡ false → task_at after q ≡ task_at s.tasks q) where
         in_shard : AllByRecursion (λ doc. shard_of doc.id s.cluster.shards ≡ number) (docs_next r.work)
         in_shard = turns.in_its_shard s.cluster s.corpus.now s.script.now s.history (task_at s.tasks) s.tables.items s.flight tied.ties t s.clock r live passed unmarked here index number place
@@ -120,10 +121,11 @@ module _ (s : State) (tied : IsTied s) (t : TaskId) (r : Running) (live : is_liv
         has_later : HasWritten (so_far s.corpus.now s.script.now (with_notes (work_notes r.work own) (worked t ∷ s.history))) s.cluster.shards tied.oldest marked
         has_later = as_new.written _ s.cluster.shards tied.oldest
             (subst (λ now. HasWritten now s.cluster.shards tied.oldest new) (sym (turns.later_is s.cluster s.corpus.now s.script.now s.history (task_at s.tasks) s.tables.items s.flight tied.ties t s.clock r live passed unmarked here index number place))
-            (appended (so_far s.corpus.now s.script.now s.history) s.cluster.shards tied.oldest old new index number (docs_next r.work) has
-            (subst (λ those. Replaces index number those old new) (written ∙ ap (λ those. those ++ docs_next r.work) there) replaces)
+            (appended (so_far s.corpus.now s.script.now s.history) s.cluster.shards tied.oldest old new index number (docs_next r.work) has left replaces
+            (written ∙ ap (λ those. those ++ docs_next r.work) there)
+            kept
             in_shard
-            (subst (λ those. length those < 2 ^ 32) (sym replaces.here) few)))
+            (subst (λ (v : ShardView). length v.writes < 2 ^ 32) (sym replaces.here) few)))
 
         turned_own : w ≡ with_turn r.work own
         turned_own = turned ∙ turn_shown from own found shows was_written r.work reads
@@ -140,12 +142,12 @@ module _ (s : State) (tied : IsTied s) (t : TaskId) (r : Running) (live : is_liv
 
         on_later : IsWorkOn w (own_writes s.cluster (so_far s.corpus.now s.script.now (with_notes (work_notes r.work own) (worked t ∷ s.history))) (request_of (scripted s.script.now) t s.history))
         on_later =
-            let shows_later : ShowsFrom from (own ++ docs_next r.work) left = subst (ShowsFrom from (own ++ docs_next r.work)) (sym written) (shows_more from own found shows was_written (docs_next r.work)) in
+            let shows_later : ShowsFrom from (own ++ docs_next r.work) left.writes = subst (ShowsFrom from (own ++ docs_next r.work)) (sym written) (shows_more from own found shows was_written (docs_next r.work)) in
             let many = length-append own (docs_next r.work) in
             let low : from ≤ length own = was_written in
             let low_later : from ≤ length (own ++ docs_next r.work) = omega (arith, low, many) in
             let reads_then : WorkReadsFrom from w = subst (WorkReadsFrom from) (sym turned_own) (reads_after_turn from own found shows was_written r.work reads) in
-            subst (IsWorkOn w) (sym shard_later) (works_on_own from (own ++ docs_next r.work) left shows_later low_later w reads_then on)
+            subst (IsWorkOn w) (sym shard_later) (works_on_own from (own ++ docs_next r.work) left.writes shows_later low_later w reads_then on)
 
         tied_so : IsTied (record s { shards = marked; history = with_notes (work_notes r.work own) (worked t ∷ s.history); tasks = after })
         tied_so = record {
@@ -163,7 +165,7 @@ module _ (s : State) (tied : IsTied s) (t : TaskId) (r : Running) (live : is_liv
           pages = notes_keep (λ g. Paging s.cluster s.corpus.now s.script.now g s.contexts.items)
               (λ i k outcome id g pages. quiet_pages s.cluster s.corpus.now s.script.now g s.contexts.items pages (Write i k outcome id) refl) (work_notes r.work own) (worked t ∷ s.history)
               (quiet_pages s.cluster s.corpus.now s.script.now s.history s.contexts.items tied.pages (worked t) refl);
-          shards = record { has = has_later; from_start = λ q. as_new.from_start q ∙ replaces.from_start q ∙ from_start q ∙ tied.shards.from_start q };
+          shards = record { has = has_later; from_start = λ q. as_new.from_start q ∙ replaces.from_start q ∙ from_start q ∙ tied.shards.from_start q; noted = all_noted };
           awaits = notes_keep AwaitsNoMark (λ i k outcome id g awaits. tt) (work_notes r.work own) (worked t ∷ s.history) tt;
           oldest = tied.oldest;
           reads = notes_reads tied.oldest s.cluster s.corpus.now s.script.now (work_notes r.work own) (worked t ∷ s.history) (reads_after tied.oldest s.cluster s.corpus.now s.script.now s.history tied.reads tied.ties.lawful (worked t) tt);

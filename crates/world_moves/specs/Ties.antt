@@ -11,7 +11,7 @@ use Rattle.task_ids.specs.declared.corpus.Corpus.{Corpus}
 use Rattle.task_table.specs.Table.{Table}
 use Rattle.task_work.specs.declared.work.Work.{Work}
 use Rattle.corpus_shards.specs.declared.Shards.{Shards}
-use Rattle.corpus_shards.specs.Stored.{HasWritten, was_there}
+use Rattle.corpus_shards.specs.Stored.{HasWritten, AllNoted, was_there}
 use Rattle.script_lang.specs.declared.command.Command.{Command}
 use Rattle.script_lang.specs.declared.command.Script.{Script}
 use Rattle.task_events.specs.declared.request.Request.{Request}
@@ -146,10 +146,11 @@ HasDescriptions s = Describing s.script.now s.history s.tables.items s.flight s.
 abbrev pub HasContexts : State → Type 0
 HasContexts s = Paging s.cluster s.corpus.now s.script.now s.history s.contexts.items
 
--- the shards show what is written, from some versions on, and tell which indices are known from the start
+-- the shards show what is written, from some versions on, tell which indices are known from the start, and are noted where rows may be forgotten
 pub record HoldsShards (written corpus : Corpus) (commands : List Command) (count : ℕ) (oldest : Oldest) (shards : Shards) : Type 0 where
   pub has : HasWritten written count oldest shards
   pub from_start : (index : List ℕ) → was_there shards index ≡ is_known corpus commands index
+  pub noted : AllNoted shards
 
 -- and the shards
 abbrev pub HasShards : Oldest → State → Type 0

@@ -5,7 +5,7 @@ ghost use Rattle.task_events.specs.declared.history.TheConstants.{MAX_EVENTS};
 ghost use Rattle.task_events.specs.Bans.{mark_of};
 ghost use Rattle.task_events.specs.Tasks.{is_live, is_new};
 ghost use Rattle.task_events.specs.Written.{write_of, with_notes};
-ghost use Rattle.corpus_shards.specs.Stored.{IsNotedAs};
+ghost use Rattle.corpus_shards.specs.Stored.{IsNotedAs, is_noted};
 ghost use Rattle.world_moves.specs.Moves.{IsPartOf, IsCutShort};
 ghost use Rattle.world_moves.specs.Ties.{IsTied, Keeps, KeepsLaws, task_at, turned_in};
 ghost use Rattle.node_parts.specs.Running.{DoesNext};
@@ -54,7 +54,8 @@ fn note_turn(history: &mut History, task: TaskId, notes: &[WriteNote]) -> Result
     Ok(())
 }
 
-/// Notes a shard that has dead rows, where it had none before. It fails only for want of memory.
+/// Notes a shard that has dead rows, where it had none before. It fails only for want of memory. What it had and has is
+/// told of rows that are not forgotten.
 fn note_dead(
     shards: &mut Shards,
     index: Shared<Text>,
@@ -62,7 +63,8 @@ fn note_dead(
     had_dead: bool,
     has_dead: bool,
 ) -> Result<(), AllocError>
-    ensures { IsNotedAs shards.old shards.new }
+    ensures as_new { IsNotedAs shards.old shards.new }
+    ensures noted { OnOk result (had_dead ≡ false → has_dead ≡ true → is_noted shards.new index shard ≡ true) }
 {
     if had_dead || !has_dead {
         return Ok(());

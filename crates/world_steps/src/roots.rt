@@ -10,7 +10,9 @@ ghost use Rattle.task_events.specs.Cancels.{beginning, last_command};
 ghost use Rattle.world_moves.specs.Moves.{Starts, NodeLacksNumber, IsPartly, IsCutShort};
 ghost use Rattle.command_roots.specs.Roots.{root_headers, root_request};
 ghost use Rattle.node_parts.specs.Starting.{task_for};
+ghost use Rattle.task_events.specs.Tasks.{is_live};
 ghost use Rattle.world_moves.specs.Paging.{CanTake};
+ghost use Rattle.world_moves.specs.Purging.{AllForgotten, NoneLost};
 ghost use Rattle.world_moves.specs.Ties.{IsTied, Keeps, task_at};
 
 use crate::scrolls::cleared;
@@ -42,6 +44,7 @@ fn note_begin(state: &mut State<'_>, command: u32) -> Result<(), Stop>
     ensures full { result ≡ Err Stop.HistoryFull → length state.old.history ≡ MAX_EVENTS }
     ensures numbers { result ≡ Err Stop.NumbersSpent → ⊥ }
     ensures room { OnOk result (length state.new.history ≤ MAX_EVENTS) }
+    ensures shards { state.new.shards ≡ state.old.shards }
 {
     let goes = cleared(state, command);
     append(&mut state.history, Event::Begin { command })?;
@@ -50,7 +53,8 @@ fn note_begin(state: &mut State<'_>, command: u32) -> Result<(), Stop>
 }
 
 /// A command begins, the next in order, and the context goes that it clears. Commands are numbered from 1. Where no task is
-/// live, shards forget the rows that nothing reads any more.
+/// live, each shard has forgotten what was dead at the least version that a context kept of it, or at its newest where none
+/// kept any; and nothing is forgotten that a context kept.
 pub(crate) fn begin(state: &mut State<'_>, command: u32) -> Result<(), Stop>
     requires tied { IsTied state.old }
     requires next { last_command state.old.history + 1 ≡ command }
@@ -62,6 +66,8 @@ pub(crate) fn begin(state: &mut State<'_>, command: u32) -> Result<(), Stop>
     ensures full { result ≡ Err Stop.HistoryFull → length state.old.history ≡ MAX_EVENTS }
     ensures numbers { result ≡ Err Stop.NumbersSpent → ⊥ }
     ensures room { OnOk result (length state.new.history ≤ MAX_EVENTS) }
+    ensures forgotten { ((task : TaskId) → is_live task state.old.history ≡ false) → AllForgotten state.old.contexts.items state.new.shards }
+    ensures none_lost { NoneLost state.old.contexts.items state.new.shards }
 {
     forget(state);
     note_begin(state, command)

@@ -12,7 +12,7 @@ ghost use Rattle.task_events.specs.Tasks.{is_live};
 ghost use Rattle.tasks_api.specs.Lists.{list_text};
 ghost use Rattle.task_events.specs.Contexts.{can_clear, context_at};
 ghost use Rattle.command_roots.specs.Known.{dests_of, is_known};
-ghost use Rattle.corpus_shards.specs.Stored.{ShownFrom, HasWritten, NoneMade, was_there};
+ghost use Rattle.corpus_shards.specs.Stored.{ShownFrom, HasWritten, AllNoted, NoneMade, was_there};
 ghost use Rattle.command_roots.specs.Roots.{context_named, page_answer, rows_of, scripted};
 ghost use Rattle.world_moves.specs.Cancels.{AllAnswered};
 ghost use Rattle.world_moves.specs.Listings.{ListSteps, AnswersListing};
@@ -166,6 +166,7 @@ fn know_dests(shards: &mut Shards, alloc: Global, script: &Script) -> Result<(),
     requires none_made { NoneMade shards.old }
     ensures known { OnOk result ((index : List ℕ) → was_there shards.new index ≡ (was_there shards.old index || list_any (bytes_eq index) (dests_of script.now.commands))) }
     ensures written { (corpus : Corpus) (count : ℕ) (oldest : ShownFrom) → HasWritten corpus count oldest shards.old → HasWritten corpus count oldest shards.new }
+    ensures noted { AllNoted shards.old → AllNoted shards.new }
 {
     let dests = dests_of(alloc, script.commands.as_slice())?;
     shards.know_all(alloc, dests.as_slice())
@@ -181,6 +182,7 @@ fn new_shards(
     requires { 0 < count }
     ensures written { IfOk result (λ shards. HasWritten corpus.now count (λ _ _. 0) shards) }
     ensures from_start { IfOk result (λ shards. (index : List ℕ) → was_there shards index ≡ is_known corpus.now script.now.commands index) }
+    ensures noted { IfOk result (λ shards. AllNoted shards) }
 {
     let mut shards = Shards::new(alloc, corpus, count)?;
     match know_dests(&mut shards, alloc, script) {

@@ -1,4 +1,4 @@
-use Rattle.std.proofs.Common.{◌≡◌, ℕ, List, [], length, ap, sym, subst, ◌∙◌, Some, None, arith, string_bytes, refl}
+use Rattle.std.proofs.Common.{◌≡◌, ℕ, List, length, ap, sym, subst, ◌∙◌, Some, None, arith, string_bytes, refl}
 use Rattle.std.specs.Option.{option_copied_mut}
 use Rattle.std.specs.Vec.{with_item}
 use Rattle.std.specs.Str.{bytes_eq}
@@ -6,7 +6,7 @@ use Rattle.std.specs.Prelude.{cond}
 use Rattle.std.specs.HashMap.{get_by_text}
 use Rattle.std.proofs.lemmas.Map.Text.{hash_map_updates_text}
 use Rattle.std.proofs.lemmas.List.FromFn.{length-map-range_with_len}
-use Rattle.task_ids.specs.declared.doc.Doc.{Doc}
+use Rattle.shard_docs.specs.ShardView.{ShardView, empty_shard}
 use Rattle.corpus_shards.specs.Placed.{AreShards}
 use Rattle.corpus_shards.proofs.Cases.{some_of, both_ok}
 use Rattle.corpus_shards.proofs.PlacedLines.{found_shards, none_found, empty_at, after_write}
@@ -20,7 +20,7 @@ index_mut-requires c =
 
 pub index_mut-requires-2 : goal.index_mut-requires-2
 index_mut-requires-2 c =
-    omega (arith, c.number_of-shard.ensures, ap length c.in_ok-shards.ensures, length-map-range_with_len {X = List Doc} (λ _. []) 0 c.args.count)
+    omega (arith, c.number_of-shard.ensures, ap length c.in_ok-shards.ensures, length-map-range_with_len {X = ShardView} (λ _. empty_shard) 0 c.args.count)
 
 pub returns-in-Some : goal.returns-in-Some
 returns-in-Some c = λ lines are.
@@ -35,7 +35,7 @@ returns-in-Some c = λ lines are.
     (hash_map_updates_text c.as_str.result.now table (c.get_mut.follows.lender w) (Some w) updates) in
     both_ok c.write_copy.result _ _ _ c.write_copy.ensures.ok c.write_copy.ensures.few
     (λ ok few. after_write lines c.args.line.now c.args.count table (c.get_mut.follows.lender w) w list.items c.number_of-shard.result c.index_mut.result.now c.write_copy.new.shard are changed
-    (found_shards lines c.args.count table index list are was) c.number_of-shard.ensures c.index_mut.ensures.value ok few refl)
+    (found_shards lines c.args.count table index list are was) c.number_of-shard.ensures c.index_mut.ensures.value ok c.write_copy.ensures.oldest few refl)
 
 pub returns : goal.returns
 returns c = λ lines are.
@@ -50,4 +50,4 @@ returns c = λ lines are.
     (hash_map_updates_text (string_bytes c.in_ok-from_str.field-0) table c.insert.new.self (Some w) c.in_ok-insert.ensures.updates) in
     after_write lines c.args.line.now c.args.count table c.insert.new.self w c.in_ok-shards.shards.items c.number_of-shard.result c.index_mut-2.result.now c.write_copy-2.new.shard stays changed
     (c.in_ok-shards.ensures ∙ empty_at lines c.args.count index (none_found lines c.args.count table index stays was)) c.number_of-shard.ensures c.index_mut-2.ensures.value
-    c.in_ok-write_copy.ensures.ok c.in_ok-write_copy.ensures.few refl
+    c.in_ok-write_copy.ensures.ok c.write_copy-2.ensures.oldest c.in_ok-write_copy.ensures.few refl

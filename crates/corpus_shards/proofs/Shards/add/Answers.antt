@@ -1,5 +1,5 @@
 use Rattle.std.proofs.Common.{refl}
-use Rattle.corpus_shards.proofs.Made.{entered, has_made, same_writes, still_written}
+use Rattle.corpus_shards.proofs.Made.{entered, has_made, same_shards, still_written}
 use Rattle.corpus_shards.proofs.Shards.add.Goals as goal
 
 pub returns-clause-added : goal.returns-clause-added
@@ -11,7 +11,7 @@ returns-clause-added c =
 pub returns-clause-same : goal.returns-clause-same
 returns-clause-same c =
     let s = c.args.self.now in
-    same_writes s (record s { by_index = c.insert.new.self }) c.args.index.now c.requires.none c.in_ok-shards.shards c.in_ok-shards.ensures
+    same_shards s (record s { by_index = c.insert.new.self }) c.args.index.now c.requires.none c.in_ok-shards.shards c.in_ok-shards.ensures
     (entered s.by_index c.insert.new.self c.in_ok-from_str.field-0 c.args.index.now c.in_ok-shards.shards c.in_ok-from_str.ensures.ok c.in_ok-insert.ensures.updates)
 
 pub returns-clause-written : goal.returns-clause-written

@@ -1,5 +1,7 @@
+use Rattle.std.proofs.Common.{◌≡◌}
 use Rattle.reindex.proofs.WriteLemmas.{HasWritten}
 use Rattle.reindex.proofs.writing.write_next.Given as goal
 
 abbrev pub invariant-loop : goal.invariant-loop
-invariant-loop l = HasWritten l.index l.number l.initial.shard l.initial.left.items l.counter l.shard l.left.items l.notes.items
+invariant-loop l =
+    HasWritten l.index l.number l.initial.shard.writes l.initial.left.items l.counter l.shard.writes l.left.items l.notes.items × (l.shard.oldest ≡ l.initial.shard.oldest)

@@ -10,7 +10,7 @@ loop-place-init c = c.new-hits.ensures.items
 
 pub loop-place-preserved : goal.loop-place-preserved
 loop-place-preserved c =
-    let hit = hit_at c.args.ask.now.index c.args.ask.now.version c.args.shard.now in
+    let hit = hit_at c.args.ask.now.index c.args.ask.now.version c.args.shard.now.writes in
     let places = slice_range c.as_slice.result.now c.args.start c.args.end in
     let place = get_or places c.loop-place.place-index 0 in
     c.in_ok-add_hit.ensures ∙ ap (λ hits. hits ++ filter_map hit (place ∷ [])) c.loop-place.invariant
@@ -18,7 +18,7 @@ loop-place-preserved c =
 
 pub returns : goal.returns
 returns c =
-    let hit = hit_at c.args.ask.now.index c.args.ask.now.version c.args.shard.now in
+    let hit = hit_at c.args.ask.now.index c.args.ask.now.version c.args.shard.now.writes in
     let places = slice_range c.as_slice.result.now c.args.start c.args.end in
     c.loop-place.invariant ∙ ap (filter_map hit) (take_all c.loop-place.place-index places c.loop-place-test.false)
     ∙ ap (λ all. filter_map hit (slice_range all c.args.start c.args.end)) c.as_slice.ensures

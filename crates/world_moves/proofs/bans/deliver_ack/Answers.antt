@@ -102,7 +102,7 @@ returns-clause-tied c =
           (quiet_sent s.script.now s.history _ s.flight _ (Acked p n) _ refl
           (carry_both s.script.now s.history _ _ (carry_taken s.script.now s.history s.flight c.args.nth c.requires.tied.tells.carried) (acts_carry s.script.now s.history p.node c.as_slice.result.now)) c.requires.tied.tells));
       pages = rw happened (answered_pages s.cluster s.corpus.now s.script.now (Acked p n ∷ s.history) s.contexts.items p (quiet_pages s.cluster s.corpus.now s.script.now s.history s.contexts.items c.requires.tied.pages (Acked p n) refl));
-      shards = rw happened (record { has = shards_answered s.cluster p (Acked p n ∷ s.history) s.corpus.now s.script.now c.requires.tied.oldest s.shards c.requires.tied.shards.has; from_start = c.requires.tied.shards.from_start });
+      shards = rw happened (record { has = shards_answered s.cluster p (Acked p n ∷ s.history) s.corpus.now s.script.now c.requires.tied.oldest s.shards c.requires.tied.shards.has; from_start = c.requires.tied.shards.from_start; noted = c.requires.tied.shards.noted });
       awaits = rw happened (answers_await s.cluster p (Acked p n ∷ s.history) tt);
       oldest = c.requires.tied.oldest;
       reads = rw happened (answers_reads c.requires.tied.oldest s.cluster s.corpus.now s.script.now p (Acked p n ∷ s.history) (reads_after c.requires.tied.oldest s.cluster s.corpus.now s.script.now s.history c.requires.tied.reads c.requires.tied.ties.lawful (Acked p n) tt));

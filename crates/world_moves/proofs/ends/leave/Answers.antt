@@ -133,7 +133,7 @@ returns-then-not-has-clause-tied c =
           (rows_left s.script.now s.history s.tables.items (c.args.task.node - 1) c.args.task.number c.index_mut.result.now its c.requires.tied.tells.rows_are)
           (carry_both s.script.now s.history s.flight _ c.requires.tied.tells.carried (told_carries s.script.now s.history c.end_in-receipt.result _)) c.requires.tied.tells);
       pages = rw c.in_ok-append.ensures.ok (left_pages s.cluster s.corpus.now s.script.now s.history _ _ _ c.requires.tied.ties s.contexts.items c.requires.tied.pages c.args.task live r was s.clock c.requires.tied.tells.clock_is _ e c.requires.leaves c.note_leave.new.contexts.items c.note_leave.ensures.as_many c.note_leave.ensures.left c.note_leave.ensures.refused);
-      shards = rw c.in_ok-append.ensures.ok (record { has = shards_left _ c.args.task s.history s.corpus.now s.script.now s.cluster c.requires.tied.oldest s.shards e c.requires.leaves c.requires.tied.shards.has; from_start = c.requires.tied.shards.from_start });
+      shards = rw c.in_ok-append.ensures.ok (record { has = shards_left _ c.args.task s.history s.corpus.now s.script.now s.cluster c.requires.tied.oldest s.shards e c.requires.leaves c.requires.tied.shards.has; from_start = c.requires.tied.shards.from_start; noted = c.requires.tied.shards.noted });
       awaits = rw c.in_ok-append.ensures.ok (awaits_none _ c.args.task s.history e c.requires.leaves);
       oldest = c.requires.tied.oldest;
       reads = rw c.in_ok-append.ensures.ok (reads_after c.requires.tied.oldest s.cluster s.corpus.now s.script.now s.history c.requires.tied.reads c.requires.tied.ties.lawful e (leaver_reads c.requires.tied.oldest s.script.now _ c.args.task s.history e c.requires.leaves));
@@ -242,7 +242,7 @@ returns-clause-tied c =
           (rows_left s.script.now s.history s.tables.items (c.args.task.node - 1) c.args.task.number c.index_mut.result.now its c.requires.tied.tells.rows_are)
           (carry_both s.script.now s.history _ _ (carry_both s.script.now s.history s.flight _ c.requires.tied.tells.carried (told_carries s.script.now s.history receipt _)) (acts_carry s.script.now s.history c.args.task.node acts)) c.requires.tied.tells));
       pages = rw happened (answered_pages s.cluster s.corpus.now s.script.now (e ∷ s.history) c.note_leave.new.contexts.items c.args.task (left_pages s.cluster s.corpus.now s.script.now s.history _ _ _ c.requires.tied.ties s.contexts.items c.requires.tied.pages c.args.task live r was s.clock c.requires.tied.tells.clock_is _ e m c.note_leave.new.contexts.items c.note_leave.ensures.as_many c.note_leave.ensures.left c.note_leave.ensures.refused));
-      shards = rw happened (record { has = shards_answered s.cluster c.args.task (e ∷ s.history) s.corpus.now s.script.now c.requires.tied.oldest s.shards (shards_left _ c.args.task s.history s.corpus.now s.script.now s.cluster c.requires.tied.oldest s.shards e m c.requires.tied.shards.has); from_start = c.requires.tied.shards.from_start });
+      shards = rw happened (record { has = shards_answered s.cluster c.args.task (e ∷ s.history) s.corpus.now s.script.now c.requires.tied.oldest s.shards (shards_left _ c.args.task s.history s.corpus.now s.script.now s.cluster c.requires.tied.oldest s.shards e m c.requires.tied.shards.has); from_start = c.requires.tied.shards.from_start; noted = c.requires.tied.shards.noted });
       awaits = rw happened (answers_await s.cluster c.args.task (e ∷ s.history) awaits);
       oldest = c.requires.tied.oldest;
       reads = rw happened (answers_reads c.requires.tied.oldest s.cluster s.corpus.now s.script.now c.args.task (e ∷ s.history) (reads_after c.requires.tied.oldest s.cluster s.corpus.now s.script.now s.history c.requires.tied.reads c.requires.tied.ties.lawful e (leaver_reads c.requires.tied.oldest s.script.now _ c.args.task s.history e m)));

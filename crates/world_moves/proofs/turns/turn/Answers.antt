@@ -3,8 +3,10 @@ use Rattle.std.specs.Prelude.{OnSome, OnOk, OnErr}
 use Rattle.task_work.specs.Works.{place_of}
 use Rattle.task_events.specs.declared.event.Event.TheVariants.{Work}
 use Rattle.task_events.specs.Written.{with_notes}
-use Rattle.corpus_shards.specs.Stored.{Replaces}
+use Rattle.shard_docs.specs.ShardView.{ShardView, has_dead}
+use Rattle.corpus_shards.specs.Stored.{AllNoted, Replaces}
 use Rattle.corpus_shards.proofs.Cases.{some_of, then_ok, then_err}
+use Rattle.corpus_shards.proofs.Notes.{made_noted, noted_after}
 use Rattle.world_moves.specs.Good.{so_far}
 use Rattle.world_moves.specs.Moves.{IsPartOf, IsCutShort}
 use Rattle.world_moves.specs.Ties.{IsTied, task_at, turned_in}
@@ -45,7 +47,7 @@ turn-requires c =
     let name : c.as_str-2.result.now ≡ c.in-Some-place.index.now = c.as_str-2.ensures ∙ c.get-2.ensures ∙ c.in-Ok.ensures in
     let place : place_of c.get_mut-running.result.now.work ≡ Some (c.as_str-2.result.now, c.in-Some-place.number) = sym c.in-Some-place.ensures ∙ ap (λ index. Some (index, c.in-Some-place.number)) (sym name) in
     let has = c.in-Ok-make.ensures.written (so_far s.corpus.now s.script.now s.history) s.cluster.shards c.requires.tied.oldest c.requires.tied.shards.has in
-    turns_over c.args.state.now c.requires.tied c.args.task c.get_mut-running.result.now c.requires.live c.requires.passed c.requires.unmarked (sym c.in-Some.ensures.value ∙ ap Some (sym c.get_mut-running.ensures.value)) c.requires.next c.as_str-2.result.now c.in-Some-place.number place c.make.new.self c.make.new.self has c.in-Some-get_mut.shard.now c.in-Some-get_mut.ensures.writes
+    turns_over c.args.state.now c.requires.tied c.args.task c.get_mut-running.result.now c.requires.live c.requires.passed c.requires.unmarked (sym c.in-Some.ensures.value ∙ ap Some (sym c.get_mut-running.ensures.value)) c.requires.next c.as_str-2.result.now c.in-Some-place.number place c.make.new.self c.make.new.self has c.in-Some-get_mut.shard.now.writes (ap (λ (v : ShardView). v.writes) c.in-Some-get_mut.ensures.shard)
 
 -- the notes are those of the turn
 noted : (c : goal.After-drop-notes-2) → turned_in c.args.state.now c.args.task ≡ with_notes c.as_slice.result.now (Work c.args.task ∷ c.args.state.now.history)
@@ -54,8 +56,18 @@ noted c =
     let name : c.as_str-2.result.now ≡ c.in-Some-place.index.now = c.as_str-2.ensures ∙ c.get-2.ensures ∙ c.in-Ok.ensures in
     let place : place_of c.get_mut-running.result.now.work ≡ Some (c.as_str-2.result.now, c.in-Some-place.number) = sym c.in-Some-place.ensures ∙ ap (λ index. Some (index, c.in-Some-place.number)) (sym name) in
     let has = c.in-Ok-make.ensures.written (so_far s.corpus.now s.script.now s.history) s.cluster.shards c.requires.tied.oldest c.requires.tied.shards.has in
-    noted_is c.args.state.now c.requires.tied c.args.task c.get_mut-running.result.now c.requires.live c.requires.passed c.requires.unmarked (sym c.in-Some.ensures.value ∙ ap Some (sym c.get_mut-running.ensures.value)) c.requires.next c.as_str-2.result.now c.in-Some-place.number place c.make.new.self c.make.new.self has c.in-Some-get_mut.shard.now c.in-Some-get_mut.ensures.writes
+    noted_is c.args.state.now c.requires.tied c.args.task c.get_mut-running.result.now c.requires.live c.requires.passed c.requires.unmarked (sym c.in-Some.ensures.value ∙ ap Some (sym c.get_mut-running.ensures.value)) c.requires.next c.as_str-2.result.now c.in-Some-place.number place c.make.new.self c.make.new.self has c.in-Some-get_mut.shard.now.writes (ap (λ (v : ShardView). v.writes) c.in-Some-get_mut.ensures.shard)
     c.as_slice.result.now (c.as_slice.ensures.value ∙ c.in-Ok-turn.ensures.notes)
+
+-- each shard is noted in which rows have died
+all_noted : (c : goal.After-drop-notes-2) → AllNoted c.note_dead.new.shards
+all_noted c =
+    let s = c.args.state.now in
+    let old = c.make.new.self in
+    let old_noted : AllNoted old = made_noted s.shards old c.make.ensures.same c.make.ensures.stale c.requires.tied.shards.noted in
+    let replaces = subst (λ o. OnSome o (Replaces c.as_str-2.result.now c.in-Some-place.number c.turn.new.shard c.make.new.self (c.get_mut-2.follows.lender c.turn.new.shard))) c.in-Some-get_mut.is (c.get_mut-2.follows.holds c.turn.new.shard) in
+    noted_after old (c.get_mut-2.follows.lender c.turn.new.shard) c.note_dead.new.shards c.as_str-2.result.now c.in-Some-place.number c.turn.new.shard c.has_dead-had_dead.result c.has_dead-has_dead.result
+    old_noted replaces c.note_dead.ensures.as_new (c.has_dead-had_dead.ensures ∙ ap has_dead c.in-Some-get_mut.ensures.shard) c.has_dead-has_dead.ensures ?
 
 -- and the tables fit the past after all of it
 tied_then : (c : goal.After-drop-notes-2) → IsTied (record c.args.state.now {
@@ -70,9 +82,9 @@ tied_then c =
     let name : c.as_str-2.result.now ≡ c.in-Some-place.index.now = c.as_str-2.ensures ∙ c.get-2.ensures ∙ c.in-Ok.ensures in
     let place : place_of c.get_mut-running.result.now.work ≡ Some (c.as_str-2.result.now, c.in-Some-place.number) = sym c.in-Some-place.ensures ∙ ap (λ index. Some (index, c.in-Some-place.number)) (sym name) in
     let has = c.in-Ok-make.ensures.written (so_far s.corpus.now s.script.now s.history) s.cluster.shards c.requires.tied.oldest c.requires.tied.shards.has in
-    let was_on = works_on c.args.state.now c.requires.tied c.args.task c.get_mut-running.result.now c.requires.live c.requires.passed c.requires.unmarked (sym c.in-Some.ensures.value ∙ ap Some (sym c.get_mut-running.ensures.value)) c.requires.next c.as_str-2.result.now c.in-Some-place.number place c.make.new.self c.make.new.self has c.in-Some-get_mut.shard.now c.in-Some-get_mut.ensures.writes in
-    turn_tied c.args.state.now c.requires.tied c.args.task c.get_mut-running.result.now c.requires.live c.requires.passed c.requires.unmarked (sym c.in-Some.ensures.value ∙ ap Some (sym c.get_mut-running.ensures.value)) c.requires.next c.as_str-2.result.now c.in-Some-place.number place c.make.new.self (c.get_mut-2.follows.lender c.turn.new.shard) has c.in-Some-get_mut.shard.now c.in-Some-get_mut.ensures.writes
-    c.turn.new.self c.turn.new.shard (c.in-Ok-turn.ensures.ok was_on) (c.in-Ok-turn.ensures.holds_on was_on) c.in-Ok-turn.ensures.written (search rules) (subst (λ o. OnSome o (Replaces c.as_str-2.result.now c.in-Some-place.number c.turn.new.shard c.make.new.self (c.get_mut-2.follows.lender c.turn.new.shard))) c.in-Some-get_mut.is (c.get_mut-2.follows.holds c.turn.new.shard)) c.make.ensures.from_start c.note_dead.new.shards c.note_dead.ensures (c.get_mut.follows.lender w)
+    let was_on = works_on c.args.state.now c.requires.tied c.args.task c.get_mut-running.result.now c.requires.live c.requires.passed c.requires.unmarked (sym c.in-Some.ensures.value ∙ ap Some (sym c.get_mut-running.ensures.value)) c.requires.next c.as_str-2.result.now c.in-Some-place.number place c.make.new.self c.make.new.self has c.in-Some-get_mut.shard.now.writes (ap (λ (v : ShardView). v.writes) c.in-Some-get_mut.ensures.shard) in
+    turn_tied c.args.state.now c.requires.tied c.args.task c.get_mut-running.result.now c.requires.live c.requires.passed c.requires.unmarked (sym c.in-Some.ensures.value ∙ ap Some (sym c.get_mut-running.ensures.value)) c.requires.next c.as_str-2.result.now c.in-Some-place.number place c.make.new.self (c.get_mut-2.follows.lender c.turn.new.shard) has c.in-Some-get_mut.shard.now.writes (ap (λ (v : ShardView). v.writes) c.in-Some-get_mut.ensures.shard)
+    c.turn.new.self c.turn.new.shard (c.in-Ok-turn.ensures.ok was_on) (c.in-Ok-turn.ensures.holds_on was_on) c.in-Ok-turn.ensures.written (c.turn.ensures.oldest ∙ ap (λ (v : ShardView). v.oldest) c.in-Some-get_mut.ensures.shard) (search rules) (subst (λ o. OnSome o (Replaces c.as_str-2.result.now c.in-Some-place.number c.turn.new.shard c.make.new.self (c.get_mut-2.follows.lender c.turn.new.shard))) c.in-Some-get_mut.is (c.get_mut-2.follows.holds c.turn.new.shard)) c.make.ensures.from_start c.note_dead.new.shards c.note_dead.ensures.as_new (all_noted c) (c.get_mut.follows.lender w)
     (at_changed c.args.task (Some w) (task_at s.tasks) _ changed) (off_changed c.args.task (Some w) (task_at s.tasks) _ changed)
 
 pub returns-clause-tied : goal.returns-clause-tied

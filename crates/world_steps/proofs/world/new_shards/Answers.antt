@@ -9,3 +9,6 @@ returns-in-Ok-clause-from_start c = λ index. c.in-Ok.ensures.known index ∙ ap
 
 pub returns-in-Ok-clause-written : goal.returns-in-Ok-clause-written
 returns-in-Ok-clause-written c = c.know_dests.ensures.written c.args.corpus.now c.args.count (λ _ _. 0) c.in_ok-shards.ensures.written
+
+pub returns-in-Ok-clause-noted : goal.returns-in-Ok-clause-noted
+returns-in-Ok-clause-noted c = c.know_dests.ensures.noted c.in_ok-shards.ensures.noted

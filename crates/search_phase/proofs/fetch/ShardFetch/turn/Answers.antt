@@ -45,15 +45,15 @@ overflow_add-self c =
     omega (arith, start, ap length (c.as_slice-all.ensures ∙ ap places_of c.get-ask.ensures))
 
 -- places are left
-opens : (c : goal.After-drop-found-then-end-all) → IsFetched c.args.self.now c.args.shard.now → (record { ask = c.self.inside.ask; turns = c.self.inside.turns + 1; hits = c.append.new.self.items } ≡ fetched_in c.args.self.now.ask (c.args.self.now.turns + 1) c.args.shard.now)
-    × (More ≡ fetch_answer (record { ask = c.self.inside.ask; turns = c.self.inside.turns + 1; hits = c.append.new.self.items }) c.args.shard.now)
+opens : (c : goal.After-drop-found-then-end-all) → IsFetched c.args.self.now c.args.shard.now.writes → (record { ask = c.self.inside.ask; turns = c.self.inside.turns + 1; hits = c.append.new.self.items } ≡ fetched_in c.args.self.now.ask (c.args.self.now.turns + 1) c.args.shard.now.writes)
+    × (More ≡ fetch_answer (record { ask = c.self.inside.ask; turns = c.self.inside.turns + 1; hits = c.append.new.self.items }) c.args.shard.now.writes)
 opens c was =
     let shown : FetchState = record { ask = c.self.inside.ask; turns = c.self.inside.turns; hits = c.self.inside.hits.items } in
     let start = c.self.inside.turns * 1024 in
     let ends = ap (λ n. start + n) (c.min.ensures ∙ ap (λ (places : List ℕ). min (length places - start) 1024) (c.as_slice-all.ensures ∙ ap places_of c.get-ask.ensures)) in
     let below = subst (λ (places : List ℕ). start + c.min.result < length places) (c.as_slice-all.ensures ∙ ap places_of c.get-ask.ensures) c.if-end-all.true in
-    let now = open_fetch shown c.args.shard.now (can_fetch _ _ _ c.self.view_is was c.requires) (start + c.min.result) ends c.in_ok-found.found.items (c.in_ok-found.ensures ∙ ap (hits_of c.args.shard.now start (start + c.min.result)) c.get-ask.ensures) below in (
-      ap (λ hits. record { ask = c.self.inside.ask; turns = c.self.inside.turns + 1; hits = hits }) c.in_ok-append.ensures.items ∙ now.0 ∙ ap (λ (f : FetchState). fetched_in f.ask (f.turns + 1) c.args.shard.now) c.self.view_is,
+    let now = open_fetch shown c.args.shard.now.writes (can_fetch _ _ _ c.self.view_is was c.requires) (start + c.min.result) ends c.in_ok-found.found.items (c.in_ok-found.ensures ∙ ap (hits_of c.args.shard.now.writes start (start + c.min.result)) c.get-ask.ensures) below in (
+      ap (λ hits. record { ask = c.self.inside.ask; turns = c.self.inside.turns + 1; hits = hits }) c.in_ok-append.ensures.items ∙ now.0 ∙ ap (λ (f : FetchState). fetched_in f.ask (f.turns + 1) c.args.shard.now.writes) c.self.view_is,
       now.1,
     )
 
@@ -71,22 +71,22 @@ pub returns-then-end-all-clause-answer : goal.returns-then-end-all-clause-answer
 returns-then-end-all-clause-answer c = λ was. (opens c was).1
 
 pub returns-then-end-all-clause-goes_on : goal.returns-then-end-all-clause-goes_on
-returns-then-end-all-clause-goes_on c = λ was. fetched_in-fetched _ c.args.self.now.ask (c.args.self.now.turns + 1) c.args.shard.now (opens c was).0
+returns-then-end-all-clause-goes_on c = λ was. fetched_in-fetched _ c.args.self.now.ask (c.args.self.now.turns + 1) c.args.shard.now.writes (opens c was).0
 
 pub returns-then-end-all-clause-stays : goal.returns-then-end-all-clause-stays
-returns-then-end-all-clause-stays c = λ was within more. IsFetched-grow _ c.args.shard.now more within (fetched_in-fetched _ c.args.self.now.ask (c.args.self.now.turns + 1) c.args.shard.now (opens c was).0)
+returns-then-end-all-clause-stays c = λ was within more. IsFetched-grow _ c.args.shard.now.writes more within (fetched_in-fetched _ c.args.self.now.ask (c.args.self.now.turns + 1) c.args.shard.now.writes (opens c was).0)
 
 -- it was the last
-ends : (c : goal.After-drop-found-2) → IsFetched c.args.self.now c.args.shard.now → (record { ask = c.self.inside.ask; turns = c.self.inside.turns + 1; hits = c.replace-hits.new.dest.items } ≡ fetched_in c.args.self.now.ask (c.args.self.now.turns + 1) c.args.shard.now)
-    × (Ready c.from_vec.result ≡ fetch_answer (record { ask = c.self.inside.ask; turns = c.self.inside.turns + 1; hits = c.replace-hits.new.dest.items }) c.args.shard.now)
+ends : (c : goal.After-drop-found-2) → IsFetched c.args.self.now c.args.shard.now.writes → (record { ask = c.self.inside.ask; turns = c.self.inside.turns + 1; hits = c.replace-hits.new.dest.items } ≡ fetched_in c.args.self.now.ask (c.args.self.now.turns + 1) c.args.shard.now.writes)
+    × (Ready c.from_vec.result ≡ fetch_answer (record { ask = c.self.inside.ask; turns = c.self.inside.turns + 1; hits = c.replace-hits.new.dest.items }) c.args.shard.now.writes)
 ends c was =
     let shown : FetchState = record { ask = c.self.inside.ask; turns = c.self.inside.turns; hits = c.self.inside.hits.items } in
     let start = c.self.inside.turns * 1024 in
     let ends = ap (λ n. start + n) (c.min.ensures ∙ ap (λ (places : List ℕ). min (length places - start) 1024) (c.as_slice-all.ensures ∙ ap places_of c.get-ask.ensures)) in
     let past = subst (λ (places : List ℕ). length places ≤ start + c.min.result) (c.as_slice-all.ensures ∙ ap places_of c.get-ask.ensures) c.if-end-all.false in
-    let now = last_fetch shown c.args.shard.now (can_fetch _ _ _ c.self.view_is was c.requires) (start + c.min.result) ends c.in_ok-found.found.items (c.in_ok-found.ensures ∙ ap (hits_of c.args.shard.now start (start + c.min.result)) c.get-ask.ensures) past in
+    let now = last_fetch shown c.args.shard.now.writes (can_fetch _ _ _ c.self.view_is was c.requires) (start + c.min.result) ends c.in_ok-found.found.items (c.in_ok-found.ensures ∙ ap (hits_of c.args.shard.now.writes start (start + c.min.result)) c.get-ask.ensures) past in
     let none = ap (λ v. v.items) c.replace-hits.ensures.after ∙ c.new.ensures.items in (
-      ap (λ hits. record { ask = c.self.inside.ask; turns = c.self.inside.turns + 1; hits = hits }) none ∙ now.0 ∙ ap (λ (f : FetchState). fetched_in f.ask (f.turns + 1) c.args.shard.now) c.self.view_is,
+      ap (λ hits. record { ask = c.self.inside.ask; turns = c.self.inside.turns + 1; hits = hits }) none ∙ now.0 ∙ ap (λ (f : FetchState). fetched_in f.ask (f.turns + 1) c.args.shard.now.writes) c.self.view_is,
       ap Ready (c.from_vec.ensures ∙ ap (λ v. v.items) c.replace-hits.ensures.value ∙ c.in_ok-append.ensures.items) ∙ now.1,
     )
 
@@ -104,7 +104,7 @@ pub returns-clause-answer : goal.returns-clause-answer
 returns-clause-answer c = λ was. (ends c was).1
 
 pub returns-clause-goes_on : goal.returns-clause-goes_on
-returns-clause-goes_on c = λ was. fetched_in-fetched _ c.args.self.now.ask (c.args.self.now.turns + 1) c.args.shard.now (ends c was).0
+returns-clause-goes_on c = λ was. fetched_in-fetched _ c.args.self.now.ask (c.args.self.now.turns + 1) c.args.shard.now.writes (ends c was).0
 
 pub returns-clause-stays : goal.returns-clause-stays
-returns-clause-stays c = λ was within more. IsFetched-grow _ c.args.shard.now more within (fetched_in-fetched _ c.args.self.now.ask (c.args.self.now.turns + 1) c.args.shard.now (ends c was).0)
+returns-clause-stays c = λ was within more. IsFetched-grow _ c.args.shard.now.writes more within (fetched_in-fetched _ c.args.self.now.ask (c.args.self.now.turns + 1) c.args.shard.now.writes (ends c was).0)

@@ -16,9 +16,9 @@ use Rattle.search_phase.proofs.query.ShardQuery.find.Goals as goal
 pub returns-then-most-eq0-clause-count : goal.returns-then-most-eq0-clause-count
 returns-then-most-eq0-clause-count c =
     let q = c.args.self.now in
-    let next = next_rows q c.args.version c.args.shard.now in
+    let next = next_rows q c.args.version c.args.shard.now.writes in
     let certain = ap (λ (s : QueryState). counts_all s.ask) (sym c.self.view_is) ∙ sym (c.counts_all-all.ensures ∙ ap counts_all c.get.ensures) ∙ c.if-all.true in
-    ap length c.requires ∙ length-map next (λ (r : Row). r.0) ∙ sym (all_counted q c.args.version c.args.shard.now next certain (all_next q c.args.version c.args.shard.now))
+    ap length c.requires ∙ length-map next (λ (r : Row). r.0) ∙ sym (all_counted q c.args.version c.args.shard.now.writes next certain (all_next q c.args.version c.args.shard.now.writes))
 
 pub loop-place-init : goal.loop-place-init
 loop-place-init c = (
@@ -52,14 +52,14 @@ module _ (q : QueryState) (version : ℕ) (writes : List Doc) (places : List ℕ
 pub unreachable-requires : goal.unreachable-requires
 unreachable-requires c =
     let none = c.in_default.ensures in
-    let some = its_row c.args.self.now c.args.version c.args.shard.now c.args.places.now c.requires c.loop-place.place-index c.loop-place-test.true in
+    let some = its_row c.args.self.now c.args.version c.args.shard.now.writes c.args.places.now c.requires c.loop-place.place-index c.loop-place-test.true in
     absurd (cc)
 
 pub add-requires-clause-certain : goal.add-requires-clause-certain
 add-requires-clause-certain c = λ all.
     let q = c.args.self.now in
-    let row = here q c.args.version c.args.shard.now c.args.places.now c.requires c.loop-place.place-index c.loop-place-test.true in
-    let same = is_row q c.args.version c.args.shard.now c.args.places.now c.requires c.loop-place.place-index c.loop-place-test.true c.in-Some.doc.now c.in-Some.ensures in
+    let row = here q c.args.version c.args.shard.now.writes c.args.places.now c.requires c.loop-place.place-index c.loop-place-test.true in
+    let same = is_row q c.args.version c.args.shard.now.writes c.args.places.now c.requires c.loop-place.place-index c.loop-place-test.true c.in-Some.doc.now c.in-Some.ensures in
     let certain = ap (λ (s : QueryState). counts_all s.ask) (sym c.self.view_is) ∙ sym (c.counts_all-all.ensures ∙ ap counts_all c.get.ensures) ∙ all in
     ap (λ (r : Row). is_found q.ask.body q.ask.slice r.1) same ∙ counted q.ask row.row certain row.has.picked
 
@@ -71,22 +71,22 @@ add-requires-clause-few c = c.loop-place.invariant.1
 
 pub add-requires-clause-low : goal.add-requires-clause-low
 add-requires-clause-low c =
-    let few = few_so_far c.args.self.now c.args.version c.args.shard.now c.args.places.now c.requires c.loop-place.place-index c.loop-place-test.true in
-    let counted : c.loop-place.found.count ≡ length (keys_of_rows c.args.self.now.ask (take c.loop-place.place-index (next_rows c.args.self.now c.args.version c.args.shard.now))) = c.loop-place.invariant.2 in
+    let few = few_so_far c.args.self.now c.args.version c.args.shard.now.writes c.args.places.now c.requires c.loop-place.place-index c.loop-place-test.true in
+    let counted : c.loop-place.found.count ≡ length (keys_of_rows c.args.self.now.ask (take c.loop-place.place-index (next_rows c.args.self.now c.args.version c.args.shard.now.writes))) = c.loop-place.invariant.2 in
     omega (arith, few, counted)
 
 pub add-requires-clause-number : goal.add-requires-clause-number
 add-requires-clause-number c =
-    number_of_row c.args.self.now.ask.body.sort c.args.version (get_or c.args.places.now c.loop-place.place-index 0) c.args.shard.now c.numbers-numbers.result.now c.number_at.result c.in-Some.doc.now
+    number_of_row c.args.self.now.ask.body.sort c.args.version (get_or c.args.places.now c.loop-place.place-index 0) c.args.shard.now.writes c.numbers-numbers.result.now c.number_at.result c.in-Some.doc.now
     c.numbers-numbers.ensures c.number_at.ensures c.in-Some.ensures
 
 pub loop-place-preserved : goal.loop-place-preserved
 loop-place-preserved c =
     let q = c.args.self.now in
-    let next = next_rows q c.args.version c.args.shard.now in
+    let next = next_rows q c.args.version c.args.shard.now.writes in
     let i = c.loop-place.place-index in
-    let row = here q c.args.version c.args.shard.now c.args.places.now c.requires i c.loop-place-test.true in
-    let same = is_row q c.args.version c.args.shard.now c.args.places.now c.requires i c.loop-place-test.true c.in-Some.doc.now c.in-Some.ensures in
+    let row = here q c.args.version c.args.shard.now.writes c.args.places.now c.requires i c.loop-place-test.true in
+    let same = is_row q c.args.version c.args.shard.now.writes c.args.places.now c.requires i c.loop-place-test.true c.in-Some.doc.now c.in-Some.ensures in
     let e = c.in_ok-add.ensures in (
       e.still_ordered,
       e.still_few,
@@ -109,9 +109,9 @@ returns-clause-ordered c = c.loop-place.invariant.0
 pub returns-clause-count : goal.returns-clause-count
 returns-clause-count c =
     c.loop-place.invariant.2
-    ∙ ap (λ rows. length (keys_of_rows c.args.self.now.ask rows)) (all_taken c.args.self.now c.args.version c.args.shard.now c.args.places.now c.requires c.loop-place.place-index (omega (arith, c.loop-place-test.false)))
+    ∙ ap (λ rows. length (keys_of_rows c.args.self.now.ask rows)) (all_taken c.args.self.now c.args.version c.args.shard.now.writes c.args.places.now c.requires c.loop-place.place-index (omega (arith, c.loop-place-test.false)))
 
 pub returns-clause-first : goal.returns-clause-first
 returns-clause-first c =
     c.loop-place.invariant.3
-    ∙ ap (λ rows. first_keys c.args.self.now.ask (keys_of_rows c.args.self.now.ask rows)) (all_taken c.args.self.now c.args.version c.args.shard.now c.args.places.now c.requires c.loop-place.place-index (omega (arith, c.loop-place-test.false)))
+    ∙ ap (λ rows. first_keys c.args.self.now.ask (keys_of_rows c.args.self.now.ask rows)) (all_taken c.args.self.now c.args.version c.args.shard.now.writes c.args.places.now c.requires c.loop-place.place-index (omega (arith, c.loop-place-test.false)))

@@ -8,7 +8,7 @@ use Rattle.search_phase.proofs.query.ShardQuery.find.Given as goal
 -- in order; few; what the first rows come to
 abbrev pub invariant-loop-place : goal.invariant-loop-place
 invariant-loop-place l =
-    let rows = take l.place-index (next_rows l.self l.version l.shard) in
+    let rows = take l.place-index (next_rows l.self l.version l.shard.writes) in
     IsHeap hit_cmp (heap_items l.found.first)
     × (length (heap_items l.found.first) ≤ window l.self.ask.body)
     × (l.found.count ≡ length (keys_of_rows l.self.ask rows))

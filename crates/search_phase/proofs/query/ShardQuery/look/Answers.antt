@@ -19,18 +19,18 @@ keep_all-requires-clause-few c =
 pub overflow_add-self-2 : goal.overflow_add-self-2
 overflow_add-self-2 c =
     let q = c.args.self.now in
-    let next = next_rows q c.args.version c.args.shard.now in
+    let next = next_rows q c.args.version c.args.shard.now.writes in
     let is : IsQuery q = subst IsQuery c.self.view_is c.self.invariant.1 in
     let so_far : q.count ≤ q.turns * 1024 = subst (λ n. q.count ≤ q.turns * n) turn_is is.few_counted in
     let count : c.self.inside.count ≡ q.count = ap (λ (s : QueryState). s.count) c.self.view_is in
     let begun : q.turns * 1024 ≤ c.args.version = c.requires.few in
     let found : c.in_ok-found.found.count ≡ length (keys_of_rows q.ask next) = c.in_ok-found.ensures.count in
-    omega (arith, so_far, count, begun, found, few_keys q.ask next, few_next q c.args.version c.args.shard.now, c.ranges.version.fits)
+    omega (arith, so_far, count, begun, found, few_keys q.ask next, few_next q c.args.version c.args.shard.now.writes, c.ranges.version.fits)
 
 pub returns-clause-ok : goal.returns-clause-ok
 returns-clause-ok c =
     let q = c.args.self.now in
-    let next = next_rows q c.args.version c.args.shard.now in
+    let next = next_rows q c.args.version c.args.shard.now.writes in
     let found = filter (is_after q.ask.after) (keys_of_rows q.ask next) in
     let same = c.self.view_is in
     let asks = ap (λ (s : QueryState). s.ask) same in
@@ -51,8 +51,8 @@ returns-clause-ok c =
 pub invariant_of-self-2 : goal.invariant_of-self-2
 invariant_of-self-2 c =
     let q = c.args.self.now in
-    let next = next_rows q c.args.version c.args.shard.now in (
+    let next = next_rows q c.args.version c.args.shard.now.writes in (
       c.keep_all.ensures.still_ordered,
       subst IsQuery (sym (returns-clause-ok c))
-          (still_query q c.args.version c.args.shard.now next (subst IsQuery c.self.view_is c.self.invariant.1) c.requires.reads (few_next q c.args.version c.args.shard.now)),
+          (still_query q c.args.version c.args.shard.now.writes next (subst IsQuery c.self.view_is c.self.invariant.1) c.requires.reads (few_next q c.args.version c.args.shard.now.writes)),
     )

@@ -41,7 +41,7 @@ has_room q version room writes h = ⊎_elim (λ wide. inl wide) (λ all. inr (om
 pub look-requires-clause-next : goal.look-requires-clause-next
 look-requires-clause-next c =
     let q = c.args.self.now in
-    let writes = c.args.shard.now in
+    let writes = c.args.shard.now.writes in
     let room = length c.args.places.now in
     let same = places_left q _ c.args.version writes c.get-2.result.now c.pick-pick.result c.self.view_is (c.get-2.ensures ∙ ap (λ (a : ShardAsk). a.body) c.get.ensures) c.pick-pick.ensures in
     cut_places (places_of q c.args.version writes) c.candidates-left.new.out room c.candidates-left.result c.min-here.result (has_room q c.args.version room writes c.requires.room)
@@ -51,7 +51,7 @@ look-requires-clause-next c =
 pub returns-clause-more : goal.returns-clause-more
 returns-clause-more c =
     let q = c.args.self.now in
-    let writes = c.args.shard.now in
+    let writes = c.args.shard.now.writes in
     let room = length c.args.places.now in
     let same = places_left q _ c.args.version writes c.get-2.result.now c.pick-pick.result c.self.view_is (c.get-2.ensures ∙ ap (λ (a : ShardAsk). a.body) c.get.ensures) c.pick-pick.ensures in
     let left : c.candidates-left.result ≡ min room (length (rows_left q c.args.version writes)) =

@@ -5,5 +5,5 @@ use Rattle.shard_docs.proofs.shard.Shard.candidates_among.Given as goal
 
 abbrev pub invariant-loop-place : goal.invariant-loop-place
 invariant-loop-place l =
-    let chosen = filter (is_candidate (option_map picked l.pick) l.version l.self) (take l.place-index l.places) in
+    let chosen = filter (is_candidate (option_map picked l.pick) l.version l.self.writes) (take l.place-index l.places) in
     (l.count ≡ length chosen) × (take l.count l.out ≡ chosen) × (l.count ≤ length l.out) × (length l.out ≡ length l.initial.out)

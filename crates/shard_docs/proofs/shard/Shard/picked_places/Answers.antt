@@ -11,6 +11,7 @@ use Rattle.shard_docs.specs.Tables.{deaths}
 use Rattle.shard_docs.proofs.Above.{ascending}
 use Rattle.shard_docs.proofs.Exact.{exact_candidates}
 use Rattle.shard_docs.proofs.PickedPlaces.{picked_next}
+use Rattle.shard_docs.proofs.ShardParts.{same_writes}
 use Rattle.shard_docs.proofs.TableLemmas.{docs_of}
 use Rattle.shard_docs.proofs.shard.Shard.picked_places.Goals as goal
 
@@ -20,7 +21,7 @@ places_above-places-requires c =
     let v = c.args.pick.value.now in
     let s = c.self.inside.rows in
     let there = c.places.ensures ∙ ap (λ g. places_of c.self.inside.index g v) c.as_str.ensures in
-    subst IsNonDecreasing (sym there) (ascending (is_at_row f v s) (suc (length s.rows)) (places_of c.self.inside.index f v) (c.self.invariant.2 f v c.requires))
+    subst IsNonDecreasing (sym there) (ascending (is_at_row f v s) (suc (length s.rows)) (places_of c.self.inside.index f v) (c.self.invariant.0.2 f v c.requires))
 
 module _ (index : Index) (s : SeenRows) (dies : map (λ row. row.died) s.rows ≡ deaths 0 (docs_of s.rows)) (pick : Pick) (version : ℕ) (readable : s.oldest ≤ version) (after : Option ℕ) (places : List ℕ)
     (above : places ≡ filter (is_above after) (places_of index pick.field.now pick.value.now)) where
@@ -45,8 +46,8 @@ returns-then-self c =
     let readable : s.oldest ≤ c.args.version = omega (arith, c.if-version-oldest.false, c.oldest.ensures) in
     let above = c.places_above-places.ensures ∙ ap (filter (is_above c.args.after)) there in
     let found =
-    subst (λ docs. filter (is_candidate (Some (picked c.args.pick)) c.args.version docs) c.places_above-places.result.now ≡ next_places (Some (picked c.args.pick)) c.args.version c.args.after docs) c.self.view_is
-    (next index s c.self.invariant.0.died c.args.pick c.args.version readable c.args.after c.places_above-places.result.now above c.requires c.self.invariant.2) in record {
+    subst (λ docs. filter (is_candidate (Some (picked c.args.pick)) c.args.version docs) c.places_above-places.result.now ≡ next_places (Some (picked c.args.pick)) c.args.version c.args.after docs) (same_writes c.self.view_is)
+    (next index s c.self.invariant.0.0.died c.args.pick c.args.version readable c.args.after c.places_above-places.result.now above c.requires c.self.invariant.0.2) in record {
       count = c.candidates_among.ensures.count ∙ ap (λ l. length (take (length c.args.out.now) l)) found;
       places = c.candidates_among.ensures.places ∙ ap (take (length c.args.out.now)) found;
     }
@@ -59,8 +60,8 @@ returns c =
     let readable : s.oldest ≤ c.args.version = omega (arith, c.if-version-oldest.false, c.oldest.ensures) in
     let above = c.places_above-places.ensures ∙ ap (filter (is_above c.args.after)) there in
     let found =
-    subst (λ docs. filter (is_candidate None c.args.version docs) c.places_above-places.result.now ≡ next_places (Some (picked c.args.pick)) c.args.version c.args.after docs) c.self.view_is
-    (next_alive index s c.self.invariant.0.died c.args.pick c.args.version readable c.args.after c.places_above-places.result.now above c.requires c.self.invariant.2 (c.self.invariant.3 c.if-self.false)) in record {
+    subst (λ docs. filter (is_candidate None c.args.version docs) c.places_above-places.result.now ≡ next_places (Some (picked c.args.pick)) c.args.version c.args.after docs) (same_writes c.self.view_is)
+    (next_alive index s c.self.invariant.0.0.died c.args.pick c.args.version readable c.args.after c.places_above-places.result.now above c.requires c.self.invariant.0.2 (c.self.invariant.0.3 c.if-self.false)) in record {
       count = c.candidates_among-2.ensures.count ∙ ap (λ l. length (take (length c.args.out.now) l)) found;
       places = c.candidates_among-2.ensures.places ∙ ap (take (length c.args.out.now)) found;
     }

@@ -5,4 +5,4 @@ use Rattle.task_work.proofs.work.Work.turn.Goals as goal
 
 pub returns-in-BulkShard-clause-at : goal.returns-in-BulkShard-clause-at
 returns-in-BulkShard-clause-at c = λ task request shards p at.
-    turned_ok task shards p c.args.shard.now request c.args.self.now (BulkShard c.turn_of_part.new.part) c.turn_of_part.result c.turn_of_part.new.shard (search rules) (search rules) at
+    turned_ok task shards p c.args.shard.now.writes request c.args.self.now (BulkShard c.turn_of_part.new.part) c.turn_of_part.result c.turn_of_part.new.shard.writes (search rules) (search rules) at

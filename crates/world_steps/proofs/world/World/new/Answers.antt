@@ -20,7 +20,7 @@ invariant_of-result c = record {
     counts = rw c.new.ensures (nothing_counted (left_in c.new-5.result) (λ k. ap (λ m. unwrap_or (lookup (is_at (nat_cmp k)) m) 0) c.new-5.ensures.empty));
     tells = rw (c.new.ensures, c.new-3.ensures) (nothing_told c.args.cluster c.args.script.now c.in_ok-tables.tables.items c.in_ok-tables.ensures);
     pages = rw c.new.ensures (nothing_opened c.args.cluster c.args.corpus.now c.args.script.now c.in-Ok-new_contexts.contexts.items c.in-Ok-new_contexts.ensures);
-    shards = rw c.new.ensures (record { has = c.in-Ok-new_shards.ensures.written; from_start = c.in-Ok-new_shards.ensures.from_start });
+    shards = rw c.new.ensures (record { has = c.in-Ok-new_shards.ensures.written; from_start = c.in-Ok-new_shards.ensures.from_start; noted = c.in-Ok-new_shards.ensures.noted });
     awaits = rw c.new.ensures tt;
     oldest = λ index shard. 0;
     reads = rw c.new.ensures (nothing_read c.args.cluster c.args.corpus.now c.args.script.now);
