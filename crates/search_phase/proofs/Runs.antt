@@ -1,6 +1,6 @@
 -- A search, a query and a fetch are as far as the asks and the turns of their task say, and so they do what their kind says.
-use Rattle.std.proofs.Common.{◌≡◌, ℕ, ◌+◌, ◌≤◌, Bool, true, false, List, [], ◌∷◌, ◌++◌, length, map, Option, Some, None, refl, sym, ap, ◌∙◌, arith}
-use Rattle.std.specs.Prelude.{◌==◌, IfSome, unwrap_or, if◌then◌else◌}
+use Rattle.std.proofs.Common.{◌≡◌, ℕ, ◌+◌, Bool, true, false, List, [], ◌∷◌, ◌++◌, length, map, Option, Some, None, refl, sym, ap, ◌∙◌, arith}
+use Rattle.std.specs.Prelude.{◌==◌, unwrap_or, if◌then◌else◌}
 use Rattle.std.specs.Option.{option_or}
 use Rattle.std.proofs.lemmas.Bool.{eqb-true, eq-eqb, ne_eqb}
 use Rattle.task_ids.specs.declared.doc.Doc.{Doc}
@@ -12,13 +12,12 @@ use Rattle.task_events.specs.FetchTask.{fetch_step}
 use Rattle.task_events.specs.Looking.{is_done}
 use Rattle.task_events.specs.QueryTask.{rows_for, query_step, version_due}
 use Rattle.task_events.specs.Readings.{Reading}
-use Rattle.task_events.specs.Searches.{requests_of}
 use Rattle.task_events.specs.SearchTask.{search_step}
 use Rattle.task_events.specs.Steps.{with_answer as asked_with_answer}
-use Rattle.search_phase.specs.Fetches.{FetchState, IsFetched, new_fetch, fetched_in}
-use Rattle.search_phase.specs.Queries.{QueryState, IsQueried, new_query, version_at, looked, queried, without_keys}
+use Rattle.search_phase.specs.Fetches.{FetchState, new_fetch, fetched_in}
+use Rattle.search_phase.specs.Queries.{QueryState, new_query, version_at, looked, queried, without_keys}
 use Rattle.search_phase.specs.Runs.{IsSearchAt, IsQueryAt, IsFetchAt}
-use Rattle.search_phase.specs.Searching.{Searching, new_search, next_step, with_ask, answered_by, with_answer}
+use Rattle.search_phase.specs.Searching.{Searching, next_step, with_ask, answered_by, with_answer}
 use Rattle.search_phase.proofs.Growing.{new_query-queried, new_fetch-fetched}
 use Rattle.search_phase.proofs.QueryTurns.{queried-holds}
 use Rattle.search_phase.proofs.Sorting.{by_test}
@@ -38,9 +37,6 @@ noted_alike k reply (a ∷ asked) = λ i. same i ∷ noted_alike k reply asked i
         rw (its, back) (λ i. record { ask = number i; answer = Some reply }))
         (λ other. let back : (a.ask == k) ≡ false = ne_eqb a.ask k (λ number. absurd (let f : true ≡ false = sym (eq-eqb k a.ask (sym number)) ∙ other in cc)) in
         rw (other, back) refl)
-
-pub search_first : (r : Reading) → IsSearchAt r [] (new_search r)
-search_first r = refl
 
 module _ {r : Reading} {asked : List Asked} {s : Searching} (at : IsSearchAt r asked s) where
   pub search_follows : search_step r asked ≡ next_step s

@@ -49,10 +49,10 @@ same_top q writes more within queried = by_version q.version refl
         unfixed zero none = refl
         unfixed (suc turns) none = absurd (let f : false ≡ true = none (omega arith) in cc)
 
-pub query_on_grown : (q : QueryState) (top : Option ShardTop) (writes more : List Doc) → ((v : ℕ) → q.version ≡ Some v → v ≤ length writes) → IsWorkOn (works.Query q top) writes → IsWorkOn (works.Query q top) (writes ++ more)
+query_on_grown : (q : QueryState) (top : Option ShardTop) (writes more : List Doc) → ((v : ℕ) → q.version ≡ Some v → v ≤ length writes) → IsWorkOn (works.Query q top) writes → IsWorkOn (works.Query q top) (writes ++ more)
 query_on_grown q top writes more within on = (IsQueried-grow q writes more (some_within q.version (length writes) within) on.0, on.1 ∙ sym (same_top q writes more within on.0))
 
-pub fetch_on_grown : (f : FetchState) (hits : Option (List Hit)) (writes more : List Doc) → f.ask.version ≤ length writes → IsWorkOn (works.Fetch f hits) writes → IsWorkOn (works.Fetch f hits) (writes ++ more)
+fetch_on_grown : (f : FetchState) (hits : Option (List Hit)) (writes more : List Doc) → f.ask.version ≤ length writes → IsWorkOn (works.Fetch f hits) writes → IsWorkOn (works.Fetch f hits) (writes ++ more)
 fetch_on_grown f hits writes more within on =
     (IsFetched-grow f writes more within on.0, on.1 ∙ sym (ap (λ docs. cond (has_fetched f) (Some docs) None) (fetched-grow f.ask writes more within)))
 

@@ -9,28 +9,16 @@ use Rattle.task_ids.specs.declared.corpus.Corpus.{Corpus}
 use Rattle.task_ids.specs.declared.doc.Doc.{Doc}
 use Rattle.task_ids.specs.declared.task_id.TaskId.{TaskId}
 use Rattle.task_events.specs.declared.context.Context.{Context}
-use Rattle.task_events.specs.declared.request.BulkAsk.{BulkAsk}
-use Rattle.task_events.specs.declared.request.BulkShardAsk.{BulkShardAsk}
-use Rattle.task_events.specs.declared.request.FetchAsk.{FetchAsk}
 use Rattle.task_events.specs.declared.request.Request.{Request}
 use Rattle.task_events.specs.declared.request.Request.TheVariants as asks
 use Rattle.task_events.specs.declared.request.ScrollAsk.{ScrollAsk}
-use Rattle.task_events.specs.declared.request.SearchAsk.{SearchAsk}
-use Rattle.task_events.specs.declared.request.ShardAsk.{ShardAsk}
-use Rattle.task_events.specs.declared.reply.Counts.{Counts}
 use Rattle.task_events.specs.declared.reply.Reply.{Reply}
 use Rattle.task_events.specs.declared.step.Asked.{Asked}
 use Rattle.task_events.specs.declared.step.Do.{Do}
 use Rattle.task_events.specs.Kind.{Progress}
 use Rattle.task_events.specs.Kinds.{kind_of}
-use Rattle.task_events.specs.Readings.{search_reading, page_reading}
 use Rattle.task_events.specs.ScrollTask.{scroll_step}
-use Rattle.search_phase.specs.Fetches.{FetchState, new_fetch, fetched_in}
-use Rattle.search_phase.specs.Queries.{QueryState, new_query, version_at, queried}
-use Rattle.search_phase.specs.Searching.{new_search, next_step}
-use Rattle.search_phase.proofs.Runs.{search_first, search_follows, search_asked, search_answered, query_first, query_follows, query_turned, fetch_first, fetch_follows, fetch_turned}
-use Rattle.reindex.specs.Bulks.{new_bulk}
-use Rattle.reindex.specs.Writing.{new_writing}
+use Rattle.search_phase.proofs.Runs.{search_follows, search_asked, search_answered, query_first, query_follows, query_turned, fetch_first, fetch_follows, fetch_turned}
 use Rattle.reindex.proofs.BulkRuns.{bulk_first, bulk_follows, bulk_counted, bulk_one_more, bulk_answered}
 use Rattle.reindex.proofs.RootRuns.{root_first, root_follows, root_counted, root_one_more, root_answered}
 use Rattle.reindex.proofs.SliceRuns.{slice_first, slice_follows, slice_counted, slice_one_more, slice_answered}

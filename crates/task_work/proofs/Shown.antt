@@ -1,11 +1,10 @@
 -- Work over a shard that shows the same from where the work reads it is the same work.
-use Rattle.std.proofs.Common.{◌≡◌, ℕ, ◌+◌, ◌≤◌, Bool, true, false, ◌*◌, cond, not, List, [], ◌∷◌, ◌++◌, length, take, Option, Some, None, option_map, refl, sym, ap, subst, ◌∙◌, arith}
+use Rattle.std.proofs.Common.{◌≡◌, ℕ, ◌+◌, ◌≤◌, Bool, ◌*◌, not, List, [], ◌∷◌, ◌++◌, length, take, Option, Some, None, option_map, refl, sym, ap, subst, ◌∙◌, arith}
 use Rattle.std.specs.Prelude.{filter_map, unwrap_or, ◌==◌, if◌then◌else◌}
 use Rattle.std.specs.Map.{lookup}
 use Rattle.std.proofs.lemmas.List.{length-append}
 use Rattle.task_ids.specs.declared.doc.Doc.{Doc}
 use Rattle.task_ids.specs.Rows.{Row, rows_at}
-use Rattle.task_events.specs.declared.request.ShardAsk.{ShardAsk}
 use Rattle.task_events.specs.declared.request.WriteNote.{WriteNote}
 use Rattle.task_events.specs.declared.reply.Hit.{Hit}
 use Rattle.task_events.specs.declared.reply.Reply.TheVariants.{Hits}
@@ -16,7 +15,7 @@ use Rattle.task_events.specs.QueryTask.{query_step, rows_for}
 use Rattle.task_events.specs.Written.{note_of, notes_of, notes_at}
 use Rattle.shard_docs.specs.Shown.{ShowsFrom}
 use Rattle.shard_docs.proofs.ShownMore.{same_alive, shows_more}
-use Rattle.search_phase.specs.Queries.{QueryState, IsQueried, version_at, looked, queried, without_keys}
+use Rattle.search_phase.specs.Queries.{QueryState, IsQueried, version_at, queried}
 use Rattle.search_phase.specs.Fetches.{FetchState, has_fetched, fetched_in}
 use Rattle.search_phase.proofs.Runs.{queried_version}
 use Rattle.reindex.specs.Writing.{next_docs, with_notes}
@@ -80,13 +79,6 @@ module _ (from : ℕ) (own shown : List Doc) (shows : ShowsFrom from own shown) 
       looked = ap (λ v. record q { version = Some v }) (version_same q) ∙ is.looked ∙ sym (queried_same q.turns);
     }
 
-    is_queried_back : IsQueried q shown → IsQueried q own
-    is_queried_back is = record {
-      version_asked = is.version_asked;
-      version_fixed = is.version_fixed;
-      looked = sym (ap (λ v. record q { version = Some v }) (version_same q)) ∙ is.looked ∙ queried_same q.turns;
-    }
-
   -- after a turn it reads the same version
   reads_then : (q : QueryState) (turns : ℕ) → QueryReads from q → QueryReads from (queried q.ask (version_at q own) turns own)
   reads_then q turns reads version e =
@@ -124,16 +116,6 @@ module _ (from : ℕ) (own shown : List Doc) (shows : ShowsFrom from own shown) 
   works_on_shown (Bulk b) reads on = on
   works_on_shown (BulkShard w) reads on = on
 
-  pub works_on_own : (work : Work) → WorkReadsFrom from work → IsWorkOn work shown → IsWorkOn work own
-  works_on_own (Search s) reads on = on
-  works_on_own (Query q top) reads on = (is_queried_back q reads on.0, on.1 ∙ top_same q reads)
-  works_on_own (Fetch f hits) reads on = (on.0 ∙ fetched_same f reads f.turns, on.1 ∙ hits_same f reads)
-  works_on_own (Scroll s) reads on = on
-  works_on_own (Reindex r) reads on = on
-  works_on_own (Slice s) reads on = on
-  works_on_own (Bulk b) reads on = on
-  works_on_own (BulkShard w) reads on = on
-
   pub notes_shown : (work : Work) → work_notes work shown ≡ work_notes work own
   notes_shown work = of_place (place_of work)
     where
@@ -153,14 +135,3 @@ module _ (from : ℕ) (own shown : List Doc) (shows : ShowsFrom from own shown) 
   turn_shown (Slice s) reads = refl
   turn_shown (Bulk b) reads = refl
   turn_shown (BulkShard w) reads = ap (λ notes. BulkShard (with_notes w notes)) (notes_same from w.index w.shard (next_docs w) own shown shows low)
-
-  -- after a turn it reads from there on too
-  pub reads_after_turn : (work : Work) → WorkReadsFrom from work → WorkReadsFrom from (with_turn work own)
-  reads_after_turn (Search s) reads = reads
-  reads_after_turn (Query q top) reads = reads_then q (q.turns + 1) reads
-  reads_after_turn (Fetch f hits) reads = reads
-  reads_after_turn (Scroll s) reads = reads
-  reads_after_turn (Reindex r) reads = reads
-  reads_after_turn (Slice s) reads = reads
-  reads_after_turn (Bulk b) reads = reads
-  reads_after_turn (BulkShard w) reads = reads

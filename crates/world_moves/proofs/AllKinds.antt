@@ -20,6 +20,7 @@ use Rattle.task_events.specs.Readings.{search_reading}
 use Rattle.node_parts.specs.declared.running.Running.{Running}
 use Rattle.task_work.specs.declared.work.Work.{Work}
 use Rattle.task_work.specs.declared.work.Work.TheVariants as works
+use Rattle.task_work.specs.Plans.{no_progress}
 use Rattle.task_work.specs.Works.{IsWorkOn, IsNewWork}
 use Rattle.world_moves.specs.Facts.{Facts}
 use Rattle.world_moves.specs.Good.{IsGoodReply, IsWithin, IsContextWithin, Grows}
@@ -27,7 +28,6 @@ use Rattle.world_moves.specs.SearchRuns.{RunsSearch, RunsPage}
 use Rattle.world_moves.specs.Ties.{WorksFor, RunsAt, progress_from}
 use Rattle.world_moves.proofs.BulkLaws.{bulk_starts, bulk_rejected, bulk_cancelled, bulk_laws}
 use Rattle.world_moves.proofs.FetchLaws.{fetch_starts, fetch_rejected, fetch_cancelled, fetch_grows, fetch_laws}
-use Rattle.world_moves.proofs.FirstRuns.{starting}
 use Rattle.world_moves.proofs.KindLaws.{KindLaws}
 use Rattle.world_moves.proofs.PageLaws.{page_starts, page_rejected, page_cancelled, page_grows, page_laws}
 use Rattle.world_moves.proofs.PartLaws.{part_starts, part_rejected, part_cancelled, part_laws}
@@ -46,20 +46,20 @@ one_of v w is = cc
 
 module _ (cluster : Cluster) (corpus : Corpus) where
   -- work that has just started is as far as the past says
-  pub works_first : (t : TaskId) (new : Bool) (request : Request) (page : Option Context) (w : Work) → IsNewWork t request cluster.shards page w → ((writes : List Doc) → IsWorkOn w writes) → IsPageOf cluster corpus page request → IsWithin cluster corpus request
-      → WorksFor cluster corpus t new (starting page) [] [] (Some request) w
-  works_first t new (asks.Search ask) page w is on sound within = subst (RunsSearch cluster corpus (search_reading t ask cluster.shards) [] [] []) (one_of _ w is) (search_starts cluster corpus ask t within)
-  works_first t new (asks.Query ask) page w is on sound within = query_starts cluster corpus ask t w (one_of _ w is) (on _) within
-  works_first t new (asks.Fetch ask) page w is on sound within = fetch_starts cluster corpus ask t w (one_of _ w is) (on _) within
-  works_first t new (asks.Scroll ask) (Some c) w is on sound within = subst (RunsPage cluster corpus ask.id new (Some c) [] [] []) (one_of _ w is) (page_starts cluster corpus ask new c sound.0 sound.1 sound.2)
-  works_first t new (asks.Scroll ask) None w is on sound within = absurd (cc)
-  works_first t new (asks.Reindex ask) page w is on sound within = reindex_starts cluster t page ask w is
-  works_first t new (asks.Slice ask) page w is on sound within = slice_starts cluster t page ask w is
-  works_first t new (asks.Bulk ask) page w is on sound within = bulk_starts cluster corpus ask t page w is within
-  works_first t new (asks.BulkShard ask) page w is on sound within = part_starts cluster corpus ask t page page w is within
+  pub works_first : (t : TaskId) (new : Bool) (request : Request) (page : Option Context) (w : Work) → IsNewWork t request cluster.shards page w → IsPageOf cluster corpus page request → IsWithin cluster corpus request
+      → WorksFor cluster corpus t new (no_progress page) [] [] (Some request) w
+  works_first t new (asks.Search ask) page w is sound within = subst (RunsSearch cluster corpus (search_reading t ask cluster.shards) [] [] []) (one_of _ w is) (search_starts cluster corpus ask t within)
+  works_first t new (asks.Query ask) page w is sound within = query_starts cluster corpus ask w (one_of _ w is) within
+  works_first t new (asks.Fetch ask) page w is sound within = fetch_starts cluster corpus ask w (one_of _ w is) within
+  works_first t new (asks.Scroll ask) (Some c) w is sound within = subst (RunsPage cluster corpus ask.id new (Some c) [] [] []) (one_of _ w is) (page_starts cluster corpus ask new c sound.0 sound.1 sound.2)
+  works_first t new (asks.Scroll ask) None w is sound within = absurd (cc)
+  works_first t new (asks.Reindex ask) page w is sound within = reindex_starts cluster t page ask w is
+  works_first t new (asks.Slice ask) page w is sound within = slice_starts cluster t page ask w is
+  works_first t new (asks.Bulk ask) page w is sound within = bulk_starts cluster corpus ask t page w is within
+  works_first t new (asks.BulkShard ask) page w is sound within = part_starts cluster corpus ask t page page w is within
 
   -- a page whose task has not passed is none yet
-  pub page_first : (t : TaskId) (ask : ScrollAsk) (w : Work) → WorksFor cluster corpus t true (starting None) [] [] (Some (asks.Scroll ask)) w
+  pub page_first : (t : TaskId) (ask : ScrollAsk) (w : Work) → WorksFor cluster corpus t true (no_progress None) [] [] (Some (asks.Scroll ask)) w
   page_first t ask w = (refl, refl, refl, refl)
 
   -- each request can be rejected, and cancelled with what a task of it can have counted
@@ -87,8 +87,8 @@ module _ (cluster : Cluster) (corpus : Corpus) where
 pub works_grow : (cluster : Cluster) (corpus later : Corpus) → Grows cluster corpus later → (t : TaskId) (new : Bool) (p : Progress) (requests : List Request) (awaited : List (Option ℕ)) (o : Option Request) (w : Work)
     → WorksFor cluster corpus t new p requests awaited o w → WorksFor cluster later t new p requests awaited o w
 works_grow cluster corpus later grows t new p requests awaited (Some (asks.Search ask)) (works.Search s) x = search_grows cluster corpus later grows (search_reading t ask cluster.shards) p.asked requests awaited s x
-works_grow cluster corpus later grows t new p requests awaited (Some (asks.Query ask)) w x = query_grows cluster corpus later grows p.version p.turns awaited ask w x
-works_grow cluster corpus later grows t new p requests awaited (Some (asks.Fetch ask)) w x = fetch_grows cluster corpus later grows p.turns awaited ask w x
+works_grow cluster corpus later grows t new p requests awaited (Some (asks.Query ask)) w x = query_grows cluster corpus later grows t p awaited ask w x
+works_grow cluster corpus later grows t new p requests awaited (Some (asks.Fetch ask)) w x = fetch_grows cluster corpus later grows t p awaited ask w x
 works_grow cluster corpus later grows t new p requests awaited (Some (asks.Scroll ask)) w x = page_grows cluster corpus later grows ask.id new p.asked requests awaited p.page w x
 works_grow cluster corpus later grows t new p requests awaited (Some (asks.Reindex ask)) w x = x
 works_grow cluster corpus later grows t new p requests awaited (Some (asks.Slice ask)) w x = x

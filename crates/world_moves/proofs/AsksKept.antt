@@ -9,7 +9,8 @@ use Rattle.task_events.specs.declared.step.Asked.{Asked}
 use Rattle.task_events.specs.Kinds.{can_have}
 use Rattle.task_events.specs.Steps.{with_answer}
 use Rattle.world_moves.specs.AsksKnown.{KnowsAsks}
-use Rattle.world_moves.proofs.SearchAnswers.{noted, noted_alike}
+use Rattle.search_phase.proofs.Runs.{noted_alike}
+use Rattle.world_moves.proofs.SearchAnswers.{noted}
 
 -- it has asked for nothing yet
 pub knows_none : (shards : ℕ) (takes : ℕ → Reply → Bool) → KnowsAsks shards takes [] [] []

@@ -18,7 +18,7 @@ use Rattle.task_events.specs.Kind.{Progress}
 use Rattle.reindex.specs.BulkRuns.{IsBulkAt}
 use Rattle.reindex.specs.Bulks.{Bulking, new_bulk, bulk_next, bulk_with_ask, bulk_takes, bulk_with_answer}
 use Rattle.reindex.specs.OpenAsks.{is_settled}
-use Rattle.reindex.proofs.BulkRuns.{bulk_first, bulk_follows, bulk_counted, bulk_few, bulk_low, bulk_settled, bulk_asked, bulk_may_ask_when, bulk_may_take, bulk_answered, bulk_takes_after_ask, bulk_takes_after_answer}
+use Rattle.reindex.proofs.BulkRuns.{bulk_first, bulk_few, bulk_low, bulk_settled, bulk_asked, bulk_may_ask_when, bulk_may_take, bulk_answered, bulk_takes_after_ask, bulk_takes_after_answer}
 use Rattle.task_work.specs.declared.work.Work.{Work}
 use Rattle.task_work.specs.declared.work.Work.TheVariants as works
 use Rattle.task_work.specs.Works.{IsNewWork}
@@ -50,16 +50,14 @@ module _ (cluster : Cluster) (corpus : Corpus) (ask : BulkAsk) where
 module _ (cluster : Cluster) (corpus : Corpus) (t : TaskId) (p : Progress) (requests : List Request) (awaited : List (Option ℕ)) where
   pub bulk_laws : (ask : BulkAsk) (w : Work) → RunsBulk cluster.shards p.asked requests awaited ask w → KindLaws cluster corpus t p requests awaited (Some (asks.Bulk ask)) w
   bulk_laws ask (works.Bulk b) x = record {
-    follows = λ now. ap Some (bulk_follows x.here);
-    counts = bulk_counted x.here;
+    at = x.here;
     low = low;
-    on = tt;
     place = refl;
     docs = sym (no_docs p.turns);
     full = inl refl;
     in_shard = λ place at. tt;
     turns_there = λ writes now e. absurd (no_turn _ _ _ e);
-    turned = λ now later next grows same on. absurd (no_turn _ _ _ next);
+    turned = λ now later next grows same. absurd (no_turn _ _ _ next);
     asks = λ request now plan. let part = its_part request (plan [] tt) in record {
       few = let made = bulk_few x.here in let most = cluster.shards_in_range.1 in omega (arith, long, made, most);
       may = bulk_may_ask_when b request (plan [] tt);

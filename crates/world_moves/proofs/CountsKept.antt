@@ -21,7 +21,7 @@ use Rattle.world_moves.specs.Facts.{facts_of, awaited_by, requested_by}
 use Rattle.world_moves.specs.Good.{so_far}
 use Rattle.world_moves.specs.Ties.{Ties, progress_from}
 use Rattle.world_moves.proofs.AllKinds.{passed_laws}
-use Rattle.world_moves.proofs.KindLaws.{KindLaws}
+use Rattle.world_moves.proofs.KindLaws.{KindLaws, has_counted}
 use Rattle.world_moves.proofs.StepsAfter.{kept_running}
 
 -- a task of any kind can have counted nothing
@@ -45,8 +45,8 @@ module _ (cluster : Cluster) (corpus : Corpus) (script : Script) (h : List Event
       laws = passed_laws cluster (so_far corpus script) h t (facts_of (scripted script) t h) r passed (kept_running cluster corpus script h tasks tables flight ties t live r here)
 
       by_request : (o : Option Request) → request_of (scripted script) t h ≡ o → counted cluster corpus (scripted script) t h ≡ counts_of r.work
-      by_request None e = rw e (let same = laws.counts in rw e at same)
-      by_request (Some q) e = rw e (let same = laws.counts in rw e at same)
+      by_request None e = rw e (let same = has_counted laws in rw e at same)
+      by_request (Some q) e = rw e (let same = has_counted laws in rw e at same)
 
   pub counts_below : (q : Request) → request_of (scripted script) t h ≡ Some q → are_below (kind_of q).limit (counted cluster corpus (scripted script) t h) ≡ true
   counts_below q asked =

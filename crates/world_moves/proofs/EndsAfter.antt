@@ -36,7 +36,7 @@ use Rattle.node_parts.specs.Running.{DoesNext}
 use Rattle.world_moves.proofs.NoneAwaited.{none_unanswered}
 use Rattle.world_moves.proofs.Children.{child_request}
 use Rattle.world_moves.proofs.AllKinds.{passed_laws}
-use Rattle.world_moves.proofs.KindLaws.{KindLaws, IsGoodEnd}
+use Rattle.world_moves.proofs.KindLaws.{KindLaws, IsGoodEnd, is_on}
 use Rattle.world_moves.proofs.TasksAfterLeave.{ends, runs, after_leave, no_unbans}
 use Rattle.world_moves.proofs.PlainEnds.{replies_plainly}
 use Rattle.world_moves.specs.Good.{so_far, own_writes}
@@ -50,7 +50,7 @@ module _ (cluster : Cluster) (corpus : Corpus) (script : Script) (h : List Event
   laws = passed_laws cluster (so_far corpus script) h t (facts_of (scripted script) t h) r passed (runs cluster corpus script h tasks tables flight ties t live r here)
 
   pub step : next_of r.work own now ≡ Finish reply
-  step = next own laws.on
+  step = next own (is_on laws)
 
   pub all_come : none_awaited (awaited_by t h) ≡ true
   all_come = laws.none_left own now reply step

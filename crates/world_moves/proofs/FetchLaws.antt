@@ -9,28 +9,25 @@ use Rattle.task_events.specs.declared.request.Request.TheVariants as asks
 use Rattle.task_events.specs.declared.request.FetchAsk.{FetchAsk}
 use Rattle.task_events.specs.declared.reply.Reply.TheVariants.{Hits, Cancelled, Rejected}
 use Rattle.task_events.specs.Answers.{fetched}
-use Rattle.task_events.specs.FetchTask.{fetch_step}
 use Rattle.task_events.specs.declared.reply.Counts.{Counts}
 use Rattle.task_events.specs.Kind.{Progress}
 use Rattle.task_events.specs.Counting.{are_below}
 use Rattle.search_phase.specs.Fetches.{new_fetch}
+use Rattle.search_phase.proofs.Runs.{fetch_first}
 use Rattle.task_work.specs.declared.work.Work.{Work}
 use Rattle.task_work.specs.declared.work.Work.TheVariants as works
-use Rattle.task_work.specs.Works.{IsWorkOn}
+use Rattle.task_work.proofs.Growing.{work_grown}
+use Rattle.task_work.proofs.Plans.{work_turned}
 use Rattle.world_moves.specs.Facts.{none_awaited}
 use Rattle.world_moves.specs.FetchRuns.{RunsFetch}
 use Rattle.world_moves.specs.Good.{IsGoodReply, IsWithin, Grows, written}
 use Rattle.world_moves.proofs.KindLaws.{KindLaws, IsPlain, asks_something}
-use Rattle.world_moves.proofs.Growing.{fetch_on_grown}
 use Rattle.world_moves.proofs.LookingLaws.{asks_nothing, work_ends, looks_on, no_docs}
 use Rattle.world_moves.proofs.PossibleHits.{hits_possible}
 
 module _ (cluster : Cluster) (corpus : Corpus) (ask : FetchAsk) where
-  pub fetch_starts : (t : TaskId) (w : Work) → (works.Fetch (new_fetch ask) None) ≡ w → IsWorkOn w (written cluster corpus ask.index ask.shard) → IsWithin cluster corpus (asks.Fetch ask) → RunsFetch cluster corpus 0 [] ask w
-  fetch_starts t w is on within = subst (RunsFetch cluster corpus 0 [] ask) is (first (subst (λ v. IsWorkOn v (written cluster corpus ask.index ask.shard)) (sym is) on))
-    where
-      first : IsWorkOn (works.Fetch (new_fetch ask) None) (written cluster corpus ask.index ask.shard) → RunsFetch cluster corpus 0 [] ask (works.Fetch (new_fetch ask) None)
-      first on = record { ask_is = refl; turns_are = refl; asks_nothing = refl; within = within.1 ask.version refl; on = on }
+  pub fetch_starts : (w : Work) → (works.Fetch (new_fetch ask) None) ≡ w → IsWithin cluster corpus (asks.Fetch ask) → RunsFetch cluster corpus 0 [] ask w
+  fetch_starts w is within = subst (RunsFetch cluster corpus 0 [] ask) is (record { here = fetch_first ask (written cluster corpus ask.index ask.shard); found = refl; asks_nothing = refl; within = within.1 ask.version refl })
 
   pub fetch_rejected : (n : ℕ) → IsGoodReply cluster corpus (asks.Fetch ask) (Rejected n)
   fetch_rejected n = (refl, tt)
@@ -39,16 +36,16 @@ module _ (cluster : Cluster) (corpus : Corpus) (ask : FetchAsk) where
   fetch_cancelled t c counts low = (low, tt)
 
 -- it stays where more is written
-module _ (cluster : Cluster) (corpus later : Corpus) (grows : Grows cluster corpus later) (turns : ℕ) (awaited : List (Option ℕ)) where
-  pub fetch_grows : (ask : FetchAsk) (w : Work) → RunsFetch cluster corpus turns awaited ask w → RunsFetch cluster later turns awaited ask w
-  fetch_grows ask (works.Fetch f hits) x = record {
-    ask_is = x.ask_is;
-    turns_are = x.turns_are;
-    asks_nothing = x.asks_nothing;
-    within = rw more.1 (omega (arith, x.within, length-append (written cluster corpus ask.index ask.shard) more.0));
-    on = rw more.1 (fetch_on_grown f hits (written cluster corpus ask.index ask.shard) more.0 (subst (λ k. k.version ≤ length (written cluster corpus ask.index ask.shard)) (sym x.ask_is) x.within) x.on);
-  }
+module _ (cluster : Cluster) (corpus later : Corpus) (grows : Grows cluster corpus later) (t : TaskId) (p : Progress) (awaited : List (Option ℕ)) where
+  pub fetch_grows : (ask : FetchAsk) (w : Work) → RunsFetch cluster corpus p.turns awaited ask w → RunsFetch cluster later p.turns awaited ask w
+  fetch_grows ask (works.Fetch f hits) x =
+      let here : f.ask.version ≤ length mine = subst (λ (k : FetchAsk). k.version ≤ length mine) (sym x.here.ask_is) x.within in
+      let grown = work_grown t cluster.shards p mine more.0 (asks.Fetch ask) (works.Fetch f hits) here (x.here, x.found) in
+      rw more.1 (record { here = grown.0; found = grown.1; asks_nothing = x.asks_nothing; within = omega (arith, x.within, length-append mine more.0) })
     where
+      mine : List Doc
+      mine = written cluster corpus ask.index ask.shard
+
       more : (docs : List Doc) × (written cluster later ask.index ask.shard ≡ written cluster corpus ask.index ask.shard ++ docs)
       more = grows ask.index ask.shard
   fetch_grows ask _ x = absurd x
@@ -56,29 +53,25 @@ module _ (cluster : Cluster) (corpus later : Corpus) (grows : Grows cluster corp
 module _ (cluster : Cluster) (corpus : Corpus) (t : TaskId) (p : Progress) (requests : List Request) (awaited : List (Option ℕ)) where
   pub fetch_laws : (ask : FetchAsk) (w : Work) → RunsFetch cluster corpus p.turns awaited ask w → KindLaws cluster corpus t p requests awaited (Some (asks.Fetch ask)) w
   fetch_laws ask (works.Fetch f hits) x = record {
-    follows = λ now. ap (λ z. Some (fetch_step z p.turns mine)) (sym x.ask_is) ∙ ap (λ z. Some (fetch_step f.ask z mine)) (sym x.turns_are);
-    counts = refl;
+    at = (x.here, x.found);
     low = refl;
-    on = x.on;
-    place = ap (λ k. Some (k.index, k.shard)) x.ask_is;
+    place = ap (λ k. Some (k.index, k.shard)) x.here.ask_is;
     docs = sym (no_docs p.turns);
     full = inl refl;
     in_shard = λ place at. tt;
     turns_there = λ writes now e. refl;
-    turned = λ now later next grows same on. let more = grows ask.index ask.shard in let low = x.within in record {
-      ask_is = x.ask_is;
-      turns_are = rw x.turns_are (omega arith);
-      asks_nothing = x.asks_nothing;
-      within = rw more.1 (omega (arith, low, length-append mine more.0));
-      on = on;
-    };
-    asks = λ request now plan. absurd (asks_nothing _ _ request (plan mine x.on));
+    turned = λ now later next grows same.
+        let so = work_turned t cluster.shards p mine (asks.Fetch ask) (works.Fetch f hits) _ _ refl same (x.here, x.found) in
+        let more = grows ask.index ask.shard in
+        let low = x.within in
+        record { here = so.0; found = so.1; asks_nothing = x.asks_nothing; within = rw more.1 (omega (arith, low, length-append mine more.0)) };
+    asks = λ request now plan. absurd (asks_nothing _ _ request (plan mine (x.here.on, x.found)));
     takes_answer = λ i r reply now there unanswered good. absurd (asks_something awaited i unanswered x.asks_nothing);
     moves = λ few writes now none. looks_on _ _;
     none_left = λ writes now end e. ap none_awaited x.asks_nothing;
     plain = λ writes now end e. subst IsPlain (sym (work_ends _ (Hits (fetched f.ask writes)) end e)) (refl, refl);
     ends_well = λ few now end e.
-        let hits_are : fetched f.ask mine ≡ fetched ask mine = ap (λ k. fetched k mine) x.ask_is in
+        let hits_are : fetched f.ask mine ≡ fetched ask mine = ap (λ k. fetched k mine) x.here.ask_is in
         subst (IsGoodReply cluster corpus (asks.Fetch ask)) (sym (work_ends _ _ end e ∙ ap Hits hits_are)) (hits_possible ask mine, record { within = x.within; says = refl });
   }
     where

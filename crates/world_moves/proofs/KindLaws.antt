@@ -29,6 +29,8 @@ use Rattle.task_events.specs.Tasks.{no_counts}
 use Rattle.task_events.specs.Written.{docs_of, docs_of_turn}
 use Rattle.corpus_shards.specs.Placed.{AreFew}
 use Rattle.task_work.specs.declared.work.Work.{Work}
+use Rattle.task_work.specs.Plans.{IsWorkAt, progress_with_turn}
+use Rattle.task_work.proofs.Plans.{work_plans, work_counted, work_on}
 use Rattle.task_work.specs.Works.{IsWorkOn, next_of, with_turn, can_ask, work_with_ask, work_takes, work_with_answer, work_notes, docs_next, counts_of, place_of, does_wait, due_in}
 use Rattle.world_moves.specs.Facts.{none_awaited}
 use Rattle.world_moves.specs.Good.{IsGoodReply, IsWithin, Grows, own_writes}
@@ -45,14 +47,10 @@ abbrev pub IsGoodEnd : Cluster → Corpus → Option Request → Reply → Type 
 IsGoodEnd cluster corpus None end = Unit {0}
 IsGoodEnd cluster corpus (Some r) end = IsGoodReply cluster corpus r end
 
--- how far a task has come with one more turn, that read its shard and wrote this
-abbrev pub with_turn_of : Progress → List Doc → List WriteNote → Progress
-with_turn_of p writes notes = record p {
-  turns = 1 + p.turns;
-  version = option_or p.version (Some (length writes));
-  created = count_by (λ note. note.created) notes + p.created;
-  updated = count_by (λ note. not note.created) notes + p.updated;
-}
+-- its work has come exactly so far, for what it was asked to do
+abbrev pub IsAt : Cluster → Corpus → TaskId → Progress → Option Request → Work → Type 0
+IsAt cluster corpus t p None w = ⊥
+IsAt cluster corpus t p (Some r) w = IsWorkAt t r cluster.shards p (own_writes cluster corpus (Some r)) w
 
 -- A search of its own was answered with hits, and named its context.
 pub record HasOpened (t : TaskId) (asked : List Asked) (requests : List Request) (id : TaskId) : Type 0 where
@@ -97,12 +95,11 @@ module _ (cluster : Cluster) (corpus : Corpus) (t : TaskId) (p : Progress) (requ
     pub after : (answer : Option Reply) → answer ≡ Some reply → WorksFor cluster corpus t false (record p { asked = map (with_answer (1 + i) answer) p.asked; came = slice_set p.came i now }) requests (slice_set awaited i None) o (work_with_answer w (1 + i) reply now)
 
   pub record KindLaws : Type 0 where
-    -- what it does is what the plan says, and it has counted what the plan says
-    pub follows : (now : ℕ) → option_map (λ r. (kind_of r).step cluster corpus t p now) o ≡ Some (next_of w (own_writes cluster corpus o) now)
-    pub counts : option_map_or (λ r. (kind_of r).counts p) o no_counts ≡ counts_of w
+    -- it has come as far as the past says
+    pub at : IsAt cluster corpus t p o w
+    -- what it has counted is low enough for its kind
     pub low : option_map_or (λ r. are_below (kind_of r).limit (counts_of w)) o true ≡ true
-    -- it is on the writes of its shard, looks at them, and writes its documents to them
-    pub on : IsWorkOn w (own_writes cluster corpus o)
+    -- it looks at its shard, and writes its documents there
     pub place : place_of w ≡ option_and_then (λ r. (kind_of r).place) o
     pub docs : docs_next w ≡ docs_of_turn (docs_of o) p.turns
     -- all turns before one that writes were full
@@ -113,8 +110,7 @@ module _ (cluster : Cluster) (corpus : Corpus) (t : TaskId) (p : Progress) (requ
     pub turns_there : (writes : List Doc) (now : ℕ) → next_of w writes now ≡ Turn → is_some (place_of w) ≡ true
     -- it stays as the past says after a turn, an ask and an answer
     pub turned : (now : ℕ) (later : Corpus) → next_of w (own_writes cluster corpus o) now ≡ Turn → Grows cluster corpus later → own_writes cluster later o ≡ own_writes cluster corpus o ++ docs_next w
-        → IsWorkOn (with_turn w (own_writes cluster corpus o)) (own_writes cluster later o)
-        → WorksFor cluster later t false (with_turn_of p (own_writes cluster corpus o) (work_notes w (own_writes cluster corpus o))) requests awaited o (with_turn w (own_writes cluster corpus o))
+        → WorksFor cluster later t false (progress_with_turn p (own_writes cluster corpus o) (work_notes w (own_writes cluster corpus o))) requests awaited o (with_turn w (own_writes cluster corpus o))
     pub asks : (request : Request) (now : ℕ) → ((writes : List Doc) → IsWorkOn w writes → next_of w writes now ≡ AskNext request) → Asks request
     pub takes_answer : (i : ℕ) (r : Request) (reply : Reply) (now : ℕ) → slice_get requests i ≡ Some r → is_some (get_or awaited i None) ≡ true → IsGoodReply cluster corpus r reply → Takes i reply now
     -- where all its asks are answered, and they are not too many, it waits for a moment at most
@@ -127,3 +123,26 @@ module _ (cluster : Cluster) (corpus : Corpus) (t : TaskId) (p : Progress) (requ
 -- where nothing is asked no answer is awaited
 pub asks_something : (awaited : List (Option ℕ)) (i : ℕ) → is_some (get_or awaited i None) ≡ true → awaited ≡ [] → ⊥
 asks_something awaited i unanswered e = let f : false ≡ true = sym (ap (λ xs. is_some (get_or xs i None)) e) ∙ unanswered in cc
+
+-- so it does and counts what the plan says, over the writes of its shard
+module _ {cluster : Cluster} {corpus : Corpus} {t : TaskId} {p : Progress} {requests : List Request} {awaited : List (Option ℕ)} {o : Option Request} {w : Work} (laws : KindLaws cluster corpus t p requests awaited o w) where
+  pub follows : (now : ℕ) → option_map (λ r. (kind_of r).step cluster corpus t p now) o ≡ Some (next_of w (own_writes cluster corpus o) now)
+  follows now = of_request o laws.at
+    where
+      of_request : (o : Option Request) → IsAt cluster corpus t p o w → option_map (λ r. (kind_of r).step cluster corpus t p now) o ≡ Some (next_of w (own_writes cluster corpus o) now)
+      of_request None at = absurd at
+      of_request (Some r) at = ap Some (work_plans cluster corpus t r p now w at)
+
+  pub has_counted : option_map_or (λ r. (kind_of r).counts p) o no_counts ≡ counts_of w
+  has_counted = of_request o laws.at
+    where
+      of_request : (o : Option Request) → IsAt cluster corpus t p o w → option_map_or (λ r. (kind_of r).counts p) o no_counts ≡ counts_of w
+      of_request None at = absurd at
+      of_request (Some r) at = work_counted t cluster.shards r p _ w at
+
+  pub is_on : IsWorkOn w (own_writes cluster corpus o)
+  is_on = of_request o laws.at
+    where
+      of_request : (o : Option Request) → IsAt cluster corpus t p o w → IsWorkOn w (own_writes cluster corpus o)
+      of_request None at = absurd at
+      of_request (Some r) at = work_on t cluster.shards r p _ w at

@@ -36,6 +36,3 @@ no_docs turns = ap (take rows_per_turn) (dropped (turns * rows_per_turn)) ∙ ta
     taken : (n : ℕ) → take n nothing ≡ nothing
     taken zero = refl
     taken (suc n) = refl
-
-pub one_turn_more : (n m : ℕ) → n ≡ m → n + 1 ≡ 1 + m
-one_turn_more n m e = omega (arith, e)

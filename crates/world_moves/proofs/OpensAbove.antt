@@ -40,6 +40,7 @@ use Rattle.world_moves.specs.Plain.{EndsPlainly}
 use Rattle.world_moves.specs.Reads.{Oldest, ReadsFrom}
 use Rattle.world_moves.specs.SearchRuns.{RunsSearch, SearchesFor}
 use Rattle.world_moves.specs.Ties.{Ties, IsTied, WorksFor, RunsAt, progress_from, task_at}
+use Rattle.world_moves.proofs.KindLaws.{is_on}
 use Rattle.world_moves.proofs.AllKinds.{passed_laws}
 use Rattle.world_moves.proofs.PagesEnd.{found_keeps}
 use Rattle.world_moves.proofs.PlainEnds.{replies_plainly}
@@ -64,7 +65,7 @@ module _ (cluster : Cluster) (corpus : Corpus) (script : Script) (h : List Event
   runs = kept_running cluster corpus script h tasks tables flight ties t live r here
 
   step : next_of r.work own now ≡ Finish reply
-  step = next own (passed_laws cluster look h t (facts_of (scripted script) t h) r passed runs).on
+  step = next own (is_on (passed_laws cluster look h t (facts_of (scripted script) t h) r passed runs))
 
   -- the top of a query
   pub top_from : (ask : ShardAsk) (top : ShardTop) → request_of (scripted script) t h ≡ Some (asks.Query ask) → reply ≡ Top top → oldest ask.index ask.shard ≤ top.version

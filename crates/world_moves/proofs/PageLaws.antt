@@ -19,7 +19,6 @@ use Rattle.task_events.specs.Steps.{with_answer as asked_with_answer}
 use Rattle.task_events.specs.Kind.{Progress}
 use Rattle.task_events.specs.Counting.{are_below}
 use Rattle.task_events.specs.Kinds.{can_have}
-use Rattle.task_events.specs.ScrollTask.{scroll_step}
 use Rattle.task_events.specs.declared.reply.Counts.{Counts}
 use Rattle.task_events.specs.declared.reply.ShardCount.{ShardCount}
 use Rattle.search_phase.specs.Searching.{new_search}
@@ -27,13 +26,14 @@ use Rattle.search_phase.proofs.Readings.{page_is_reading}
 use Rattle.search_phase.proofs.PossibleReply.{page_is_possible}
 use Rattle.task_work.specs.declared.work.Work.{Work}
 use Rattle.task_work.specs.declared.work.Work.TheVariants as works
+use Rattle.task_work.specs.Plans.{IsPageAt}
 use Rattle.task_work.specs.Works.{work_with_ask, work_with_answer}
 use Rattle.world_moves.specs.Good.{IsGoodReply, IsContextWithin, IsShardWithin, Grows}
 use Rattle.world_moves.specs.SearchRuns.{RunsPage}
 use Rattle.world_moves.proofs.KindLaws.{KindLaws}
 use Rattle.world_moves.proofs.SearchAsks as asking
 use Rattle.world_moves.proofs.LookingLaws.{no_docs}
-use Rattle.world_moves.proofs.SearchLaws.{starts_so, follows_so, never_turns, takes_so, answered_so, moves_so, none_left_so, plain_so, possible_so, search_grows}
+use Rattle.world_moves.proofs.SearchLaws.{starts_so, never_turns, takes_so, answered_so, moves_so, none_left_so, plain_so, possible_so, search_grows}
 
 module _ (cluster : Cluster) (corpus : Corpus) (ask : ScrollAsk) where
   pub page_starts : (new : Bool) (c : Context) → c.id ≡ ask.id → AreCounts c.shards → IsContextWithin cluster corpus c → RunsPage cluster corpus ask.id new (Some c) [] [] [] (works.Scroll (new_search (page_reading c)))
@@ -65,16 +65,14 @@ module _ (cluster : Cluster) (corpus : Corpus) (t : TaskId) (p : Progress) (requ
   page_of_context (Some c) is ask (works.Scroll s) (own, x) =
       let r : Reading = page_reading c in
       record {
-        follows = λ now. ap (λ page. Some (scroll_step page p.asked)) is ∙ ap Some (follows_so cluster corpus r p.asked requests awaited s x);
-        counts = refl;
+        at = subst (λ page. IsPageAt page p.asked (works.Scroll s)) (sym is) x.state_is;
         low = refl;
-        on = tt;
         place = refl;
         docs = sym (no_docs p.turns);
         full = inl refl;
         in_shard = λ place at. tt;
         turns_there = λ writes now e. absurd (never_turns cluster corpus r p.asked requests awaited s x e);
-        turned = λ now later next grows same on. absurd (never_turns cluster corpus r p.asked requests awaited s x next);
+        turned = λ now later next grows same. absurd (never_turns cluster corpus r p.asked requests awaited s x next);
         asks = λ request now plan. record {
           few = asking.few_asks cluster corpus r p.asked requests awaited request s x (plan [] tt);
           may = asking.may_ask cluster corpus r p.asked requests awaited request s x (plan [] tt);

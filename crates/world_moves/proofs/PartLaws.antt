@@ -17,14 +17,15 @@ use Rattle.task_events.specs.Counting.{are_below}
 use Rattle.task_events.specs.Kind.{Progress}
 use Rattle.task_events.specs.Looking.{rows_per_turn}
 use Rattle.reindex.specs.Writing.{Writing, next_docs, writing_counts}
-use Rattle.reindex.proofs.WritingRuns.{writing_first, writing_follows, writing_docs, writing_full, writing_low, writing_turned}
+use Rattle.reindex.proofs.WritingRuns.{writing_first, writing_docs, writing_full, writing_low}
 use Rattle.task_work.specs.declared.work.Work.{Work}
 use Rattle.task_work.specs.declared.work.Work.TheVariants as works
+use Rattle.task_work.specs.Plans.{no_progress}
 use Rattle.task_work.specs.Works.{IsNewWork}
+use Rattle.task_work.proofs.Plans.{work_turned}
 use Rattle.world_moves.specs.BulkRuns.{RunsPart}
 use Rattle.world_moves.specs.Facts.{none_awaited}
 use Rattle.world_moves.specs.Good.{IsGoodReply, IsWithin, written}
-use Rattle.world_moves.proofs.FirstRuns.{starting}
 use Rattle.world_moves.proofs.KindLaws.{KindLaws, IsPlain, asks_something}
 use Rattle.world_moves.proofs.LookingLaws.{asks_nothing, work_ends, looks_on}
 
@@ -43,8 +44,8 @@ all_before P (suc n) [] all = tt
 all_before P (suc n) (doc ∷ docs) all = (all.0, all_before P n docs all.1)
 
 module _ (cluster : Cluster) (corpus : Corpus) (ask : BulkShardAsk) where
-  pub part_starts : (t : TaskId) (page shown : Option Context) (w : Work) → IsNewWork t (asks.BulkShard ask) cluster.shards page w → IsWithin cluster corpus (asks.BulkShard ask) → RunsPart cluster (starting shown) [] ask w
-  part_starts t page shown w new within = subst (RunsPart cluster (starting shown) [] ask) (one_work _ w new) (record { here = writing_first ask; asks_nothing = refl; within = within })
+  pub part_starts : (t : TaskId) (page shown : Option Context) (w : Work) → IsNewWork t (asks.BulkShard ask) cluster.shards page w → IsWithin cluster corpus (asks.BulkShard ask) → RunsPart cluster (no_progress shown) [] ask w
+  part_starts t page shown w new within = subst (RunsPart cluster (no_progress shown) [] ask) (one_work _ w new) (record { here = writing_first ask; asks_nothing = refl; within = within })
 
   pub part_rejected : (n : ℕ) → IsGoodReply cluster corpus (asks.BulkShard ask) (Rejected n)
   part_rejected n = (refl, tt)
@@ -55,16 +56,14 @@ module _ (cluster : Cluster) (corpus : Corpus) (ask : BulkShardAsk) where
 module _ (cluster : Cluster) (corpus : Corpus) (t : TaskId) (p : Progress) (requests : List Request) (awaited : List (Option ℕ)) where
   pub part_laws : (ask : BulkShardAsk) (w : Work) → RunsPart cluster p awaited ask w → KindLaws cluster corpus t p requests awaited (Some (asks.BulkShard ask)) w
   part_laws ask (works.BulkShard w) x = record {
-    follows = λ now. ap Some (writing_follows p x.here);
-    counts = λ i. record { total = 0; created = sym x.here.created_is i; updated = sym x.here.updated_is i; batches = 0; failures = 0 };
+    at = x.here;
     low = low;
-    on = tt;
     place = λ i. Some (x.here.index_is i, x.here.shard_is i);
     docs = writing_docs x.here;
     full = writing_full x.here;
     in_shard = in_shard;
     turns_there = λ writes now e. refl;
-    turned = λ now later next grows same on. record { here = writing_turned x.here (written cluster corpus ask.dest ask.shard); asks_nothing = x.asks_nothing; within = x.within };
+    turned = λ now later next grows same. record { here = work_turned t cluster.shards p (written cluster corpus ask.dest ask.shard) (asks.BulkShard ask) (works.BulkShard w) _ _ refl same x.here; asks_nothing = x.asks_nothing; within = x.within };
     asks = λ request now plan. absurd (asks_nothing _ _ request (plan [] tt));
     takes_answer = λ i r reply now there unanswered good. absurd (asks_something awaited i unanswered x.asks_nothing);
     moves = λ few writes now none. looks_on _ _;

@@ -22,6 +22,7 @@ use Rattle.task_events.specs.Tasks.{is_new}
 use Rattle.task_laws.proofs.Asks.{ask_facts}
 use Rattle.task_work.specs.declared.work.Work.{Work}
 use Rattle.task_work.specs.declared.work.Work.TheVariants as works
+use Rattle.task_work.specs.Plans.{no_progress}
 use Rattle.task_work.specs.Works.{IsWorkOn, IsNewWork}
 use Rattle.node_parts.specs.Starting.{page_in}
 use Rattle.world_moves.specs.BulkRuns.{RunsPart}
@@ -31,7 +32,6 @@ use Rattle.world_moves.specs.Ties.{WorksFor}
 use Rattle.world_moves.proofs.AllKinds.{works_first, page_first}
 use Rattle.world_moves.proofs.AsksCounted.{awaited_counted, requested_counted, counted}
 use Rattle.world_moves.proofs.BulkLaws.{bulk_starts}
-use Rattle.world_moves.proofs.FirstRuns.{starting}
 use Rattle.world_moves.proofs.PartLaws.{part_starts}
 use Rattle.world_moves.proofs.ReindexLaws.{reindex_starts, slice_starts}
 
@@ -86,13 +86,13 @@ module _ (cluster : Cluster) (corpus : Corpus) (t : TaskId) where
   still_works new p later asked came created updated version turns requests awaited (Some (asks.Scroll ask)) w none x = absurd (cc)
 
   -- the work with which a child is put: a page is none yet
-  pub put_works : (request : Request) (page : Option Context) (w : Work) → IsNewWork t request cluster.shards page w → ((writes : List Doc) → IsWorkOn w writes) → IsWithin cluster corpus request
-      → WorksFor cluster corpus t true (starting None) [] [] (Some request) w
-  put_works (asks.Scroll ask) page w is on within = page_first cluster corpus t ask w
-  put_works (asks.Search ask) page w is on within = works_first cluster corpus t true (asks.Search ask) None w is on tt within
-  put_works (asks.Query ask) page w is on within = works_first cluster corpus t true (asks.Query ask) None w is on tt within
-  put_works (asks.Fetch ask) page w is on within = works_first cluster corpus t true (asks.Fetch ask) None w is on tt within
-  put_works (asks.Reindex ask) page w is on within = reindex_starts cluster t page ask w is
-  put_works (asks.Slice ask) page w is on within = slice_starts cluster t page ask w is
-  put_works (asks.Bulk ask) page w is on within = bulk_starts cluster corpus ask t page w is within
-  put_works (asks.BulkShard ask) page w is on within = part_starts cluster corpus ask t page None w is within
+  pub put_works : (request : Request) (page : Option Context) (w : Work) → IsNewWork t request cluster.shards page w → IsWithin cluster corpus request
+      → WorksFor cluster corpus t true (no_progress None) [] [] (Some request) w
+  put_works (asks.Scroll ask) page w is within = page_first cluster corpus t ask w
+  put_works (asks.Search ask) page w is within = works_first cluster corpus t true (asks.Search ask) None w is tt within
+  put_works (asks.Query ask) page w is within = works_first cluster corpus t true (asks.Query ask) None w is tt within
+  put_works (asks.Fetch ask) page w is within = works_first cluster corpus t true (asks.Fetch ask) None w is tt within
+  put_works (asks.Reindex ask) page w is within = reindex_starts cluster t page ask w is
+  put_works (asks.Slice ask) page w is within = slice_starts cluster t page ask w is
+  put_works (asks.Bulk ask) page w is within = bulk_starts cluster corpus ask t page w is within
+  put_works (asks.BulkShard ask) page w is within = part_starts cluster corpus ask t page None w is within

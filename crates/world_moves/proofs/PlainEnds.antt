@@ -190,8 +190,8 @@ module _ (cluster : Cluster) (corpus : Corpus) (script : Script) (h : List Event
   query_end : (ask : ShardAsk) (version : Option ℕ) (turns : ℕ) (awaited : List (Option ℕ)) (w : Work) (looked : List Doc) (now : ℕ) (end : Reply) → version ≡ read_by cluster look ask.index ask.shard t h
       → RunsQuery cluster (look h) version turns awaited ask w → next_of w looked now ≡ Finish end → ReadsInTime cluster look t ask h end
   query_end ask version turns awaited (works.Query q top) looked now end began x e =
-      let found = version_told q looked end x.on.0.version_fixed e in
-      subst (λ reply. ReadsInTime cluster look t ask h reply) (sym found.1) (found.2 ∙ x.version_is ∙ ap (option_or ask.version) began)
+      let found = version_told q looked end x.here.on.version_fixed e in
+      subst (λ reply. ReadsInTime cluster look t ask h reply) (sym found.1) (found.2 ∙ x.here.version_is ∙ ap (option_or ask.version) began)
   query_end ask version turns awaited _ looked now end began x e = absurd x
 
   reindex_end : (ask : ReindexAsk) (asked : List Asked) (came : List ℕ) (w : Work) (looked : List Doc) (now : ℕ) (end : Reply) → RunsReindex cluster.shards t asked came (requested_by t h) (awaited_by t h) ask w

@@ -18,60 +18,24 @@ use Rattle.task_events.specs.declared.reply.Counts.{Counts}
 use Rattle.task_events.specs.Kind.{Progress}
 use Rattle.task_events.specs.Counting.{are_below}
 use Rattle.corpus_shards.specs.Placed.{AreFew}
-use Rattle.search_phase.specs.Queries.{QueryState, new_query, without_keys, looked, version_at}
+use Rattle.search_phase.specs.Queries.{new_query, version_at}
+use Rattle.search_phase.proofs.Runs.{query_first}
 use Rattle.task_work.specs.declared.work.Work.{Work}
 use Rattle.task_work.specs.declared.work.Work.TheVariants as works
-use Rattle.task_work.specs.Works.{IsWorkOn}
+use Rattle.task_work.specs.Reads.{ReadsWithin}
+use Rattle.task_work.specs.Works.{with_turn}
+use Rattle.task_work.proofs.Growing.{work_grown, fixed_within, within_grown, within_turned}
+use Rattle.task_work.proofs.Plans.{work_turned}
 use Rattle.world_moves.specs.Facts.{none_awaited}
 use Rattle.world_moves.specs.Good.{IsGoodReply, IsWithin, Grows, written}
 use Rattle.world_moves.specs.QueryRuns.{RunsQuery}
 use Rattle.world_moves.proofs.KindLaws.{KindLaws, IsPlain, asks_something}
-use Rattle.world_moves.proofs.Growing.{query_on_grown}
-use Rattle.world_moves.proofs.LookingLaws.{asks_nothing, work_ends, looks_on, no_docs, one_turn_more}
+use Rattle.world_moves.proofs.LookingLaws.{asks_nothing, work_ends, looks_on, no_docs}
 use Rattle.world_moves.proofs.PossibleTops.{tops_possible}
 
--- what a query asks for, its turns and its version stay when its keys are given out
-same_ask : (b : Bool) (q : QueryState) → (if b then without_keys q else q).ask ≡ q.ask
-same_ask true q = refl
-same_ask false q = refl
-
-same_turns : (b : Bool) (q : QueryState) → (if b then without_keys q else q).turns ≡ q.turns
-same_turns true q = refl
-same_turns false q = refl
-
-same_version : (b : Bool) (q : QueryState) → (if b then without_keys q else q).version ≡ q.version
-same_version true q = refl
-same_version false q = refl
-
--- the version that is due is the one that the query reads
-due_version : (o version q : Option ℕ) (all : ℕ) → q ≡ option_or o version → unwrap_or q all ≡ unwrap_or o (unwrap_or version all)
-due_version None version q all e = ap (λ x. unwrap_or x all) e
-due_version (Some a) version q all e = ap (λ x. unwrap_or x all) e
-
--- after its first turn it is fixed
-fixed_version : (o version q : Option ℕ) (all : ℕ) → q ≡ option_or o version → Some (unwrap_or q all) ≡ option_or o (option_or version (Some all))
-fixed_version None None q all e = ap (λ x. Some (unwrap_or x all)) e
-fixed_version None (Some v) q all e = ap (λ x. Some (unwrap_or x all)) e
-fixed_version (Some a) version q all e = ap (λ x. Some (unwrap_or x all)) e
-
--- and lies within what was written
-fixed_within : (q : Option ℕ) (all : ℕ) → ((v : ℕ) → q ≡ Some v → v ≤ all) → unwrap_or q all ≤ all
-fixed_within None all within = omega arith
-fixed_within (Some v) all within = within v refl
-
-only_number : (v w : ℕ) → Some v ≡ Some w → v ≡ w
-only_number v w e = cc
-
 module _ (cluster : Cluster) (corpus : Corpus) (ask : ShardAsk) where
-  pub query_starts : (t : TaskId) (w : Work) → (works.Query (new_query ask) None) ≡ w → IsWorkOn w (written cluster corpus ask.index ask.shard) → IsWithin cluster corpus (asks.Query ask) → RunsQuery cluster corpus None 0 [] ask w
-  query_starts t w is on within = subst (RunsQuery cluster corpus None 0 [] ask) is (first (subst (λ v. IsWorkOn v (written cluster corpus ask.index ask.shard)) (sym is) on))
-    where
-      asked_or_none : (o : Option ℕ) → o ≡ option_or o None
-      asked_or_none None = refl
-      asked_or_none (Some v) = refl
-
-      first : IsWorkOn (works.Query (new_query ask) None) (written cluster corpus ask.index ask.shard) → RunsQuery cluster corpus None 0 [] ask (works.Query (new_query ask) None)
-      first on = record { ask_is = refl; turns_are = refl; asks_nothing = refl; version_is = asked_or_none ask.version; within = within.1; on = on }
+  pub query_starts : (w : Work) → (works.Query (new_query ask) None) ≡ w → IsWithin cluster corpus (asks.Query ask) → RunsQuery cluster corpus None 0 [] ask w
+  query_starts w is within = subst (RunsQuery cluster corpus None 0 [] ask) is (record { here = query_first ask (written cluster corpus ask.index ask.shard); found = refl; asks_nothing = refl; within = within.1 })
 
   pub query_rejected : (n : ℕ) → IsGoodReply cluster corpus (asks.Query ask) (Rejected n)
   query_rejected n = (refl, tt)
@@ -84,16 +48,11 @@ module _ (cluster : Cluster) (corpus : Corpus) (ask : ShardAsk) where
   query_good few v asked within = (tops_possible ask v (written cluster corpus ask.index ask.shard) asked (few ask.index ask.shard), record { within = within; says = refl })
 
 -- it stays where more is written
-module _ (cluster : Cluster) (corpus later : Corpus) (grows : Grows cluster corpus later) (version : Option ℕ) (turns : ℕ) (awaited : List (Option ℕ)) where
-  pub query_grows : (ask : ShardAsk) (w : Work) → RunsQuery cluster corpus version turns awaited ask w → RunsQuery cluster later version turns awaited ask w
-  query_grows ask (works.Query q top) x = record {
-    ask_is = x.ask_is;
-    turns_are = x.turns_are;
-    asks_nothing = x.asks_nothing;
-    version_is = x.version_is;
-    within = λ v e. let low = x.within v e in rw more.1 (omega (arith, low, length-append (written cluster corpus ask.index ask.shard) more.0));
-    on = rw more.1 (query_on_grown q top (written cluster corpus ask.index ask.shard) more.0 x.within x.on);
-  }
+module _ (cluster : Cluster) (corpus later : Corpus) (grows : Grows cluster corpus later) (t : TaskId) (p : Progress) (awaited : List (Option ℕ)) where
+  pub query_grows : (ask : ShardAsk) (w : Work) → RunsQuery cluster corpus p.version p.turns awaited ask w → RunsQuery cluster later p.version p.turns awaited ask w
+  query_grows ask (works.Query q top) x =
+      let grown = work_grown t cluster.shards p (written cluster corpus ask.index ask.shard) more.0 (asks.Query ask) (works.Query q top) x.within (x.here, x.found) in
+      rw more.1 (record { here = grown.0; found = grown.1; asks_nothing = x.asks_nothing; within = within_grown (written cluster corpus ask.index ask.shard) more.0 (works.Query q top) x.within })
     where
       more : (docs : List Doc) × (written cluster later ask.index ask.shard ≡ written cluster corpus ask.index ask.shard ++ docs)
       more = grows ask.index ask.shard
@@ -102,49 +61,34 @@ module _ (cluster : Cluster) (corpus later : Corpus) (grows : Grows cluster corp
 module _ (cluster : Cluster) (corpus : Corpus) (t : TaskId) (p : Progress) (requests : List Request) (awaited : List (Option ℕ)) where
   pub query_laws : (ask : ShardAsk) (w : Work) → RunsQuery cluster corpus p.version p.turns awaited ask w → KindLaws cluster corpus t p requests awaited (Some (asks.Query ask)) w
   query_laws ask (works.Query q top) x = record {
-    follows = λ now.
-        ap (λ z. Some (query_step ask z p.turns mine)) (sym (due_version ask.version p.version q.version (length mine) x.version_is))
-        ∙ ap (λ z. Some (query_step z (version_at q mine) p.turns mine)) (sym x.ask_is)
-        ∙ ap (λ z. Some (query_step q.ask (version_at q mine) z mine)) (sym x.turns_are);
-    counts = refl;
+    at = (x.here, x.found);
     low = refl;
-    on = x.on;
-    place = ap (λ k. Some (k.index, k.shard)) x.ask_is;
+    place = ap (λ k. Some (k.index, k.shard)) x.here.ask_is;
     docs = sym (no_docs p.turns);
     full = inl refl;
     in_shard = λ place at. tt;
     turns_there = λ writes now e. refl;
-    turned = λ now later next grows same on. record {
-      ask_is = same_ask done state ∙ x.ask_is;
-      turns_are = same_turns done state ∙ one_turn_more q.turns p.turns x.turns_are;
-      asks_nothing = x.asks_nothing;
-      version_is = same_version done state ∙ fixed_version ask.version p.version q.version (length mine) x.version_is;
-      within = λ v e.
-          let is : version_at q mine ≡ v = only_number _ v (sym (same_version done state) ∙ e) in
-          let low = fixed_within q.version (length mine) x.within in
-          let more = grows ask.index ask.shard in
-          rw more.1 (omega (arith, is, low, length-append mine more.0));
-      on = on;
-    };
-    asks = λ request now plan. absurd (asks_nothing _ _ request (plan mine x.on));
+    turned = λ now later next grows same.
+        let so = work_turned t cluster.shards p mine (asks.Query ask) (works.Query q top) _ _ refl same (x.here, x.found) in
+        record {
+          here = so.0;
+          found = so.1;
+          asks_nothing = x.asks_nothing;
+          within = subst (λ docs. ReadsWithin docs (with_turn (works.Query q top) mine)) (sym same) (within_grown mine [] (with_turn (works.Query q top) mine) (within_turned mine (works.Query q top) x.within));
+        };
+    asks = λ request now plan. absurd (asks_nothing _ _ request (plan mine (x.here.on, x.found)));
     takes_answer = λ i r reply now there unanswered good. absurd (asks_something awaited i unanswered x.asks_nothing);
     moves = λ few writes now none. looks_on _ _;
     none_left = λ writes now end e. ap none_awaited x.asks_nothing;
     plain = λ writes now end e. subst IsPlain (sym (work_ends _ (Top (shard_top q.ask (version_at q writes) writes)) end e)) (refl, refl);
     ends_well = λ few now end e.
-        let top_is : shard_top q.ask (version_at q mine) mine ≡ shard_top ask (version_at q mine) mine = ap (λ k. shard_top k (version_at q mine) mine) x.ask_is in
-        let asked = asked_version q.version ask.version p.version x.version_is in
+        let top_is : shard_top q.ask (version_at q mine) mine ≡ shard_top ask (version_at q mine) mine = ap (λ k. shard_top k (version_at q mine) mine) x.here.ask_is in
+        let asked = asked_version q.version ask.version p.version x.here.version_is in
         subst (IsGoodReply cluster corpus (asks.Query ask)) (sym (work_ends _ _ end e ∙ ap Top top_is)) (query_good cluster corpus ask few (version_at q mine) asked (fixed_within q.version (length mine) x.within));
   }
     where
       mine : List Doc
       mine = written cluster corpus ask.index ask.shard
-
-      done : Bool
-      done = is_done (q.turns + 1) (length (rows_for q.ask (version_at q mine) mine))
-
-      state : QueryState
-      state = looked q.ask (version_at q mine) (q.turns + 1) mine
 
       asked_version : (fixed o version : Option ℕ) → fixed ≡ option_or o version → option_map_or (λ asked. unwrap_or fixed (length mine) == asked) o true ≡ true
       asked_version fixed None version e = refl

@@ -204,14 +204,14 @@ module _ (cluster : Cluster) (corpus : Corpus) (script : Script) (h : List Event
           → WorksFor cluster (look h) t false progress (requested_by t h) (awaited_by t h) o w → place_of w ≡ Some (index, shard) → WorkReadsFrom (oldest index shard) w
       kind_above progress None w began asked x place = absurd x
       kind_above progress (Some (asks.Query ask)) (works.Query q top) began asked x place = λ v is.
-          let own_index : ask.index ≡ index = ap (λ (a : ShardAsk). a.index) (sym x.ask_is) ∙ ap placed_index place in
-          let own_shard : ask.shard ≡ shard = ap (λ (a : ShardAsk). a.shard) (sym x.ask_is) ∙ ap placed_shard place in
+          let own_index : ask.index ≡ index = ap (λ (a : ShardAsk). a.index) (sym x.here.ask_is) ∙ ap placed_index place in
+          let own_shard : ask.shard ≡ shard = ap (λ (a : ShardAsk). a.shard) (sym x.here.ask_is) ∙ ap placed_shard place in
           subst (λ i. oldest i shard ≤ v) own_index (subst (λ n. oldest ask.index n ≤ v) own_shard
-          (query_above ask asked v (ap (option_or ask.version) (sym began) ∙ sym x.version_is ∙ is)))
+          (query_above ask asked v (ap (option_or ask.version) (sym began) ∙ sym x.here.version_is ∙ is)))
       kind_above progress (Some (asks.Fetch ask)) (works.Fetch f hits) began asked x place =
-          let own_index : ask.index ≡ index = ap (λ (a : FetchAsk). a.index) (sym x.ask_is) ∙ ap placed_index place in
-          let own_shard : ask.shard ≡ shard = ap (λ (a : FetchAsk). a.shard) (sym x.ask_is) ∙ ap placed_shard place in
-          subst (λ (a : FetchAsk). oldest index shard ≤ a.version) (sym x.ask_is) (subst (λ i. oldest i shard ≤ ask.version) own_index (subst (λ n. oldest ask.index n ≤ ask.version) own_shard
+          let own_index : ask.index ≡ index = ap (λ (a : FetchAsk). a.index) (sym x.here.ask_is) ∙ ap placed_index place in
+          let own_shard : ask.shard ≡ shard = ap (λ (a : FetchAsk). a.shard) (sym x.here.ask_is) ∙ ap placed_shard place in
+          subst (λ (a : FetchAsk). oldest index shard ≤ a.version) (sym x.here.ask_is) (subst (λ i. oldest i shard ≤ ask.version) own_index (subst (λ n. oldest ask.index n ≤ ask.version) own_shard
           (request_above (asks.Fetch ask) asked)))
       kind_above progress (Some (asks.Search ask)) (works.Search s) began asked x place = tt
       kind_above progress (Some (asks.Scroll ask)) w began asked x place = page_above ask.id progress.page progress.asked w x

@@ -1,7 +1,7 @@
 -- What a slice and a reindex show of their work. A reindex does the work of its one slice, or asks for several.
-use Rattle.std.proofs.Common.{◌≡◌, ◌≢◌, ℕ, ◌+◌, ◌^◌, Bool, true, false, List, [], ◌∷◌, ◌++◌, length, Option, Some, None, refl, sym, ap, subst, ◌∙◌, inl, arith, ltb-true}
-use Rattle.std.specs.Prelude.{◌==◌, nat_lt, option_map}
-use Rattle.std.proofs.lemmas.Bool.{eqb-true}
+use Rattle.std.proofs.Common.{◌≡◌, ◌≢◌, ℕ, ◌+◌, ◌^◌, Bool, true, false, List, [], ◌∷◌, ◌++◌, length, Option, Some, None, refl, sym, ap, subst, ◌∙◌, inl, arith, ltb-true, length-set}
+use Rattle.std.specs.Prelude.{nat_lt, option_map}
+use Rattle.std.proofs.lemmas.List.{length_push}
 use Rattle.std.proofs.lemmas.Bool.Decides.{nat_tests}
 use Rattle.task_ids.specs.declared.cluster.Cluster.{Cluster}
 use Rattle.task_ids.specs.declared.corpus.Corpus.{Corpus}
@@ -15,20 +15,19 @@ use Rattle.task_events.specs.declared.request.Request.{Request}
 use Rattle.task_events.specs.declared.request.Request.TheVariants as asks
 use Rattle.task_events.specs.declared.request.SliceAsk.{SliceAsk}
 use Rattle.task_events.specs.declared.step.Do.TheVariants.{AskNext}
-use Rattle.task_events.specs.Counting.{are_below, answers_in, sums_of}
+use Rattle.task_events.specs.Counting.{are_below}
 use Rattle.task_events.specs.Kind.{Progress}
-use Rattle.task_events.specs.ReindexTask.{reindex_step, reindex_counts, cut_step}
 use Rattle.task_events.specs.SearchTask.{ask_or_end}
 use Rattle.task_events.specs.Slicing.{slice_at, slice_if}
-use Rattle.task_events.specs.SliceTask.{slice_step, slice_counts}
 use Rattle.reindex.specs.declared.root.ReindexRoot.TheVariants.{Alone, Cut}
 use Rattle.reindex.specs.Roots.{Cutting, IsCutAt, cut_next, cut_with_ask, cut_takes, cut_with_answer}
 use Rattle.reindex.specs.Slices.{Slicing, IsNewSlice, slice_takes}
 use Rattle.reindex.specs.OpenAsks.{is_settled}
-use Rattle.reindex.proofs.CutRuns.{cut_first, cut_follows, cut_asked, cut_may_ask_when, cut_may_take, cut_answered, cut_counted, cut_low, cut_settled}
+use Rattle.reindex.proofs.CutRuns.{cut_first, cut_asked, cut_may_ask_when, cut_may_take, cut_answered, cut_low, cut_settled}
+use Rattle.reindex.proofs.FedSums.{fed_length}
 use Rattle.reindex.proofs.RootLemmas.{cut_fed}
 use Rattle.reindex.proofs.SliceFed.{slice_low}
-use Rattle.reindex.proofs.SliceRuns.{slice_first, slice_follows, slice_counted}
+use Rattle.reindex.proofs.SliceRuns.{slice_first}
 use Rattle.task_work.specs.declared.work.Work.{Work}
 use Rattle.task_work.specs.declared.work.Work.TheVariants as works
 use Rattle.task_work.specs.Works.{IsNewWork}
@@ -62,7 +61,7 @@ module _ (cluster : Cluster) (t : TaskId) where
 
   pub reindex_starts : (page : Option Context) (ask : ReindexAsk) (w : Work) → IsNewWork t (asks.Reindex ask) cluster.shards page w → RunsReindex cluster.shards t [] [] [] [] ask w
   reindex_starts page ask (works.Reindex (Alone s)) new = (new.0, slice_new ask 0 s new.1)
-  reindex_starts page ask (works.Reindex (Cut c)) new = (new.0, record { here = cut_first new.1; sound = cut_new_sound ask c new.1; knows = knows_none cluster.shards (cut_takes c) })
+  reindex_starts page ask (works.Reindex (Cut c)) new = (new.0, record { here = cut_first new.1; moments = refl; sound = cut_new_sound ask c new.1; knows = knows_none cluster.shards (cut_takes c) })
   reindex_starts page ask _ new = absurd new
 
 module _ (cluster : Cluster) (corpus : Corpus) where
@@ -83,16 +82,14 @@ module _ (cluster : Cluster) (corpus : Corpus) where
 module _ (cluster : Cluster) (corpus : Corpus) (t : TaskId) (p : Progress) (requests : List Request) (awaited : List (Option ℕ)) where
   pub slice_laws : (ask : SliceAsk) (w : Work) → RunsSlice cluster.shards t p.asked p.came requests awaited ask w → KindLaws cluster corpus t p requests awaited (Some (asks.Slice ask)) w
   slice_laws ask (works.Slice s) x = record {
-    follows = λ now. ap Some (slice_follows x.here now);
-    counts = slice_counted x.here;
+    at = x.here;
     low = slice_low x.sound;
-    on = tt;
     place = refl;
     docs = sym (no_docs p.turns);
     full = inl refl;
     in_shard = λ place at. tt;
     turns_there = λ writes now e. absurd (slices.never_turns cluster corpus t ask.reindex ask.slice p.asked p.came requests awaited s x now e);
-    turned = λ now later next grows same on. absurd (slices.never_turns cluster corpus t ask.reindex ask.slice p.asked p.came requests awaited s x now next);
+    turned = λ now later next grows same. absurd (slices.never_turns cluster corpus t ask.reindex ask.slice p.asked p.came requests awaited s x now next);
     asks = λ request now plan. record {
       few = slices.few_asks cluster corpus t ask.reindex ask.slice p.asked p.came requests awaited s x now request (plan [] tt);
       may = slices.may_so cluster corpus t ask.reindex ask.slice p.asked p.came requests awaited s x now request (plan [] tt);
@@ -113,16 +110,6 @@ module _ (cluster : Cluster) (corpus : Corpus) (t : TaskId) (p : Progress) (requ
 
 -- ---- a reindex
 
-one_slice : (ask : ReindexAsk) → ask.slices ≡ 1 → (ask.slices == 1) ≡ true
-one_slice ask e = grind (arith, nat_tests)
-
-pub more_slices : (ask : ReindexAsk) → ask.slices ≢ 1 → (ask.slices == 1) ≡ false
-more_slices ask e = by_test (ask.slices == 1) refl
-  where
-    by_test : (b : Bool) → (ask.slices == 1) ≡ b → (ask.slices == 1) ≡ false
-    by_test true is = absurd (e (eqb-true ask.slices 1 is))
-    by_test false is = is
-
 wider : (counts : Counts) → are_below (2 ^ 50) counts ≡ true → are_below (2 ^ 56) counts ≡ true
 wider counts low = grind (arith, nat_tests)
 
@@ -137,18 +124,16 @@ asks_some None true reply r e = absurd (cc)
 asks_some None false reply r e = absurd (cc)
 
 module _ (cluster : Cluster) (corpus : Corpus) (t : TaskId) (p : Progress) (requests : List Request) (awaited : List (Option ℕ)) where
-  cut_laws : (ask : ReindexAsk) (c : Cutting) → ask.slices ≢ 1 → CutsFor cluster.shards ask p.asked requests awaited c → KindLaws cluster corpus t p requests awaited (Some (asks.Reindex ask)) (works.Reindex (Cut c))
+  cut_laws : (ask : ReindexAsk) (c : Cutting) → ask.slices ≢ 1 → CutsFor cluster.shards ask p.asked p.came requests awaited c → KindLaws cluster corpus t p requests awaited (Some (asks.Reindex ask)) (works.Reindex (Cut c))
   cut_laws ask c many x = record {
-    follows = λ now. ap Some (steps now ∙ cut_follows x.here);
-    counts = counted ∙ cut_counted x.here;
+    at = record { moments = x.moments; work = (many, x.here) };
     low = cut_low x.sound;
-    on = tt;
     place = refl;
     docs = sym (no_docs p.turns);
     full = inl refl;
     in_shard = λ place at. tt;
     turns_there = λ writes now e. absurd (no_turn _ _ _ e);
-    turned = λ now later next grows same on. absurd (no_turn _ _ _ next);
+    turned = λ now later next grows same. absurd (no_turn _ _ _ next);
     asks = λ request now plan. record {
       few = let made = x.here.few in let most = ask.slices_in_range.1 in omega (arith, long, made, most);
       may = cut_may_ask_when c request (plan [] tt);
@@ -156,6 +141,7 @@ module _ (cluster : Cluster) (corpus : Corpus) (t : TaskId) (p : Progress) (requ
         many,
         record {
           here = subst (λ k. IsCutAt ask (p.asked ++ record { ask = k + 1; answer = None } ∷ []) (cut_with_ask c (k + 1))) (sym long) (cut_asked x.here request (plan [] tt));
+          moments = length_push p.came 0 ∙ ap (λ n. n + 1) x.moments ∙ sym (length_push p.asked (record { ask = length awaited + 1; answer = None }));
           sound = cut_asked_sound c (length awaited + 1) x.sound (cut_may_ask_when c request (plan [] tt));
           knows = knows_more cluster.shards (cut_takes (cut_with_ask c (length awaited + 1))) request n (cut_takes c) p.asked requests awaited (length awaited + 1) x.knows (λ j reply took. cut_takes_after_ask c j (length awaited + 1) reply took)
               (λ reply can.
@@ -172,6 +158,7 @@ module _ (cluster : Cluster) (corpus : Corpus) (t : TaskId) (p : Progress) (requ
         many,
         rw known (record {
           here = cut_answered x.here (1 + i) reply took;
+          moments = length-set p.came i now ∙ x.moments ∙ sym (fed_length (1 + i) (Some reply) p.asked);
           sound = cut_fed c 32 (1 + i) reply x.sound took;
           knows = knows_answer cluster.shards (cut_takes c) (cut_takes (cut_with_answer c (1 + i) reply)) p.asked requests awaited x.knows x.here.numbered i reply (λ j other takes apart. cut_takes_after_answer c j (1 + i) other reply apart takes);
         }),
@@ -186,12 +173,6 @@ module _ (cluster : Cluster) (corpus : Corpus) (t : TaskId) (p : Progress) (requ
       long : length awaited ≡ length p.asked
       long = awaited_long p.asked awaited x.knows.answered
 
-      steps : (now : ℕ) → reindex_step t ask cluster.shards p.asked p.came now ≡ cut_step ask p.asked
-      steps now = rw (more_slices ask many) refl
-
-      counted : reindex_counts ask p.asked ≡ sums_of (answers_in p.asked)
-      counted = rw (more_slices ask many) refl
-
       settled : none_awaited awaited ≡ true → is_settled c.open_asks ≡ true
       settled none = sym (cut_settled x.here) ∙ all_known p.asked awaited x.knows.answered none
 
@@ -202,16 +183,14 @@ module _ (cluster : Cluster) (corpus : Corpus) (t : TaskId) (p : Progress) (requ
   pub reindex_laws : (ask : ReindexAsk) (w : Work) → RunsReindex cluster.shards t p.asked p.came requests awaited ask w → KindLaws cluster corpus t p requests awaited (Some (asks.Reindex ask)) w
   reindex_laws ask (works.Reindex (Cut c)) x = cut_laws ask c x.0 x.1
   reindex_laws ask (works.Reindex (Alone s)) (one, x) = record {
-    follows = λ now. ap Some (steps now ∙ slice_follows x.here now);
-    counts = counted ∙ slice_counted x.here;
+    at = record { moments = x.here.moments; work = (one, x.here) };
     low = wider s.counts (slice_low x.sound);
-    on = tt;
     place = refl;
     docs = sym (no_docs p.turns);
     full = inl refl;
     in_shard = λ place at. tt;
     turns_there = λ writes now e. absurd (slices.never_turns cluster corpus t ask 0 p.asked p.came requests awaited s x now e);
-    turned = λ now later next grows same on. absurd (slices.never_turns cluster corpus t ask 0 p.asked p.came requests awaited s x now next);
+    turned = λ now later next grows same. absurd (slices.never_turns cluster corpus t ask 0 p.asked p.came requests awaited s x now next);
     asks = λ request now plan. record {
       few = slices.few_asks cluster corpus t ask 0 p.asked p.came requests awaited s x now request (plan [] tt);
       may = slices.may_so cluster corpus t ask 0 p.asked p.came requests awaited s x now request (plan [] tt);
@@ -228,10 +207,4 @@ module _ (cluster : Cluster) (corpus : Corpus) (t : TaskId) (p : Progress) (requ
     plain = λ writes now end e. subst IsPlain (sym (slices.ends_so cluster corpus t ask 0 p.asked p.came requests awaited s x now end e)) (refl, refl);
     ends_well = λ few now end e. subst (IsGoodReply cluster corpus (asks.Reindex ask)) (sym (slices.ends_so cluster corpus t ask 0 p.asked p.came requests awaited s x now end e)) (wider s.counts (slice_low x.sound), tt);
   }
-    where
-      steps : (now : ℕ) → reindex_step t ask cluster.shards p.asked p.came now ≡ slice_step t ask 0 cluster.shards p.asked p.came now
-      steps now = rw (one_slice ask one) refl
-
-      counted : reindex_counts ask p.asked ≡ slice_counts p.asked
-      counted = rw (one_slice ask one) refl
   reindex_laws ask _ x = absurd x

@@ -58,12 +58,12 @@ module _ (cluster : Cluster) (corpus : Corpus) (script : Script) (h : List Event
     pub delivers_put : Delivers cluster h nth (Put t token.parent token.ask ∷ h)
     delivers_put = (Request token.parent token.ask to arrives.asked, Put t token.parent token.ask, arrives.here, (put_takes cluster h tables ties.listed to arrives.low arrives.high t task after put ties.lawful, node_is, refl, refl), refl)
 
-    pub after_put : (running : Running) (kept : TaskId → Option Running) (headers : Headers) → running ≡ first t (Some token) true arrives.asked running.work headers → (page : Option Context) → IsNewWork t arrives.asked cluster.shards page running.work → headers ≡ headers_of (scripted script) token.parent h → ((writes : List Doc) → IsWorkOn running.work writes)
+    pub after_put : (running : Running) (kept : TaskId → Option Running) (headers : Headers) → running ≡ first t (Some token) true arrives.asked running.work headers → (page : Option Context) → IsNewWork t arrives.asked cluster.shards page running.work → headers ≡ headers_of (scripted script) token.parent h
         → kept t ≡ Some running → ((q : TaskId) → same_task t q ≡ false → kept q ≡ tasks q)
         → Ties cluster corpus script (Put t token.parent token.ask ∷ h) kept after (remove flight nth)
-    after_put running kept headers is page work carried on here others = record {
+    after_put running kept headers is page work carried here others = record {
       lawful = (record { requested = arrives.requested; node = arrives.node ∙ ap Some (sym node_is); takes = takes }, ties.lawful, awaits);
-      kept = kept_after cluster corpus (scripted script) t event h tasks kept refl refl ties.kept (rw here (runs_first cluster (so_far corpus script) h t (Some token) true arrives.asked None headers _ running facts is (put_works cluster (so_far corpus script h) t arrives.asked page running.work work on (ties.within token.parent token.ask arrives.asked arrives.request)))) others;
+      kept = kept_after cluster corpus (scripted script) t event h tasks kept refl refl ties.kept (rw here (runs_first cluster (so_far corpus script) h t (Some token) true arrives.asked None headers _ running facts is (put_works cluster (so_far corpus script h) t arrives.asked page running.work work (ties.within token.parent token.ask arrives.asked arrives.request)))) others;
       listed = put_listed cluster h tables ties.listed to arrives.low arrives.high t task after put event (record { last = λ n. refl; live = refl });
       sent = all_stay event h (remove flight nth) (remove (in_flight h) nth) (pairs_left (message_of h) flight (in_flight h) nth ties.sent) ∙ ap (map Some) (sym arrives.taken);
       good = rw arrives.taken (all_left (IsGood cluster (so_far corpus script h) h) (in_flight h) nth ties.good);

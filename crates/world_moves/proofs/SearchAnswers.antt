@@ -12,7 +12,6 @@ use Rattle.task_ids.specs.declared.corpus.Corpus.{Corpus}
 use Rattle.task_events.specs.declared.request.Request.{Request}
 use Rattle.task_events.specs.declared.reply.Reply.{Reply}
 use Rattle.task_events.specs.declared.step.Asked.{Asked}
-use Rattle.task_events.specs.Steps.{with_answer as asked_with_answer}
 use Rattle.task_events.specs.Kinds.{can_have}
 use Rattle.task_events.specs.Readings.{Reading}
 use Rattle.task_events.specs.Searches.{requests_of}
@@ -87,23 +86,6 @@ noted b reply (a ∷ asked) (o ∷ open_asks) (suc i) e f =
     let first : is_some a.answer ≡ not (is_some o) = cc in
     let whole = ap (λ k. map (λ a. is_some a.answer) (map (answered_by k reply) asked)) shift ∙ later in
     rw other (λ j. first j ∷ whole j)
-
--- how the past notes it is how the search does
-pub noted_alike : (k : ℕ) (reply : Reply) (asked : List Asked) → map (asked_with_answer k (Some reply)) asked ≡ map (answered_by k reply) asked
-noted_alike k reply [] = refl
-noted_alike k reply (a ∷ asked) = λ i. same i ∷ noted_alike k reply asked i
-  where
-    by_case : (b : Bool) → (k == a.ask) ≡ b → asked_with_answer k (Some reply) a ≡ answered_by k reply a
-    by_case true e =
-        let number : k ≡ a.ask = eqb-true k a.ask e in
-        let back : (a.ask == k) ≡ true = eq-eqb a.ask k (sym number) in
-        rw (e, back) (λ i. record { ask = number i; answer = Some reply })
-    by_case false e =
-        let back : (a.ask == k) ≡ false = grind (arith, nat_tests) in
-        rw (e, back) refl
-
-    same : asked_with_answer k (Some reply) a ≡ answered_by k reply a
-    same = by_case (k == a.ask) refl
 
 take_alike : {X : Type 0} (n : ℕ) (xs ys : List X) → ((i : ℕ) → i < n → slice_get xs i ≡ slice_get ys i) → take n xs ≡ take n ys
 take_alike zero xs ys each = refl

@@ -16,7 +16,7 @@ use Rattle.task_events.specs.declared.reply.Reply.TheVariants.{Search, AllFailed
 use Rattle.task_events.specs.declared.reply.SearchReply.{SearchReply}
 use Rattle.task_events.specs.declared.step.Asked.{Asked}
 use Rattle.task_events.specs.declared.step.Do.TheVariants.{Turn, Finish}
-use Rattle.task_events.specs.SearchTask.{ask_or_end, search_step}
+use Rattle.task_events.specs.SearchTask.{ask_or_end}
 use Rattle.task_events.specs.Readings.{Reading, search_reading, shard_read, version_read}
 use Rattle.task_events.specs.Searches.{are_answered, search_reply, failed_in}
 use Rattle.task_events.specs.Steps.{with_answer as asked_with_answer}
@@ -28,6 +28,7 @@ use Rattle.task_events.specs.declared.reading.ShardRead.{ShardRead}
 use Rattle.task_ids.specs.declared.doc.Doc.{Doc}
 use Rattle.search_phase.specs.Searching.{Searching, IsReading, IsSearching, new_search, next_step, has_ended, takes, answered_by, with_answer, reply_of}
 use Rattle.search_phase.proofs.Readings.{search_is_reading}
+use Rattle.search_phase.proofs.Runs.{noted_alike}
 use Rattle.search_phase.proofs.PossibleReply.{search_is_possible}
 use Rattle.search_phase.proofs.Growth.{IsHonest-grow}
 use Rattle.search_phase.specs.Growth.{HaveGrown}
@@ -42,7 +43,7 @@ use Rattle.world_moves.proofs.KindLaws.{KindLaws, IsPlain}
 use Rattle.world_moves.proofs.Growing.{version_grown}
 use Rattle.world_moves.proofs.LookingLaws.{no_docs}
 use Rattle.world_moves.proofs.Numbered.{is_searching}
-use Rattle.world_moves.proofs.SearchAnswers.{takes_it, searches_on, noted_alike}
+use Rattle.world_moves.proofs.SearchAnswers.{takes_it, searches_on}
 use Rattle.world_moves.proofs.SearchAsks as asking
 
 pub search_ends : (o : Option Request) (b : Bool) (reply end : Reply) → ask_or_end o b reply ≡ Finish end → (b ≡ true) × (end ≡ reply)
@@ -88,9 +89,6 @@ module _ (cluster : Cluster) (corpus : Corpus) (r : Reading) where
 module _ (cluster : Cluster) (corpus : Corpus) (r : Reading) (asked : List Asked) (requests : List Request) (awaited : List (Option ℕ)) (s : Searching) (x : SearchesFor cluster corpus r asked requests awaited s) where
   whole : SearchesFor cluster corpus r asked requests awaited (record { reading = r; asked = asked })
   whole = subst (SearchesFor cluster corpus r asked requests awaited) x.state_is x
-
-  pub follows_so : search_step r asked ≡ next_step s
-  follows_so = ap (λ (z : Searching). search_step z.reading z.asked) (sym x.state_is)
 
   pub never_turns : next_step s ≢ Turn
   never_turns = no_turn _ _ _
@@ -175,16 +173,14 @@ module _ (cluster : Cluster) (corpus : Corpus) (t : TaskId) (p : Progress) (requ
   search_laws ask (works.Search s) x =
       let r : Reading = search_reading t ask cluster.shards in
       record {
-        follows = λ now. ap Some (follows_so cluster corpus r p.asked requests awaited s x);
-        counts = refl;
+        at = x.state_is;
         low = refl;
-        on = tt;
         place = refl;
         docs = sym (no_docs p.turns);
         full = inl refl;
         in_shard = λ place at. tt;
         turns_there = λ writes now e. absurd (never_turns cluster corpus r p.asked requests awaited s x e);
-        turned = λ now later next grows same on. absurd (never_turns cluster corpus r p.asked requests awaited s x next);
+        turned = λ now later next grows same. absurd (never_turns cluster corpus r p.asked requests awaited s x next);
         asks = λ request now plan. record {
           few = asking.few_asks cluster corpus r p.asked requests awaited request s x (plan [] tt);
           may = asking.may_ask cluster corpus r p.asked requests awaited request s x (plan [] tt);

@@ -29,7 +29,7 @@ use Rattle.shard_docs.proofs.ShownMore.{shows_more}
 use Rattle.task_work.specs.declared.work.Work.{Work}
 use Rattle.task_work.specs.Reads.{WorkReadsFrom}
 use Rattle.task_work.specs.Works.{IsWorkOn, next_of, place_of, docs_next, with_turn, work_notes}
-use Rattle.task_work.proofs.Shown.{works_on_shown, works_on_own, notes_shown, turn_shown, reads_after_turn}
+use Rattle.task_work.proofs.Shown.{works_on_shown, notes_shown, turn_shown}
 use Rattle.command_roots.specs.Roots.{scripted}
 use Rattle.corpus_shards.specs.declared.Shards.{Shards}
 use Rattle.corpus_shards.specs.Stored.{HasWritten, IsNotedAs, AllNoted, Replaces, shard_in, was_there, writes_in, lines_of}
@@ -45,6 +45,7 @@ use Rattle.world_moves.specs.Left.{HasLeft, left_in}
 use Rattle.world_moves.specs.Moves.{IsPartOf}
 use Rattle.world_moves.specs.Paging.{Paging}
 use Rattle.world_moves.specs.Ties.{IsTied, task_at, turned_in}
+use Rattle.world_moves.proofs.KindLaws.{is_on}
 use Rattle.world_moves.proofs.CancelsUntouched.{noted}
 use Rattle.world_moves.proofs.DescriptionsAfter.{quiet}
 use Rattle.world_moves.proofs.NoteParts.{none_yet}
@@ -62,7 +63,7 @@ module _ (s : State) (tied : IsTied s) (t : TaskId) (r : Running) (live : is_liv
   own = turns.own s.cluster s.corpus.now s.script.now s.history (task_at s.tasks) s.tables.items s.flight tied.ties t s.clock r live passed unmarked here
 
   pub next : next_of r.work own s.clock ≡ Turn
-  next = let laws = turns.laws s.cluster s.corpus.now s.script.now s.history (task_at s.tasks) s.tables.items s.flight tied.ties t s.clock r live passed unmarked here in subst (λ o. DoesNext o s.clock Turn) here does own laws.on
+  next = let laws = turns.laws s.cluster s.corpus.now s.script.now s.history (task_at s.tasks) s.tables.items s.flight tied.ties t s.clock r live passed unmarked here in subst (λ o. DoesNext o s.clock Turn) here does own (is_on laws)
 
   pub placed : place_of r.work ≡ None → ⊥
   placed none = turns.has_place s.cluster s.corpus.now s.script.now s.history (task_at s.tasks) s.tables.items s.flight tied.ties t s.clock r live passed unmarked here next none
@@ -103,7 +104,7 @@ module _ (s : State) (tied : IsTied s) (t : TaskId) (r : Running) (live : is_liv
       shows = subst (λ those. ShowsFrom from those found) (sym own_is) (subst (ShowsFrom from (writes_of (so_far s.corpus.now s.script.now s.history) s.cluster.shards index number)) (sym there) (has.each index number))
 
       pub works_on : IsWorkOn r.work found
-      works_on = let laws = turns.laws s.cluster s.corpus.now s.script.now s.history (task_at s.tasks) s.tables.items s.flight tied.ties t s.clock r live passed unmarked here in works_on_shown from own found shows was_written r.work reads laws.on
+      works_on = let laws = turns.laws s.cluster s.corpus.now s.script.now s.history (task_at s.tasks) s.tables.items s.flight tied.ties t s.clock r live passed unmarked here in works_on_shown from own found shows was_written r.work reads (is_on laws)
 
       -- it takes a turn over it
       pub turns_over : (now : ℕ) × (next_of r.work found now ≡ Turn)
@@ -112,7 +113,7 @@ module _ (s : State) (tied : IsTied s) (t : TaskId) (r : Running) (live : is_liv
       pub noted_is : (notes : List WriteNote) → notes ≡ work_notes r.work found → turned_in s t ≡ with_notes notes (worked t ∷ s.history)
       noted_is notes are = past_is ∙ ap (λ those. with_notes those (worked t ∷ s.history)) (sym (are ∙ notes_shown from own found shows was_written r.work))
 
-      module _ (w : Work) (left : ShardView) (turned : w ≡ with_turn r.work found) (on : IsWorkOn w left.writes) (written : left.writes ≡ found ++ docs_next r.work) (kept : left.oldest ≡ (shard_in old index number).oldest) (few : length left.writes < 2 ^ 32)
+      module _ (w : Work) (left : ShardView) (turned : w ≡ with_turn r.work found) (written : left.writes ≡ found ++ docs_next r.work) (kept : left.oldest ≡ (shard_in old index number).oldest) (few : length left.writes < 2 ^ 32)
           (replaces : Replaces index number left old new) (from_start : (q : List ℕ) → was_there old q ≡ was_there s.shards q) (marked : Shards) (as_new : IsNotedAs new marked) (all_noted : AllNoted marked)
           (after : BTreeMap TaskId Running) (now_here : task_at after t ≡ Some (record r { work = w })) (others : (q : TaskId) → same_task t q ≡ false → task_at after q ≡ task_at s.tasks q) where
         in_shard : AllByRecursion (λ doc. shard_of doc.id s.cluster.shards ≡ number) (docs_next r.work)
@@ -140,20 +141,11 @@ module _ (s : State) (tied : IsTied s) (t : TaskId) (r : Running) (live : is_liv
             ∙ ap (λ those. those ++ writes_of (record { lines = lines_of index (docs_next r.work) }) s.cluster.shards index number) (sym own_is)
             ∙ ap (λ those. own ++ those) (writes_of_one index (docs_next r.work) s.cluster.shards number index number in_shard ∙ ap (λ b. cond b (docs_next r.work) []) here_too)
 
-        on_later : IsWorkOn w (own_writes s.cluster (so_far s.corpus.now s.script.now (with_notes (work_notes r.work own) (worked t ∷ s.history))) (request_of (scripted s.script.now) t s.history))
-        on_later =
-            let shows_later : ShowsFrom from (own ++ docs_next r.work) left.writes = subst (ShowsFrom from (own ++ docs_next r.work)) (sym written) (shows_more from own found shows was_written (docs_next r.work)) in
-            let many = length-append own (docs_next r.work) in
-            let low : from ≤ length own = was_written in
-            let low_later : from ≤ length (own ++ docs_next r.work) = omega (arith, low, many) in
-            let reads_then : WorkReadsFrom from w = subst (WorkReadsFrom from) (sym turned_own) (reads_after_turn from own found shows was_written r.work reads) in
-            subst (IsWorkOn w) (sym shard_later) (works_on_own from (own ++ docs_next r.work) left.writes shows_later low_later w reads_then on)
-
         tied_so : IsTied (record s { shards = marked; history = with_notes (work_notes r.work own) (worked t ∷ s.history); tasks = after })
         tied_so = record {
           ties = turns.after_work s.cluster s.corpus.now s.script.now s.history (task_at s.tasks) s.tables.items s.flight tied.ties t s.clock r live passed unmarked here
               (turns.grows_so s.cluster s.corpus.now s.script.now s.history (task_at s.tasks) s.tables.items s.flight tied.ties t s.clock r live passed unmarked here index number place)
-              w next turned_own shard_later on_later
+              w next turned_own shard_later
               tied.awaits (task_at after) now_here others;
           cancels = notes_keep (λ g. Cancelling s.cluster (λ u. waiting_for u g) g s.tables.items (get nat_cmp s.roots) s.bans.items s.cores.items s.listings)
               (λ i k outcome id g known. noted s.cluster (λ u. waiting_for u g) g _ _ _ _ _ known (Write i k outcome id) refl refl) (work_notes r.work own) (worked t ∷ s.history)

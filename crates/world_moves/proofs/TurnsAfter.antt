@@ -10,7 +10,8 @@ use Rattle.task_ids.specs.declared.corpus.CorpusLine.{CorpusLine}
 use Rattle.task_ids.specs.declared.doc.Doc.{Doc}
 use Rattle.task_table.specs.Table.{Table}
 use Rattle.task_work.specs.declared.work.Work.{Work}
-use Rattle.task_work.specs.Works.{IsWorkOn, next_of, with_turn, work_notes, docs_next, place_of}
+use Rattle.task_work.specs.Plans.{progress_with_turn}
+use Rattle.task_work.specs.Works.{next_of, with_turn, work_notes, docs_next, place_of}
 use Rattle.task_events.specs.declared.request.Request.{Request}
 use Rattle.task_events.specs.declared.request.Request.TheVariants as asks
 use Rattle.task_events.specs.declared.request.WriteNote.{WriteNote}
@@ -46,7 +47,7 @@ use Rattle.world_moves.proofs.AllKinds.{passed_laws, works_grow}
 use Rattle.world_moves.proofs.FactsAfter.{at_work, frame}
 use Rattle.world_moves.proofs.FlightAfter.{all_stay}
 use Rattle.world_moves.proofs.Growing.{request_grown}
-use Rattle.world_moves.proofs.KindLaws.{KindLaws, with_turn_of}
+use Rattle.world_moves.proofs.KindLaws.{KindLaws}
 use Rattle.world_moves.proofs.NodeTablesSame.{listed_same}
 use Rattle.world_moves.proofs.SearchLaws.{good_grown}
 use Rattle.world_moves.proofs.StepsAfter.{kept_running}
@@ -146,13 +147,13 @@ module _ (cluster : Cluster) (corpus : Corpus) (script : Script) (h : List Event
     facts_are : facts_of (scripted script) t past ≡ facts_after
     facts_are = notes_facts (scripted script) t notes (worked t ∷ h) refl ∙ ap (λ facts. wrote (scripted script) t facts notes) (at_work (scripted script) t h)
 
-    module _ (w : Work) (next : next_of r.work own now ≡ Turn) (turn : w ≡ with_turn r.work own) (same : own_writes cluster later asked ≡ own ++ docs_next r.work) (on : IsWorkOn w (own_writes cluster later asked)) where
+    module _ (w : Work) (next : next_of r.work own now ≡ Turn) (turn : w ≡ with_turn r.work own) (same : own_writes cluster later asked ≡ own ++ docs_next r.work) where
       works_after : WorksFor cluster later t (is_new t h) (progress_from cluster (so_far corpus script) facts_after) (requested_by t h) (awaited_by t h) asked w
       works_after =
           subst (λ new. WorksFor cluster later t new (progress_from cluster (so_far corpus script) facts_after) (requested_by t h) (awaited_by t h) asked w) (sym passed)
           (subst (λ version. WorksFor cluster later t false (record (progress_from cluster (so_far corpus script) facts_after) { version = version }) (requested_by t h) (awaited_by t h) asked w) (version_after (before_first_turn t h))
-          (subst (λ v. WorksFor cluster later t false (with_turn_of (progress_from cluster (so_far corpus script) (facts_of (scripted script) t h)) own notes) (requested_by t h) (awaited_by t h) asked v) (sym turn)
-          (laws.turned now later next grows same (subst (λ v. IsWorkOn v (own_writes cluster later asked)) turn on))))
+          (subst (λ v. WorksFor cluster later t false (progress_with_turn (progress_from cluster (so_far corpus script) (facts_of (scripted script) t h)) own notes) (requested_by t h) (awaited_by t h) asked v) (sym turn)
+          (laws.turned now later next grows same)))
 
       runs_after : RunsAt cluster (so_far corpus script) past t facts_after (record r { work = w })
       runs_after = record { live = runs.live; id = runs.id; token = runs.token; track = runs.track; new = runs.new; page = runs.page; headers = runs.headers; works = works_after }

@@ -43,8 +43,9 @@ pub record SlicesFor (shards : ℕ) (t : TaskId) (ask : ReindexAsk) (slice : ℕ
   pub rests : RestsShortly came s.phase
 
 -- So has a reindex that is cut into slices.
-pub record CutsFor (shards : ℕ) (ask : ReindexAsk) (asked : List Asked) (requests : List Request) (awaited : List (Option ℕ)) (c : Cutting) : Type 0 where
+pub record CutsFor (shards : ℕ) (ask : ReindexAsk) (asked : List Asked) (came : List ℕ) (requests : List Request) (awaited : List (Option ℕ)) (c : Cutting) : Type 0 where
   pub here : IsCutAt ask asked c
+  pub moments : length came ≡ length asked
   pub sound : IsCut c 32
   pub knows : KnowsAsks shards (cut_takes c) asked requests awaited
 
@@ -55,5 +56,5 @@ RunsSlice shards t asked came requests awaited ask _ = ⊥
 -- A reindex does the work of its one slice itself, or is cut into several.
 abbrev pub RunsReindex : ℕ → TaskId → List Asked → List ℕ → List Request → List (Option ℕ) → ReindexAsk → Work → Type 0
 RunsReindex shards t asked came requests awaited ask (works.Reindex (Alone s)) = (ask.slices ≡ 1) × SlicesFor shards t ask 0 asked came requests awaited s
-RunsReindex shards t asked came requests awaited ask (works.Reindex (Cut c)) = (ask.slices ≢ 1) × CutsFor shards ask asked requests awaited c
+RunsReindex shards t asked came requests awaited ask (works.Reindex (Cut c)) = (ask.slices ≢ 1) × CutsFor shards ask asked came requests awaited c
 RunsReindex shards t asked came requests awaited ask _ = ⊥

@@ -4,6 +4,7 @@ use Rattle.std.specs.List.{range_with_len}
 use Rattle.task_ids.specs.declared.cluster.Cluster.{Cluster}
 use Rattle.task_ids.specs.declared.corpus.Corpus.{Corpus}
 use Rattle.task_ids.specs.declared.task_id.TaskId.{TaskId}
+use Rattle.search_phase.specs.Runs.{IsSearchAt}
 use Rattle.search_phase.specs.Searching.{Searching, EachAnswer, IsReading}
 use Rattle.task_events.specs.declared.context.Context.{Context}
 use Rattle.task_events.specs.declared.reading.ShardRead.{ShardRead}
@@ -17,7 +18,7 @@ use Rattle.world_moves.specs.Good.{IsGoodReply, IsShardWithin}
 
 -- It has made the first of its requests, and knows the answers that have come. Its asks are numbered from 1.
 pub record SearchesFor (cluster : Cluster) (corpus : Corpus) (r : Reading) (asked : List Asked) (requests : List Request) (awaited : List (Option ℕ)) (s : Searching) : Type 0 where
-  pub state_is : s ≡ record { reading = r; asked = asked }
+  pub state_is : IsSearchAt r asked s
   pub reading_is : IsReading r
   pub few : length r.shards ≤ cluster.shards
   -- and shows at most so many documents

@@ -33,7 +33,7 @@ use Rattle.world_moves.specs.Ties.{Ties, RunsAt, progress_from}
 use Rattle.world_moves.specs.Good.{own_writes, so_far}
 use Rattle.node_parts.specs.Running.{DoesNext, can_act}
 use Rattle.world_moves.proofs.AllKinds.{passed_laws}
-use Rattle.world_moves.proofs.KindLaws.{KindLaws}
+use Rattle.world_moves.proofs.KindLaws.{KindLaws, follows, is_on}
 use Rattle.world_moves.proofs.NoneAwaited.{ends_cancelled, waits_cancelled, tells_none}
 use Rattle.world_moves.proofs.StepsAfter.{kept_running, is_kept}
 
@@ -72,7 +72,7 @@ module _ (cluster : Cluster) (corpus : Corpus) (script : Script) (h : List Event
   -- what its work says
   pub planned : (t : TaskId) → is_live t h ≡ true → is_new t h ≡ false → (r : Running) → tasks t ≡ Some r
       → option_map (λ r. planned_step cluster corpus (scripted script) t r h) (request_of (scripted script) t h) ≡ Some (next_of r.work (writes_at t) (clock h))
-  planned t l n r e = same_plan t (request_of (scripted script) t h) refl ∙ (laws_at t l n r e).follows (clock h)
+  planned t l n r e = same_plan t (request_of (scripted script) t h) refl ∙ follows (laws_at t l n r e) (clock h)
 
   pub next_new : (t : TaskId) → is_new t h ≡ true → runs.next_of cluster corpus script t h ≡ Some (first_step t (ban_over t h))
   next_new t n = rw n refl
@@ -121,7 +121,7 @@ module _ (cluster : Cluster) (corpus : Corpus) (script : Script) (h : List Event
     waits_kept = waits_so (is_new t h) refl
 
   pub works_on : (t : TaskId) → is_live t h ≡ true → is_new t h ≡ false → (r : Running) → tasks t ≡ Some r → IsWorkOn r.work (writes_at t)
-  works_on t l n r e = (laws_at t l n r e).on
+  works_on t l n r e = is_on (laws_at t l n r e)
 
   -- what the kept work does next is what the task does next, where it is not marked
   pub does : (t : TaskId) (now : ℕ) → now ≡ clock h → is_live t h ≡ true → is_new t h ≡ false → mark_of t h ≡ None → (step : Do) → DoesNext (tasks t) now step → runs.next_of cluster corpus script t h ≡ event_of cluster t h step

@@ -74,14 +74,14 @@ module _ (cluster : Cluster) (corpus : Corpus) (script : Script) (h : List Event
 
       pub after_taking : (request : Request) (page : Option Context) (headers : Headers) (running : Running) (kept : TaskId → Option Running) → root_request script command h ≡ Some request → headers ≡ root_headers script command
           → page ≡ asked_page (λ id. context_at (scripted script) id h) (Some request) → IsPageOf cluster (so_far corpus script h) page request
-          → running ≡ first t None false request running.work headers → IsNewWork t request cluster.shards page running.work → ((writes : List Doc) → IsWorkOn running.work writes)
+          → running ≡ first t None false request running.work headers → IsNewWork t request cluster.shards page running.work
           → kept t ≡ Some running → ((q : TaskId) → same_task t q ≡ false → kept q ≡ tasks q)
           → Ties cluster corpus script (Root command t ∷ h) kept after flight
-      after_taking request page headers running kept asked carried shows sound is work on here others = record {
+      after_taking request page headers running kept asked carried shows sound is work here others = record {
         lawful = (record { begins = begun; in_cluster = rw node_is high; takes = takes }, ties.lawful, awaits);
         kept = kept_after cluster corpus (scripted script) t (Root command t) h tasks kept refl refl ties.kept
             (rw here (runs_first cluster (so_far corpus script) (Root command t ∷ h) t None false request page headers _ running facts is
-            (works_first cluster (so_far corpus script h) t false request page running.work work on sound (root_within cluster (so_far corpus script h) (command_at script command) h request asked)))) others;
+            (works_first cluster (so_far corpus script h) t false request page running.work work sound (root_within cluster (so_far corpus script h) (command_at script command) h request asked)))) others;
         listed = put_listed cluster h tables ties.listed node low high t task after put (Root command t) (record { last = λ n. refl; live = refl });
         sent = all_stay (Root command t) h flight _ ties.sent;
         good = ties.good;

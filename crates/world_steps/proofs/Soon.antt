@@ -26,6 +26,7 @@ use Rattle.task_events.specs.Steps.{came_by, planned_step}
 use Rattle.task_events.specs.Tasks.{is_live, is_new}
 use Rattle.reindex.specs.declared.root.ReindexRoot.TheVariants.{Alone, Cut}
 use Rattle.reindex.specs.Slices.{Slicing}
+use Rattle.reindex.proofs.RootRuns.{alone_steps, cut_steps}
 use Rattle.reindex.proofs.SliceRuns.{slice_follows}
 use Rattle.task_work.specs.declared.work.Work.{Work}
 use Rattle.task_work.specs.declared.work.Work.TheVariants as works
@@ -39,7 +40,6 @@ use Rattle.world_moves.specs.Facts.{awaited_by, requested_by}
 use Rattle.world_moves.specs.Good.{so_far}
 use Rattle.world_moves.specs.ReindexRuns.{SlicesFor}
 use Rattle.world_moves.specs.Ties.{Ties, WorksFor}
-use Rattle.world_moves.proofs.ReindexLaws.{more_slices}
 use Rattle.world_moves.proofs.SliceLaws.{due_so}
 use Rattle.world_moves.proofs.StepsAfter.{is_kept, kept_running}
 use Rattle.world_steps.specs.Draining.{due_of}
@@ -62,12 +62,6 @@ module _ (cluster : Cluster) (corpus : Corpus) (t : TaskId) (ask : ReindexAsk) w
       let last = all_low now p.came low (length p.came - 1) in
       omega (arith, soon, last)
 
-  alone_steps : (p : Progress) (now : ℕ) → ask.slices ≡ 1 → reindex_step t ask cluster.shards p.asked p.came now ≡ slice_step t ask 0 cluster.shards p.asked p.came now
-  alone_steps p now one = let test : (ask.slices == 1) ≡ true = grind (arith, nat_tests) in rw test refl
-
-  cut_steps : (p : Progress) (now : ℕ) → ask.slices ≢ 1 → reindex_step t ask cluster.shards p.asked p.came now ≡ cut_step ask p.asked
-  cut_steps p now many = let test = more_slices ask many in rw test refl
-
 -- ---- every kind
 
 module _ (cluster : Cluster) (corpus : Corpus) (t : TaskId) (p : Progress) (requests : List Request) (awaited : List (Option ℕ)) (now due : ℕ) (low : AllByRecursion (λ moment. moment ≤ now) p.came) where
@@ -83,8 +77,8 @@ module _ (cluster : Cluster) (corpus : Corpus) (t : TaskId) (p : Progress) (requ
   soon (asks.Fetch ask) w x e = never _ e (work_waits _ _)
   soon (asks.Slice ask) (works.Slice s) x e = due_slice cluster corpus t ask.reindex ask.slice p requests awaited now due low s x e
   soon (asks.Slice ask) _ x e = absurd x
-  soon (asks.Reindex ask) (works.Reindex (Alone s)) x e = due_slice cluster corpus t ask 0 p requests awaited now due low s x.1 (sym (ap due_in (alone_steps cluster corpus t ask p now x.0)) ∙ e)
-  soon (asks.Reindex ask) (works.Reindex (Cut c)) x e = never _ (sym (ap due_in (cut_steps cluster corpus t ask p now x.0)) ∙ e) (ask_or_end_waits _ _ _)
+  soon (asks.Reindex ask) (works.Reindex (Alone s)) x e = due_slice cluster corpus t ask 0 p requests awaited now due low s x.1 (sym (ap due_in (alone_steps ask t cluster.shards p.asked p.came now x.0)) ∙ e)
+  soon (asks.Reindex ask) (works.Reindex (Cut c)) x e = never _ (sym (ap due_in (cut_steps ask t cluster.shards p.asked p.came now x.0)) ∙ e) (ask_or_end_waits _ _ _)
   soon (asks.Reindex ask) _ x e = absurd x
   soon (asks.Bulk ask) w x e = never _ e (ask_or_end_waits _ _ _)
   soon (asks.BulkShard ask) w x e = never _ e (work_waits _ _)

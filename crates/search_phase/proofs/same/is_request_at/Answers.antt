@@ -1,5 +1,4 @@
-use Rattle.std.proofs.Common.{◌≡◌, ◌≤◌, None, subst, rules, length}
-use Rattle.std.specs.Prelude.{slice_get}
+use Rattle.std.proofs.Common.{◌≤◌, subst, rules, length}
 use Rattle.std.proofs.lemmas.Option.{slice_get_past}
 use Rattle.search_phase.proofs.SameRequests.{fetch_told, none_told}
 use Rattle.search_phase.proofs.same.is_request_at.Goals as goal

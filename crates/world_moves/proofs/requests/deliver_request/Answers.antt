@@ -113,7 +113,7 @@ returns-in_ok-running-in-Ok-put_on-clause-tied c =
     both_ok c.keep_started.result _ _ _ c.keep_started.ensures.happened c.keep_started.ensures.kept (λ event kept. (let happened : c.keep_started.new.history ≡ Put t token.parent token.ask ∷ s.history = cc (event, c.id-task.ensures, c.parent-parent.ensures, c.ask-ask.ensures) in
     let changed = subst (λ (k : TaskId). (q : TaskId) → task_at c.keep_started.new.tasks q ≡ cond (is_at (task_id_cmp k) q) (Some running) (task_at s.tasks q)) (ap (λ (r : Running). r.ticket.id) is) kept in
     let ties = after_put s.cluster s.corpus.now s.script.now s.history (task_at s.tasks) s.tables.items s.flight c.requires.tied.ties c.requires.tied.awaits c.args.nth token c.take_request-token.result.1 _ a t _ _ put running (task_at c.keep_started.new.tasks) headers is page work carried
-    c.in_ok-running-in-Ok-put_on.ensures.begun (at_changed t (Some running) (task_at s.tasks) _ changed) (off_changed t (Some running) (task_at s.tasks) _ changed) in
+    (at_changed t (Some running) (task_at s.tasks) _ changed) (off_changed t (Some running) (task_at s.tasks) _ changed) in
     record {
       ties = same_ties s.cluster s.corpus.now s.script.now (task_at c.keep_started.new.tasks) _ _ _ _ _ _ happened refl c.take_request-token.ensures.rest
           ties;

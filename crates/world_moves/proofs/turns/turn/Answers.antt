@@ -84,7 +84,7 @@ tied_then c =
     let has = c.in-Ok-make.ensures.written (so_far s.corpus.now s.script.now s.history) s.cluster.shards c.requires.tied.oldest c.requires.tied.shards.has in
     let was_on = works_on c.args.state.now c.requires.tied c.args.task c.get_mut-running.result.now c.requires.live c.requires.passed c.requires.unmarked (sym c.in-Some.ensures.value ∙ ap Some (sym c.get_mut-running.ensures.value)) c.requires.next c.as_str-2.result.now c.in-Some-place.number place c.make.new.self c.make.new.self has c.in-Some-get_mut.shard.now.writes (ap (λ (v : ShardView). v.writes) c.in-Some-get_mut.ensures.shard) in
     turn_tied c.args.state.now c.requires.tied c.args.task c.get_mut-running.result.now c.requires.live c.requires.passed c.requires.unmarked (sym c.in-Some.ensures.value ∙ ap Some (sym c.get_mut-running.ensures.value)) c.requires.next c.as_str-2.result.now c.in-Some-place.number place c.make.new.self (c.get_mut-2.follows.lender c.turn.new.shard) has c.in-Some-get_mut.shard.now.writes (ap (λ (v : ShardView). v.writes) c.in-Some-get_mut.ensures.shard)
-    c.turn.new.self c.turn.new.shard (c.in-Ok-turn.ensures.ok was_on) (c.in-Ok-turn.ensures.holds_on was_on) c.in-Ok-turn.ensures.written (c.turn.ensures.oldest ∙ ap (λ (v : ShardView). v.oldest) c.in-Some-get_mut.ensures.shard) (search rules) (subst (λ o. OnSome o (Replaces c.as_str-2.result.now c.in-Some-place.number c.turn.new.shard c.make.new.self (c.get_mut-2.follows.lender c.turn.new.shard))) c.in-Some-get_mut.is (c.get_mut-2.follows.holds c.turn.new.shard)) c.make.ensures.from_start c.note_dead.new.shards c.note_dead.ensures.as_new (all_noted c) (c.get_mut.follows.lender w)
+    c.turn.new.self c.turn.new.shard (c.in-Ok-turn.ensures.ok was_on) c.in-Ok-turn.ensures.written (c.turn.ensures.oldest ∙ ap (λ (v : ShardView). v.oldest) c.in-Some-get_mut.ensures.shard) (search rules) (subst (λ o. OnSome o (Replaces c.as_str-2.result.now c.in-Some-place.number c.turn.new.shard c.make.new.self (c.get_mut-2.follows.lender c.turn.new.shard))) c.in-Some-get_mut.is (c.get_mut-2.follows.holds c.turn.new.shard)) c.make.ensures.from_start c.note_dead.new.shards c.note_dead.ensures.as_new (all_noted c) (c.get_mut.follows.lender w)
     (at_changed c.args.task (Some w) (task_at s.tasks) _ changed) (off_changed c.args.task (Some w) (task_at s.tasks) _ changed)
 
 pub returns-clause-tied : goal.returns-clause-tied

@@ -74,7 +74,7 @@ returns-in_ok-keep_root-in-Ok-clause-tied c =
     let changed = subst (λ (k : TaskId). (q : TaskId) → task_at c.keep_root.new.tasks q ≡ cond (is_at (task_id_cmp k) q) (Some running) (task_at s.tasks q)) here c.in_ok-keep_root-in-Ok.ensures.kept in
     let noted = subst (λ (x : TaskId). (k : ℕ) → get nat_cmp c.keep_root.new.roots k ≡ cond (is_at (nat_cmp c.args.command) k) (Some x) (get nat_cmp s.roots k)) here c.in_ok-keep_root-in-Ok.ensures.noted in
     let tied = after_taking s.cluster s.corpus.now s.script.now s.history (task_at s.tasks) s.tables.items s.flight c.requires.tied.ties c.requires.tied.awaits c.args.command c.args.node c.requires.begun c.requires.low c.requires.high t _ _ put
-    c.args.request.now _ headers running (task_at c.keep_root.new.tasks) c.requires.asked carried shows sound is c.in_ok-running-in-Ok.ensures.work c.in_ok-running-in-Ok.ensures.begun (at_changed t (Some running) (task_at s.tasks) _ changed) (off_changed t (Some running) (task_at s.tasks) _ changed) in
+    c.args.request.now _ headers running (task_at c.keep_root.new.tasks) c.requires.asked carried shows sound is c.in_ok-running-in-Ok.ensures.work (at_changed t (Some running) (task_at s.tasks) _ changed) (off_changed t (Some running) (task_at s.tasks) _ changed) in
     record {
       ties = same_ties s.cluster s.corpus.now s.script.now (task_at c.keep_root.new.tasks) _ _ _ _ _ _ happened refl refl
           tied;

@@ -1,4 +1,4 @@
-use Rattle.std.proofs.Common.{◌≡◌, sym, ◌∙◌, ap, subst, false, true, Option, Some, None, position}
+use Rattle.std.proofs.Common.{◌≡◌, sym, ◌∙◌, ap, subst, false, Option, Some, None, position}
 use Rattle.std.specs.Prelude.{◌↔◌, IsTrue, option_map}
 use Rattle.task_events.specs.declared.request.Request.{Request}
 use Rattle.task_events.specs.Answered.{as_answered}
