@@ -51,6 +51,7 @@ pub mod LookingLaws
 pub mod MarksAfter
 pub mod NamedCancels
 pub mod NextChild
+pub mod NextNumbers
 pub mod NoParts
 pub mod NodeTables
 pub mod NodeTablesSame

@@ -57,6 +57,15 @@ module _ (cluster : Cluster) (h : List Event) (tables : List Table) (listed : (p
       let slots = i.slots_are in
       (omega arith, sym i.last_is ∙ all.1)
 
+  -- a node that lacks a number has a table that says so
+  pub spent_table : Lawful cluster h → NodeLacksNumber cluster h n → (length table_of.0.live < table_of.0.slots) × (table_of.0.last ≡ greatest_number)
+  spent_table lawful lacks =
+      let i = table_of.2 in
+      let rows = rows_counted cluster n h table_of.0 lawful i in
+      let few = lacks.0 in
+      let slots = i.slots_are in
+      (omega arith, i.last_is ∙ lacks.1)
+
 -- A task was put into the table of a node.
 pub record IsPutOn (tables : List Table) (n : ℕ) (t : TaskId) (task : NewTask) (after : List Table) : Type 0 where
   pub id : (table : Table) → slice_get tables (n - 1) ≡ Some table → (t.node ≡ table.node) × (t.number ≡ table.last + 1)

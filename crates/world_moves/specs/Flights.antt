@@ -54,6 +54,11 @@ abbrev pub is_request_entry : Option Sent → Bool
 is_request_entry (Some (sent.Request token to at headers)) = true
 is_request_entry _ = false
 
+-- the node to which a request goes
+abbrev pub node_asked : Option Sent → Option ℕ
+node_asked (Some (sent.Request token to at headers)) = Some to
+node_asked _ = None
+
 abbrev pub is_answer_entry : Option Sent → Bool
 is_answer_entry (Some (sent.Answer receipt at)) = true
 is_answer_entry _ = false

@@ -1,7 +1,7 @@
 //! The messages in flight.
 
 ghost use Rattle.std.specs.Prelude.{◌≡◌, true, Some, ◌∷◌, [], ◌++◌, ◌<◌, length, remove, slice_get, IfErr, OnOk, OnErr, OnSome, IfNone};
-ghost use Rattle.world_moves.specs.Flights.{is_request_entry, is_answer_entry, notice_at};
+ghost use Rattle.world_moves.specs.Flights.{is_request_entry, is_answer_entry, node_asked, notice_at};
 
 use child_track::{AskToken, Receipt};
 use node_parts::notice::Notice;
@@ -125,6 +125,16 @@ impl Flight {
         ensures { result ≡ is_request_entry (slice_get self.now nth) }
     {
         matches!(self.queue.get(nth), Some(Sent::Request { .. }))
+    }
+
+    /// The node to which the request of this place goes, from 1 on, if it is one.
+    pub(crate) fn node_at(&self, nth: usize) -> Option<u32>
+        ensures { result ≡ node_asked (slice_get self.now nth) }
+    {
+        match self.queue.get(nth) {
+            Some(Sent::Request { to, .. }) => Some(*to),
+            _ => None,
+        }
     }
 
     /// The message of this place, if it is one about bans.

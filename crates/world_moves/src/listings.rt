@@ -1,6 +1,6 @@
 //! Steps of open listings.
 
-ghost use Rattle.std.specs.Prelude.{◌≡◌, ◌∷◌, ◌≤◌, true, length, Err, Ok, IfErr, IfOk, IfSome, IfNone, OnOk, OnErr, Some};
+ghost use Rattle.std.specs.Prelude.{◌≡◌, ◌≢◌, ◌∷◌, ◌≤◌, true, length, Err, Ok, IfErr, IfOk, IfSome, IfNone, OnOk, OnErr, Some};
 ghost use Rattle.task_ids.specs.Limits.{IsCancel};
 ghost use Rattle.task_events.specs.declared.history.TheConstants.{MAX_EVENTS};
 ghost use Rattle.task_events.specs.Allowed.{HasAllMarked};
@@ -17,7 +17,7 @@ use crate::state::State;
 use cancel_core::Act;
 use node_parts::listing::Listing;
 use node_parts::notice::Notice;
-use task_events::{Event, Stop};
+use task_events::{Event, MAX_EVENTS, Stop};
 use task_ids::TaskId;
 
 /// What came of a step of a listing.
@@ -62,7 +62,11 @@ fn end_listing(state: &mut State<'_>, listing: Listing) -> Result<(), Stop>
     ensures err { OnErr result (state.new.history ≡ state.old.history) }
     ensures full { result ≡ Err Stop.HistoryFull → length state.old.history ≡ MAX_EVENTS }
     ensures numbers { result ≡ Err Stop.NumbersSpent → ⊥ }
+    ensures memory { result ≡ Err Stop.Memory → length state.old.history ≢ MAX_EVENTS }
 {
+    if state.history.len() == MAX_EVENTS {
+        return Err(Stop::HistoryFull);
+    }
     let _was_open = state.listings.remove(&listing);
     let act = state.cores[listing.node as usize - 1].ban_listed(listing.parent);
     let Act::SendAck { to: _, parent } = act else {
@@ -96,6 +100,7 @@ fn list(state: &mut State<'_>, listing: Listing) -> Result<(), Stop>
     ensures part { OnErr result (IsPartly (ListSteps listing) state.old.history state.new.history) }
     ensures laws { OnErr result (KeepsLaws state.new) }
     ensures stop { IfErr result (λ stop. StopsMove (ListSteps listing) state.old.history state.new.history stop) }
+    ensures memory { result ≡ Err Stop.Memory → length state.old.history ≢ MAX_EVENTS }
 {
     match next_child(state, listing) {
         Some((task, cancel)) => match mark(state, task, cancel, None) {
@@ -122,6 +127,7 @@ pub fn list_step(state: &mut State<'_>, listing: Listing) -> Result<ListStep, St
     ensures part { OnErr result (IsPartly (ListSteps listing) state.old.history state.new.history) }
     ensures laws { OnErr result (KeepsLaws state.new) }
     ensures stop { IfErr result (λ stop. StopsMove (ListSteps listing) state.old.history state.new.history stop) }
+    ensures memory { result ≡ Err Stop.Memory → length state.old.history ≢ MAX_EVENTS }
 {
     if !state.listings.contains(&listing) {
         return Ok(ListStep::NoListing);

@@ -1,6 +1,6 @@
 //! Marks.
 
-ghost use Rattle.std.specs.Prelude.{◌≡◌, ◌∷◌, ◌≤◌, length, Err, IfSome, OnOk, OnErr};
+ghost use Rattle.std.specs.Prelude.{◌≡◌, ◌≢◌, ◌∷◌, ◌≤◌, length, Err, IfSome, OnOk, OnErr};
 ghost use Rattle.task_ids.specs.Limits.{IsCancel};
 ghost use Rattle.task_events.specs.declared.history.TheConstants.{MAX_EVENTS};
 ghost use Rattle.task_events.specs.Lawful.{Lawful};
@@ -14,14 +14,14 @@ use crate::append::append;
 use crate::performing::{count_down, send_all};
 use crate::state::State;
 use cancel_core::Waiter;
-use task_events::{Event, Stop};
+use task_events::{Event, MAX_EVENTS, Stop};
 use task_ids::TaskId;
 
 /// Marks a live task that has no mark, for the cancel that has just named it or for a listing: the task asks for nothing more, and
 /// bans of it go to the nodes of its unanswered asks. No cancel is answered by it: the one that named the task may be naming others.
 ///
-/// It fails where the history is full (`HistoryFull`, at 4,000,000 events) or memory runs out (`Memory`); the mark may have
-/// come then.
+/// It fails where the history is full (`HistoryFull`, at 4,000,000 events), which takes no memory to find, or else where memory runs out
+/// (`Memory`); the mark may have come then.
 pub fn mark(
     state: &mut State<'_>,
     task: TaskId,
@@ -46,7 +46,11 @@ pub fn mark(
     ensures laws { OnErr result (KeepsLaws state.new) }
     ensures full { result ≡ Err Stop.HistoryFull → (length state.old.history ≡ MAX_EVENTS) × (state.new.history ≡ state.old.history) }
     ensures numbers { result ≡ Err Stop.NumbersSpent → ⊥ }
+    ensures memory { result ≡ Err Stop.Memory → length state.old.history ≢ MAX_EVENTS }
 {
+    if state.history.len() == MAX_EVENTS {
+        return Err(Stop::HistoryFull);
+    }
     let place = task.node as usize - 1;
     let Some(running) = state.tasks.get_mut(&task) else {
         unreachable!()

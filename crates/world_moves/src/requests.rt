@@ -1,23 +1,23 @@
 //! Requests reach their nodes.
 
-ghost use Rattle.std.specs.Prelude.{◌≡◌, ◌∷◌, ◌++◌, [], ◌≤◌, true, length, remove, slice_get, option_and_then, Err, Some, None, IsSome, IfOk, OnOk, OnErr};
+ghost use Rattle.std.specs.Prelude.{◌≡◌, ◌∷◌, ◌≢◌, ◌++◌, [], ◌<◌, ◌≤◌, ◌↔◌, true, length, remove, slice_get, option_and_then, Err, Some, None, IsSome, IfOk, IfErr, OnOk, OnErr};
 ghost use Rattle.task_events.specs.declared.history.TheConstants.{MAX_EVENTS};
 ghost use Rattle.node_parts.specs.Starting.{task_for};
 ghost use Rattle.task_events.specs.declared.request.Request.{Request};
 ghost use Rattle.world_moves.specs.Flights.{event_at, request_in, is_request_entry};
-ghost use Rattle.world_moves.specs.Moves.{Delivers, DeliveryLacksNumber, IsPartly, IsCutShort};
+ghost use Rattle.world_moves.specs.Moves.{Delivers, DeliveryLacksNumber, IsPartly, IsCutShort, StopsDelivery};
 ghost use Rattle.world_moves.specs.Ties.{IsTied, Keeps};
 
 use crate::append::append;
 use crate::flight::{Flight, Sent};
 use crate::pages::page_asked;
 use crate::sending::send;
-use crate::starting::{keep_started, put_on, spend};
+use crate::starting::{check_room, keep_started, put_on, spend};
 use crate::state::State;
 use child_track::AskToken;
 use node_parts::starting::{new_task, with_work};
 use std::alloc::AllocError;
-use task_events::{Event, History, Request, Stop};
+use task_events::{Event, History, MAX_EVENTS, Request, Stop};
 use task_ids::{Headers, NewTask, TaskId};
 use task_table::PutError;
 
@@ -91,6 +91,25 @@ fn reject(
         Err(stop) => return Err(stop),
     }
     append(history, Event::Reject { node, parent, ask })
+}
+
+/// Whether the message of this place can be delivered. It takes no memory, and fails where it is a request that finds a free slot and no
+/// number is left for its child (`NumbersSpent`), else where the history is full (`HistoryFull`, at 4,000,000 events).
+pub fn check_delivery(state: &State<'_>, nth: usize) -> Result<(), Stop>
+    requires tied { IsTied state.now }
+    requires there { nth < length state.now.flight }
+    ensures spent { (result ≡ Err Stop.NumbersSpent) ↔ DeliveryLacksNumber state.now.cluster state.now.history nth }
+    ensures stop { IfErr result (λ stop. StopsDelivery state.now.cluster state.now.history nth state.now.history stop) }
+    ensures room { OnOk result (length state.now.history ≢ MAX_EVENTS) }
+    ensures memory { result ≡ Err Stop.Memory → ⊥ }
+{
+    if let Some(node) = state.flight.node_at(nth) {
+        return check_room(state, node);
+    }
+    if state.history.len() == MAX_EVENTS {
+        return Err(Stop::HistoryFull);
+    }
+    Ok(())
 }
 
 /// A request reaches its node. Where a slot is free there, its child takes it and is to pass; where none is, the

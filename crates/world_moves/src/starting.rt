@@ -1,6 +1,6 @@
 //! How a task starts: it takes a slot of its node, and is kept.
 
-ghost use Rattle.std.specs.Prelude.{◌≡◌, ◌≢◌, ◌∷◌, ◌+◌, ◌-◌, ◌≤◌, ◌<◌, length, slice_get, slice_set, Err, Some, None, cond, IfOk, IfErr, OnOk, OnErr, IsErrOf};
+ghost use Rattle.std.specs.Prelude.{◌≡◌, ◌≢◌, ◌∷◌, ◌+◌, ◌-◌, ◌≤◌, ◌<◌, ◌↔◌, length, slice_get, slice_set, Err, Some, None, cond, IfOk, IfErr, OnOk, OnErr, IsErrOf};
 ghost use Rattle.std.specs.BTreeMap.{is_at};
 ghost use Rattle.child_track.specs.Token.{token_parent};
 ghost use Rattle.task_ids.specs.TaskIdOrder.{task_id_cmp};
@@ -8,14 +8,15 @@ ghost use Rattle.task_ids.specs.declared.task_id.TaskId.{TaskId};
 ghost use Rattle.task_table.specs.Table.{Table, with_task};
 ghost use Rattle.task_table.specs.Answer.{refused_token};
 ghost use Rattle.task_events.specs.declared.history.TheConstants.{MAX_EVENTS};
-ghost use Rattle.world_moves.specs.Moves.{greatest_number};
-ghost use Rattle.world_moves.specs.Ties.{task_at};
+ghost use Rattle.world_moves.specs.Moves.{greatest_number, NodeLacksNumber};
+ghost use Rattle.world_moves.specs.Ties.{IsTied, task_at};
 
 use crate::append::append;
+use crate::state::State;
 use child_track::AskToken;
 use node_parts::running::Running;
 use std::collections::BTreeMap;
-use task_events::{Event, History, Stop};
+use task_events::{Event, History, MAX_EVENTS, Stop};
 use task_ids::{Boxed, NewTask, TaskId};
 use task_table::{PutError, TaskTable, Ticket};
 
@@ -47,6 +48,27 @@ pub fn put_on(
     ensures err { OnErr result (tables.new.items ≡ tables.old.items) }
 {
     tables[node as usize - 1].put(task, token)
+}
+
+/// Whether the event can come with which a root or a child comes to a node, from 1 on. It takes no memory, and fails where a slot is free
+/// and the node has given its last number (`NumbersSpent`, at 1,048,575), else where the history is full (`HistoryFull`, at 4,000,000
+/// events).
+pub fn check_room(state: &State<'_>, node: u32) -> Result<(), Stop>
+    requires tied { IsTied state.now }
+    requires low { 1 ≤ node }
+    requires high { node ≤ state.now.cluster.nodes }
+    ensures spent { (result ≡ Err Stop.NumbersSpent) ↔ NodeLacksNumber state.now.cluster state.now.history node }
+    ensures full { result ≡ Err Stop.HistoryFull → length state.now.history ≡ MAX_EVENTS }
+    ensures room { OnOk result (length state.now.history ≢ MAX_EVENTS) }
+    ensures memory { result ≡ Err Stop.Memory → ⊥ }
+{
+    if state.tables[node as usize - 1].is_spent() {
+        return Err(Stop::NumbersSpent);
+    }
+    if state.history.len() == MAX_EVENTS {
+        return Err(Stop::HistoryFull);
+    }
+    Ok(())
 }
 
 /// Spends the token of a task that does not start.

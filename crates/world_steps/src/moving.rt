@@ -1,9 +1,9 @@
 //! Moves of the world, after each of which it is known which tasks wait.
 
-ghost use Rattle.std.specs.Prelude.{◌≡◌, ◌<◌, ◌≤◌, length, true, false, Ok, OnOk, OnErr, IfOk, IfErr};
+ghost use Rattle.std.specs.Prelude.{◌≡◌, ◌≢◌, ◌<◌, ◌≤◌, ◌↔◌, length, true, false, Ok, Err, OnOk, OnErr, IfOk, IfErr};
 ghost use Rattle.task_events.specs.declared.history.TheConstants.{MAX_EVENTS};
 ghost use Rattle.world_moves.specs.Listings.{ListSteps, AnswersListing};
-ghost use Rattle.world_moves.specs.Moves.{Delivers, IsPartly, StopsDelivery, StopsMove};
+ghost use Rattle.world_moves.specs.Moves.{Delivers, DeliveryLacksNumber, IsPartly, StopsDelivery, StopsMove};
 ghost use Rattle.world_steps.specs.Runs.{Steps, AnswersStep, FirstMoves, HasRoom, IsSettled, Settles, PartlySettles, StopsFirst, StopsSettling};
 ghost use Rattle.world_moves.specs.Ties.{IsTied, Keeps, KeepsLaws};
 ghost use Rattle.world_steps.specs.World.{HasReady};
@@ -16,7 +16,7 @@ use task_ids::TaskId;
 use world_moves::answers::deliver_answer;
 use world_moves::bans::deliver_notice;
 use world_moves::listings::{ListStep, list_step};
-use world_moves::requests::deliver_request;
+use world_moves::requests::{check_delivery, deliver_request};
 use world_moves::state::State;
 
 /// Delivers the message of this place among those in flight.
@@ -30,7 +30,10 @@ pub(crate) fn deliver_one(state: &mut State<'_>, nth: usize) -> Result<(), Stop>
     ensures part { OnErr result (IsPartly (λ h new. Delivers state.old.cluster h nth new) state.old.history state.new.history) }
     ensures laws { OnErr result (KeepsLaws state.new) }
     ensures stop { IfErr result (λ stop. StopsDelivery state.old.cluster state.old.history nth state.new.history stop) }
+    ensures spent { (result ≡ Err Stop.NumbersSpent) ↔ DeliveryLacksNumber state.old.cluster state.old.history nth }
+    ensures memory { result ≡ Err Stop.Memory → length state.old.history ≢ MAX_EVENTS }
 {
+    check_delivery(state, nth)?;
     if let Some(notice) = state.flight.notice(nth) {
         return deliver_notice(state, nth, notice);
     }
@@ -63,6 +66,8 @@ pub(crate) fn deliver_and_refresh(
     ensures part { OnErr result (IsPartly (λ h new. Delivers state.old.cluster h nth new) state.old.history state.new.history) }
     ensures laws { KeepsLaws state.new }
     ensures stop { IfErr result (λ stop. StopsDelivery state.old.cluster state.old.history nth state.new.history stop) }
+    ensures spent { (result ≡ Err Stop.NumbersSpent) ↔ DeliveryLacksNumber state.old.cluster state.old.history nth }
+    ensures memory { result ≡ Err Stop.Memory → length state.old.history ≢ MAX_EVENTS }
 {
     let before = state.history.len();
     match deliver_one(state, nth) {
@@ -91,6 +96,7 @@ pub(crate) fn step_and_refresh(
     ensures part { OnErr result (IsPartly (Steps state.old.cluster state.old.corpus.now state.old.script.now task) state.old.history state.new.history) }
     ensures laws { KeepsLaws state.new }
     ensures stop { IfErr result (λ stop. StopsMove (Steps state.old.cluster state.old.corpus.now state.old.script.now task) state.old.history state.new.history stop) }
+    ensures memory { result ≡ Err Stop.Memory → length state.old.history ≢ MAX_EVENTS }
 {
     let before = state.history.len();
     let stepped = match act(state, task) {
@@ -119,6 +125,7 @@ pub(crate) fn list_and_refresh(
     ensures part { OnErr result (IsPartly (ListSteps listing) state.old.history state.new.history) }
     ensures laws { KeepsLaws state.new }
     ensures stop { IfErr result (λ stop. StopsMove (ListSteps listing) state.old.history state.new.history stop) }
+    ensures memory { result ≡ Err Stop.Memory → length state.old.history ≢ MAX_EVENTS }
 {
     let before = state.history.len();
     let stepped = match list_step(state, listing) {

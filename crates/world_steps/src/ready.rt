@@ -62,7 +62,7 @@ pub(crate) fn task_of(event: &Event) -> Option<TaskId>
 
 /// Whether a kept task does not wait at this moment: a marked one waits while an ask of it is unanswered, and for the others their work
 /// says.
-fn can_act(running: &Running, now: u64) -> bool
+pub(crate) fn can_act(running: &Running, now: u64) -> bool
     ensures { (writes : List Doc) → result ≡ can_act running.now writes now }
 {
     if running.is_new {

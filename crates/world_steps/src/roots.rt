@@ -1,6 +1,6 @@
 //! Commands begin, and their roots come to their nodes.
 
-ghost use Rattle.std.specs.Prelude.{◌≡◌, ◌∷◌, ℕ, Bool, ◌+◌, ◌≤◌, length, cond, Err, Some, None, IfOk, IfErr, OnOk, OnErr};
+ghost use Rattle.std.specs.Prelude.{◌≡◌, ◌≢◌, ◌∷◌, ◌↔◌, ℕ, Bool, ◌+◌, ◌≤◌, length, cond, Err, Some, None, IfOk, IfErr, OnOk, OnErr};
 ghost use Rattle.std.specs.BTreeMap.{is_at, get};
 ghost use Rattle.std.specs.Ordering.{nat_cmp};
 ghost use Rattle.task_ids.specs.TaskIdOrder.{task_id_cmp};
@@ -29,7 +29,7 @@ use task_table::PutError;
 use world_moves::append::append;
 use world_moves::pages::{clear, page_asked, take};
 use world_moves::purging::forget;
-use world_moves::starting::{keep_started, put_on, spend};
+use world_moves::starting::{check_room, keep_started, put_on, spend};
 use world_moves::state::State;
 
 /// Notes that a command begins, the next in order. The context goes that it clears.
@@ -236,7 +236,8 @@ fn search_request(alloc: Global, ask: SearchAsk) -> Result<Request, Stop>
 /// The search of a command that has begun comes to its node. It starts where a slot is free there, and is rejected
 /// where none is. The answer is whether it started.
 ///
-/// Where a slot is free, the number of the task is looked for before there is room for the event.
+/// It fails where a slot is free and the node has given its last number (`NumbersSpent`), else where the history is full (`HistoryFull`),
+/// both of which take no memory to find, and else where memory runs out (`Memory`).
 pub(crate) fn start(
     state: &mut State<'_>,
     command: u32,
@@ -255,10 +256,11 @@ pub(crate) fn start(
     ensures err { OnErr result (state.new.history ≡ state.old.history) }
     ensures full { result ≡ Err Stop.HistoryFull
         → IsCutShort (IsPartly (λ h new. (started : Bool) × Starts state.old.cluster h command node started new) state.old.history) state.new.history }
-    ensures spent { result ≡ Err Stop.NumbersSpent
-        → NodeLacksNumber state.old.cluster state.old.history node }
+    ensures spent { (result ≡ Err Stop.NumbersSpent) ↔ NodeLacksNumber state.old.cluster state.old.history node }
+    ensures memory { result ≡ Err Stop.Memory → length state.old.history ≢ MAX_EVENTS }
     ensures room { OnOk result (length state.new.history ≤ MAX_EVENTS) }
 {
+    check_room(state, node)?;
     let request = search_request(state.alloc, ask)?;
     let started = start_with(state, command, node, &request);
     drop(request);
@@ -293,7 +295,8 @@ fn page_request(alloc: Global, ask: ScrollAsk) -> Result<Request, Stop>
 /// The reindex of a command that has begun comes to its node. It starts where a slot is free there, and is rejected
 /// where none is. The answer is whether it started.
 ///
-/// Where a slot is free, the number of the task is looked for before there is room for the event.
+/// It fails where a slot is free and the node has given its last number (`NumbersSpent`), else where the history is full (`HistoryFull`),
+/// both of which take no memory to find, and else where memory runs out (`Memory`).
 pub(crate) fn start_reindex(
     state: &mut State<'_>,
     command: u32,
@@ -312,10 +315,11 @@ pub(crate) fn start_reindex(
     ensures err { OnErr result (state.new.history ≡ state.old.history) }
     ensures full { result ≡ Err Stop.HistoryFull
         → IsCutShort (IsPartly (λ h new. (started : Bool) × Starts state.old.cluster h command node started new) state.old.history) state.new.history }
-    ensures spent { result ≡ Err Stop.NumbersSpent
-        → NodeLacksNumber state.old.cluster state.old.history node }
+    ensures spent { (result ≡ Err Stop.NumbersSpent) ↔ NodeLacksNumber state.old.cluster state.old.history node }
+    ensures memory { result ≡ Err Stop.Memory → length state.old.history ≢ MAX_EVENTS }
     ensures room { OnOk result (length state.new.history ≤ MAX_EVENTS) }
 {
+    check_room(state, node)?;
     let request = reindex_request(state.alloc, ask)?;
     let started = start_with(state, command, node, &request);
     drop(request);
@@ -325,7 +329,8 @@ pub(crate) fn start_reindex(
 /// The page of a command that has begun comes to the node of its context. It starts where a slot is free there, and is rejected where
 /// none is, which leaves the last use of the context. The answer is whether it started.
 ///
-/// Where a slot is free, the number of the task is looked for before there is room for the event.
+/// It fails where a slot is free and the node has given its last number (`NumbersSpent`), else where the history is full (`HistoryFull`),
+/// both of which take no memory to find, and else where memory runs out (`Memory`).
 pub(crate) fn start_page(state: &mut State<'_>, command: u32, ask: ScrollAsk) -> Result<bool, Stop>
     requires tied { IsTied state.old }
     requires begun { beginning state.old.history ≡ Some command }
@@ -338,10 +343,11 @@ pub(crate) fn start_page(state: &mut State<'_>, command: u32, ask: ScrollAsk) ->
     ensures err { OnErr result (state.new.history ≡ state.old.history) }
     ensures full { result ≡ Err Stop.HistoryFull
         → IsCutShort (IsPartly (λ h new. (started : Bool) × Starts state.old.cluster h command ask.id.node started new) state.old.history) state.new.history }
-    ensures spent { result ≡ Err Stop.NumbersSpent
-        → NodeLacksNumber state.old.cluster state.old.history ask.id.node }
+    ensures spent { (result ≡ Err Stop.NumbersSpent) ↔ NodeLacksNumber state.old.cluster state.old.history ask.id.node }
+    ensures memory { result ≡ Err Stop.Memory → length state.old.history ≢ MAX_EVENTS }
     ensures room { OnOk result (length state.new.history ≤ MAX_EVENTS) }
 {
+    check_room(state, ask.id.node)?;
     let request = page_request(state.alloc, ask)?;
     let started = start_with(state, command, ask.id.node, &request);
     drop(request);

@@ -64,6 +64,9 @@ begin-requires-clause-fresh c =
     let within = slice_get_within s.cores.items (t.node - 1) core.0 core.1 in
     fresh s.cluster _ s.history _ _ _ _ _ c.requires.cancels t _ c.requires.lawful.0.unmarked (read_at s.cores.items (t.node - 1) c.index_mut-2.result.now within c.index_mut-2.ensures.value)
 
+pub returns-then-len-eq-MAX_EVENTS-clause-part : goal.returns-then-len-eq-MAX_EVENTS-clause-part
+returns-then-len-eq-MAX_EVENTS-clause-part c = (Mark c.args.task c.args.cancel ∷ [], [], refl, refl)
+
 pub returns-in_default-begin-clause-part : goal.returns-in_default-begin-clause-part
 returns-in_default-begin-clause-part c = (Mark c.args.task c.args.cancel ∷ [], [], refl, refl)
 
