@@ -83,7 +83,7 @@ module _ (s : State) (tied : IsTied s) (t : TaskId) (r : Running) (live : is_liv
         low : number < s.cluster.shards
         low = turns.shard_there s.cluster s.corpus.now s.script.now s.history (task_at s.tasks) s.tables.items s.flight tied.ties t s.clock r live passed unmarked here index number place
 
-        of_list : (o : Option (Vec (List Doc))) → IfSome o (λ list. length list.items ≡ s.cluster.shards) → IfSome o (λ list. number < length list.items)
+        of_list : (o : Option (Vec ShardView)) → IfSome o (λ list. length list.items ≡ s.cluster.shards) → IfSome o (λ list. number < length list.items)
         of_list None many = tt
         of_list (Some list) many = subst (λ n. number < n) (sym many) low
 

@@ -4,7 +4,7 @@ use Rattle.task_work.specs.Works.{place_of}
 use Rattle.task_events.specs.declared.event.Event.TheVariants.{Work}
 use Rattle.task_events.specs.Written.{with_notes}
 use Rattle.shard_docs.specs.ShardView.{ShardView, has_dead}
-use Rattle.corpus_shards.specs.Stored.{AllNoted, Replaces}
+use Rattle.corpus_shards.specs.Stored.{AllNoted, Replaces, is_noted}
 use Rattle.corpus_shards.proofs.Cases.{some_of, then_ok, then_err}
 use Rattle.corpus_shards.proofs.Notes.{made_noted, noted_after}
 use Rattle.world_moves.specs.Good.{so_far}
@@ -67,7 +67,8 @@ all_noted c =
     let old_noted : AllNoted old = made_noted s.shards old c.make.ensures.same c.make.ensures.stale c.requires.tied.shards.noted in
     let replaces = subst (λ o. OnSome o (Replaces c.as_str-2.result.now c.in-Some-place.number c.turn.new.shard c.make.new.self (c.get_mut-2.follows.lender c.turn.new.shard))) c.in-Some-get_mut.is (c.get_mut-2.follows.holds c.turn.new.shard) in
     noted_after old (c.get_mut-2.follows.lender c.turn.new.shard) c.note_dead.new.shards c.as_str-2.result.now c.in-Some-place.number c.turn.new.shard c.has_dead-had_dead.result c.has_dead-has_dead.result
-    old_noted replaces c.note_dead.ensures.as_new (c.has_dead-had_dead.ensures ∙ ap has_dead c.in-Some-get_mut.ensures.shard) c.has_dead-has_dead.ensures ?
+    old_noted replaces c.note_dead.ensures.as_new (c.has_dead-had_dead.ensures ∙ ap has_dead c.in-Some-get_mut.ensures.shard) c.has_dead-has_dead.ensures
+    (λ had has. ap (λ i. is_noted c.note_dead.new.shards i c.in-Some-place.number) (c.as_str-2.ensures ∙ c.get-2.ensures) ∙ c.in-Ok-note_dead.ensures.noted had has)
 
 -- and the tables fit the past after all of it
 tied_then : (c : goal.After-drop-notes-2) → IsTied (record c.args.state.now {
