@@ -1,4 +1,5 @@
 pub mod CancelLines
+pub mod FaultsTold
 pub mod LinesOfCommands
 pub mod NumberLemmas
 pub mod OneLine

@@ -1,6 +1,7 @@
 -- What the status of a call of `sim_top` says of the input, of what is kept, and of what was written.
 use Rattle.std.specs.Prelude.{◌≡◌, ◌<◌, ◌⊎◌, ℕ, List, [], Option, length, take}
 use Rattle.es_io.specs.Bytes.{Appends}
+use Rattle.es_io.specs.Count.{Rose}
 use Rattle.task_ids.specs.declared.cluster.Cluster.{Cluster}
 use Rattle.task_events.specs.declared.stop.Stop.{Stop}
 use Rattle.task_events.specs.declared.stop.Stop.TheVariants as stops
@@ -79,6 +80,10 @@ module _ (cluster : Cluster) where
   HasCause HistoryFull kept source sink = StopsRun cluster kept.corpus kept.script kept.history stops.HistoryFull
   HasCause NumbersSpent kept source sink = StopsRun cluster kept.corpus kept.script kept.history stops.NumbersSpent
   HasCause _ kept source sink = Unit {0}
+
+-- A fault is told where its count rose in the call, and only there. A count at its type's end stands still and does not show it.
+abbrev pub TellsFault : (before after : ℕ) → Type 0 → Type 0
+TellsFault before after told = (before < after → told) × (told → Rose before after)
 
 -- the input was read to its end
 abbrev pub IsReadWhole : Status → Type 0

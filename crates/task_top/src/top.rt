@@ -1,4 +1,5 @@
-ghost use Rattle.std.specs.Prelude.{◌<◌, ◌≡◌, ◌≤◌, ◌++◌, List, [], length, IfSome, Some};
+ghost use Rattle.std.specs.Prelude.{◌<◌, ◌≡◌, ◌≤◌, ◌++◌, ◌↔◌, List, [], length, IfSome, Some};
+ghost use Rattle.es_io.specs.Bytes.{IfGave};
 ghost use Rattle.es_io.specs.Count.{Rose};
 ghost use Rattle.task_events.specs.declared.event.Event.{Event};
 ghost use Rattle.task_events.specs.Lawful.{Lawful};
@@ -6,9 +7,10 @@ ghost use Rattle.command_roots.specs.Roots.{scripted};
 ghost use Rattle.world_moves.specs.Owning.{OneAtATime};
 ghost use Rattle.world_moves.specs.Plain.{AnswersPlainly};
 ghost use Rattle.world_steps.specs.Scripts.{CanRun};
-ghost use Rattle.task_top.specs.Kept.{AnswersInput, IsReadWhole, RanAsRead, Rests, TellsEach, WritesLines, HasCause, IsAfterReading, early_status};
+ghost use Rattle.task_top.specs.Kept.{AnswersInput, IsReadWhole, RanAsRead, Rests, TellsEach, WritesLines, HasCause, TellsFault, IsAfterReading, early_status};
 ghost use Rattle.task_top.specs.Progress.{EndsWhole};
 ghost use Rattle.task_top.specs.Promises.{KeepsAllLaws, CancelsExactly};
+ghost use Rattle.task_top.specs.Reading.{max_input};
 ghost use Rattle.task_top.specs.Unharmed.{AnswersWholly};
 ghost use Rattle.write_laws.specs.CopiedAll.{CopiesItsRows};
 ghost use Rattle.write_laws.specs.Throttled.{KeepsToRates};
@@ -49,6 +51,10 @@ pub fn sim_top<S: Source, K: Sink>(
     ensures input { IfSome (S.left input.old) (λ bytes. AnswersInput cluster.now bytes result.0 result.1) }
     // Where it was read and memory did not run out, nothing of it is left.
     ensures ended { IsReadWhole result.0 → IfSome (S.left input.old) (λ _. S.left input.new ≡ Some []) }
+    // It is refused as too long exactly where the source gave more bytes than an input may have, whatever memory there was.
+    ensures too_long { IfGave (S.left input.old) (S.left input.new) (λ n. (max_input < n) ↔ (result.0 ≡ Status.Refused 0 Cause.TooLong)) }
+    // That the source failed is told exactly where it has failed in this call, whatever memory there was.
+    ensures source_told { TellsFault (S.faults input.old) (S.faults input.new) (result.0 ≡ Status.ReadFault) }
     // What happened is the run of what was read.
     ensures run { RanAsRead cluster.now result.0 result.1 }
     // Each event of it was allowed when it came.

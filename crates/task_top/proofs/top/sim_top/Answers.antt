@@ -2,6 +2,7 @@ use Rattle.std.proofs.Common.{sym, ◌∙◌, ap}
 use Rattle.std.specs.Str.Lines.{lines}
 use Rattle.script_lang.specs.declared.command.Mode.TheVariants.{Sim}
 use Rattle.task_top.specs.Reading.{read_lines}
+use Rattle.task_top.proofs.FaultsTold.{line_to_blame, none_given}
 use Rattle.task_top.proofs.RanSoFar.{none_asked, none_copied, none_told, ran_so_far}
 use Rattle.task_top.proofs.TopLemmas.{every_moment, every_moment_of_nothing, too_long, refused, read_as}
 use Rattle.task_top.proofs.top.sim_top.Goals as goal
@@ -103,3 +104,10 @@ pub returns-in-Ok-read_input-clause-throttled : goal.returns-in-Ok-read_input-cl
 returns-in-Ok-read_input-clause-throttled g c =
     let kept = c.run_and_print.ensures in
     c.answer_laws.ensures.throttled c.args.cluster.now _ _ _ (ran_so_far c.args.cluster.now c.whole_is_so_far.ensures _ _ kept.status kept.run) kept.lawful
+
+pub returns-in-Err-Bad-clause-too_long : goal.returns-in-Err-Bad-clause-too_long
+returns-in-Err-Bad-clause-too_long g c =
+    none_given (g.S.Source.left c.args.input.now) (g.S.Source.left c.read_all.new.source) c.in-Ok.bytes _
+    (line_to_blame c.args.cluster.now.nodes (lines c.in-Ok.bytes.items) c.in-Err-Bad.line c.in-Err-Bad.cause
+    (ap (λ bytes. read_lines Sim c.args.cluster.now.nodes (lines bytes)) (sym c.as_slice.ensures.value) ∙ (rw c.in-Err-Bad.field-0-is at c.in-Err-Bad.ensures.gives)))
+    c.in-Ok.ensures.too_long
