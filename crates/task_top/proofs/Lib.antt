@@ -1,4 +1,6 @@
+pub mod AtMoments
 pub mod CancelLines
+pub mod EarlierRuns
 pub mod FaultsTold
 pub mod LinesOfCommands
 pub mod NumberLemmas

@@ -1,4 +1,4 @@
-ghost use Rattle.std.specs.Prelude.{◌≡◌, ◌<◌, ◌↔◌, ◌⊎◌, ℕ, List, None, length};
+ghost use Rattle.std.specs.Prelude.{◌≡◌, ◌<◌, ◌↔◌, ◌⊎◌, ◌++◌, ℕ, List, None, length};
 ghost use Rattle.task_ids.specs.declared.cause.Cause.{Cause};
 ghost use Rattle.task_ids.specs.declared.cause.Cause.TheVariants.{TooLong};
 ghost use Rattle.task_ids.specs.declared.cluster.Cluster.{Cluster};
@@ -53,6 +53,14 @@ pub fn limits()
     ensures events { MAX_EVENTS ≡ 4000000 }
     ensures numbers { greatest_number ≡ 1048575 }
     ensures bytes { max_input ≡ 67108864 }
+{}
+
+/// What had happened at an earlier moment of a run was a run so far too, so what holds of these holds at each moment.
+///
+/// It computes nothing: its contract is the law.
+pub fn earlier_is_so_far()
+    ensures { (cluster : Cluster) (corpus : Corpus) (script : Script) (later h : List Event)
+        → IsRunSoFar cluster corpus script (later ++ h) → IsRunSoFar cluster corpus script h }
 {}
 
 /// The laws of cancellation hold at a moment of a lawful history; where it is drained no ban stands; and a command's task
