@@ -1,12 +1,13 @@
 ghost use Rattle.std.specs.Prelude.{◌<◌, ◌≡◌, ◌≤◌, ◌↔◌, [], length, IfSome, Some};
 ghost use Rattle.es_io.specs.Bytes.{IfGave};
 ghost use Rattle.es_io.specs.Count.{Rose};
+ghost use Rattle.task_events.specs.declared.history.TheConstants.{MAX_EVENTS};
 ghost use Rattle.task_events.specs.Lawful.{Lawful};
 ghost use Rattle.command_roots.specs.Roots.{scripted};
 ghost use Rattle.world_moves.specs.Owning.{OneAtATime};
 ghost use Rattle.world_moves.specs.Plain.{AnswersPlainly};
 ghost use Rattle.world_steps.specs.Scripts.{CanRun};
-ghost use Rattle.task_top.specs.Kept.{AnswersInput, IsReadWhole, RanAsRead, Rests, TellsEach, WritesLines, HasCause, TellsFault, IsAfterReading, early_status};
+ghost use Rattle.task_top.specs.Kept.{AnswersInput, IsReadWhole, IsWholeOrNone, RanAsRead, Rests, TellsEach, WritesLines, HasCause, TellsFault, IsAfterReading, early_status};
 ghost use Rattle.task_top.specs.Progress.{EndsWhole};
 ghost use Rattle.task_top.specs.Promises.{AtEachMoment, KeepsAllLaws, CancelsExactly};
 ghost use Rattle.task_top.specs.Reading.{max_input};
@@ -16,7 +17,7 @@ ghost use Rattle.write_laws.specs.Throttled.{KeepsToRates};
 ghost use Rattle.write_laws.specs.TreeWrites.{CountsItsWrites};
 
 use crate::kept::Kept;
-use crate::laws::{all_laws, answer_laws, earlier_is_so_far};
+use crate::laws::{all_laws, answer_laws, earlier_is_so_far, early_ends};
 use crate::reading::read_input;
 use crate::run::run_script;
 use crate::status::Status;
@@ -56,6 +57,9 @@ pub fn sim_top<S: Source, K: Sink>(
     ensures source_told { TellsFault (S.faults input.old) (S.faults input.new) (result.0 ≡ Status.ReadFault) }
     // What happened is the run of what was read.
     ensures run { RanAsRead cluster.now result.0 result.1 }
+    // Where all is told that is the whole run. A full history, or spent numbers, are told only where no whole run can come: none that a history
+    // holds, or none at all.
+    ensures whole { IsWholeOrNone cluster.now result.0 result.1 }
     // Each event of it was allowed when it came.
     ensures lawful { Lawful cluster.now result.1.history }
     // So at every moment, as all up to `throttled`: each unanswered ask is in one place, and each ban in one stage. A child that registers after its
@@ -96,6 +100,7 @@ pub fn sim_top<S: Source, K: Sink>(
     // The laws of each moment of a run. They compute nothing.
     earlier_is_lawful();
     earlier_is_so_far();
+    early_ends();
     all_laws();
     answer_laws();
     whole_is_so_far();
@@ -130,6 +135,7 @@ fn run_and_print<K: Sink>(
     ensures script { result.1.script ≡ script }
     ensures status { IsAfterReading result.0 }
     ensures run { RanAsRead cluster.now result.0 result.1 }
+    ensures fits { length result.1.history ≤ MAX_EVENTS }
     ensures lawful { Lawful cluster.now result.1.history }
     ensures plain { AnswersPlainly cluster.now result.1.corpus result.1.script result.1.history }
     ensures alone { OneAtATime (scripted result.1.script) result.1.history }
@@ -145,6 +151,8 @@ fn run_and_print<K: Sink>(
         script,
         history,
     };
+    // What a history can take besides says how many events it has at most.
+    let _left = kept.history.left();
     match ran {
         Ok(found) => {
             let status = write_lines(alloc, cluster, &kept, found.as_slice(), out);

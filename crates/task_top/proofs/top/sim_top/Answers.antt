@@ -4,6 +4,7 @@ use Rattle.script_lang.specs.declared.command.Mode.TheVariants.{Sim}
 use Rattle.task_top.specs.Reading.{read_lines}
 use Rattle.task_top.proofs.AtMoments.{past_of_nothing, past_of_run}
 use Rattle.task_top.proofs.FaultsTold.{line_to_blame, none_given}
+use Rattle.task_top.proofs.RanSoFar.{whole_or_none}
 use Rattle.task_top.proofs.TopLemmas.{too_long, refused, read_as}
 use Rattle.task_top.proofs.top.sim_top.Goals as goal
 
@@ -188,6 +189,11 @@ returns-in-Ok-read_input-clause-throttled g c = λ later h e.
     let kept = c.run_and_print.ensures in
     let past = past_of_run c.args.cluster.now c.earlier_is_lawful.ensures c.earlier_is_so_far.ensures c.whole_is_so_far.ensures c.run_and_print.result.0 c.run_and_print.result.1 kept.status kept.run kept.lawful kept.plain kept.alone later h e in
     c.answer_laws.ensures.throttled c.args.cluster.now c.run_and_print.result.1.corpus c.run_and_print.result.1.script h past.ran past.lawful
+
+pub returns-in-Ok-read_input-clause-whole : goal.returns-in-Ok-read_input-clause-whole
+returns-in-Ok-read_input-clause-whole g c =
+    let kept = c.run_and_print.ensures in
+    whole_or_none c.args.cluster.now c.early_ends.ensures.full c.early_ends.ensures.spent c.run_and_print.result.0 c.run_and_print.result.1 _ _ kept.fits kept.run kept.cause
 
 pub returns-in-Err-Bad-clause-too_long : goal.returns-in-Err-Bad-clause-too_long
 returns-in-Err-Bad-clause-too_long g c =
