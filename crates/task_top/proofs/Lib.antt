@@ -1,4 +1,8 @@
+pub mod AtMoments
 pub mod CancelLines
+pub mod EarlierRuns
+pub mod FaultsTold
+pub mod LackedNumbers
 pub mod LinesOfCommands
 pub mod NumberLemmas
 pub mod OneLine
@@ -13,3 +17,4 @@ pub mod RootLaws
 pub mod TopLemmas
 pub mod TurnEvents
 pub mod UnharmedSearches
+pub mod WholeRuns

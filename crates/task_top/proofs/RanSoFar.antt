@@ -1,20 +1,16 @@
--- What a call keeps is a first part of the run of what it read, so the laws of such runs are so of it; where nothing happened they say nothing.
-use Rattle.std.proofs.Common.{◌≡◌, List, [], Some, subst, sym}
+-- What a call keeps is a first part of the run of what it read, so the laws of such runs are so of it.
+use Rattle.std.proofs.Common.{◌<◌, ◌≤◌, List, length}
 use Rattle.task_ids.specs.declared.cluster.Cluster.{Cluster}
 use Rattle.task_ids.specs.declared.corpus.Corpus.{Corpus}
 use Rattle.task_events.specs.declared.event.Event.{Event}
-use Rattle.task_events.specs.declared.reply.Reply.TheVariants.{Wrote}
-use Rattle.task_events.specs.Tasks.{reply_of}
+use Rattle.task_events.specs.declared.history.TheConstants.{MAX_EVENTS}
+use Rattle.task_events.specs.declared.stop.Stop.TheVariants as stops
 use Rattle.script_lang.specs.declared.command.Script.{Script}
-use Rattle.command_roots.specs.Roots.{scripted}
-use Rattle.world_steps.specs.Scripts.{IsRun, IsRunSoFar}
-use Rattle.write_laws.specs.CopiedAll.{CopiesItsRows}
-use Rattle.write_laws.specs.Throttled.{KeepsToRates}
-use Rattle.write_laws.specs.TreeWrites.{CountsItsWrites}
+use Rattle.world_steps.specs.Scripts.{IsRun, IsRunSoFar, StopsRun}
 use Rattle.task_top.specs.declared.kept.Kept.{Kept}
 use Rattle.task_top.specs.declared.status.Status.{Status}
 use Rattle.task_top.specs.declared.status.Status.TheVariants.{Done, Usage, Refused, ReadFault, WriteFault, Memory, NoThread, HistoryFull, NumbersSpent}
-use Rattle.task_top.specs.Kept.{IsAfterReading, RanAsRead}
+use Rattle.task_top.specs.Kept.{HasCause, IsAfterReading, IsWholeOrNone, RanAsRead}
 
 module _ (cluster : Cluster) (whole : (c : Cluster) (corpus : Corpus) (script : Script) (h : List Event) → IsRun c corpus script h → IsRunSoFar c corpus script h) where
   -- what ran is a first part of the run of what was read
@@ -29,13 +25,16 @@ module _ (cluster : Cluster) (whole : (c : Cluster) (corpus : Corpus) (script : 
   ran_so_far ReadFault kept after ran = absurd after
   ran_so_far NoThread kept after ran = absurd after
 
--- where nothing happened nothing has replied
-pub none_told : (script : Script) (h : List Event) → h ≡ [] → CountsItsWrites script h
-none_told script h none t request reply asked writes replied = absurd (let gone = subst (λ g. reply_of t g ≡ Some reply) none replied in cc)
-
-pub none_copied : (cluster : Cluster) (corpus : Corpus) (script : Script) (h : List Event) → h ≡ [] → CopiesItsRows cluster corpus script h
-none_copied cluster corpus script h none t ask counts asked replied good = absurd (let gone = subst (λ g. reply_of t g ≡ Some (Wrote counts)) none replied in cc)
-
--- and nothing was asked for
-pub none_asked : (script : Script) (h : List Event) → h ≡ [] → KeepsToRates (scripted script) h
-none_asked script h none = subst (KeepsToRates (scripted script)) (sym none) tt
+module _ (cluster : Cluster) (full : (c : Cluster) (corpus : Corpus) (script : Script) (past h : List Event) → StopsRun c corpus script past stops.HistoryFull → IsRun c corpus script h → MAX_EVENTS < length h)
+    (spent : (c : Cluster) (corpus : Corpus) (script : Script) (past h : List Event) → StopsRun c corpus script past stops.NumbersSpent → IsRun c corpus script h → ⊥) where
+  -- and by the cause of its end it is whole, or no whole run can come
+  pub whole_or_none : (status : Status) (kept : Kept) (source sink : Type 0) → length kept.history ≤ MAX_EVENTS → RanAsRead cluster status kept → HasCause cluster status kept source sink → IsWholeOrNone cluster status kept
+  whole_or_none Done kept source sink fits ran cause = (ran, fits)
+  whole_or_none WriteFault kept source sink fits ran cause = (ran, fits)
+  whole_or_none HistoryFull kept source sink fits ran cause = λ h run. full cluster kept.corpus kept.script kept.history h cause run
+  whole_or_none NumbersSpent kept source sink fits ran cause = λ h run. spent cluster kept.corpus kept.script kept.history h cause run
+  whole_or_none Memory kept source sink fits ran cause = tt
+  whole_or_none Usage kept source sink fits ran cause = tt
+  whole_or_none (Refused line reason) kept source sink fits ran cause = tt
+  whole_or_none ReadFault kept source sink fits ran cause = tt
+  whole_or_none NoThread kept source sink fits ran cause = tt

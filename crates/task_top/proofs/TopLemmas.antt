@@ -1,19 +1,16 @@
 -- What the input was, from what was read of it.
-use Rattle.std.proofs.Common.{◌≡◌, ℕ, ◌<◌, ◌≤◌, List, [], ◌++◌, length, Option, Some, None, Ok, Err, inl, IfSome, ap, sym, ◌∙◌, subst}
+use Rattle.std.proofs.Common.{◌≡◌, ℕ, ◌<◌, ◌≤◌, List, length, Option, Some, None, Ok, Err, inl, IfSome, ap, sym, ◌∙◌}
 use Rattle.std.specs.Str.Lines.{lines}
 use Rattle.task_ids.specs.declared.cause.Cause.{Cause}
 use Rattle.task_ids.specs.declared.cause.Cause.TheVariants.{TooLong}
 use Rattle.task_ids.specs.declared.cluster.Cluster.{Cluster}
 use Rattle.task_ids.specs.declared.corpus.Corpus.{Corpus}
-use Rattle.task_events.specs.declared.event.Event.{Event}
-use Rattle.task_events.specs.Lawful.{Lawful}
 use Rattle.script_lang.specs.declared.command.Mode.TheVariants.{Sim}
 use Rattle.script_lang.specs.declared.command.Script.{Script}
 use Rattle.task_top.specs.declared.kept.Kept.{Kept}
 use Rattle.task_top.specs.declared.status.Status.{Status}
 use Rattle.task_top.specs.declared.status.Status.TheVariants.{Done, Usage, Refused, ReadFault, WriteFault, Memory, NoThread, HistoryFull, NumbersSpent}
 use Rattle.task_top.specs.Kept.{AnswersInput, ReadsAs, IsAfterReading}
-use Rattle.task_top.specs.Promises.{KeepsAllLaws}
 use Rattle.task_top.specs.Reading.{max_input, read_lines, reading}
 use Rattle.task_top.proofs.ReadingLaws.{by_lines, by_length, Outcome}
 
@@ -47,13 +44,3 @@ module _ (cluster : Cluster) where
     read_as None status kept corpus script after c s all fits read = tt
     read_as (Some input) status kept corpus script after c s all fits read =
         answers_read status kept input after (outcome_of input (Ok (corpus, script)) all fits read ∙ (λ i. Ok (sym c i, sym s i)))
-
--- ---- at each moment
-
-module _ (cluster : Cluster) (earlier : (c : Cluster) (later h : List Event) → Lawful c (later ++ h) → Lawful c h) (laws : (c : Cluster) (h : List Event) → Lawful c h → KeepsAllLaws h) (whole : List Event) where
-  -- what holds of each lawful history holds at each moment of one
-  pub every_moment : Lawful cluster whole → (later h : List Event) → later ++ h ≡ whole → KeepsAllLaws h
-  every_moment lawful later h e = laws cluster h (earlier cluster later h (subst (Lawful cluster) (sym e) lawful))
-
-  pub every_moment_of_nothing : whole ≡ [] → (later h : List Event) → later ++ h ≡ whole → KeepsAllLaws h
-  every_moment_of_nothing none = every_moment (subst (Lawful cluster) (sym none) tt)

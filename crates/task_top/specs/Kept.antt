@@ -1,7 +1,10 @@
 -- What the status of a call of `sim_top` says of the input, of what is kept, and of what was written.
-use Rattle.std.specs.Prelude.{◌≡◌, ◌<◌, ◌⊎◌, ℕ, List, [], Option, length, take}
+use Rattle.std.specs.Prelude.{◌≡◌, ◌<◌, ◌≤◌, ◌⊎◌, ℕ, List, [], Option, length, take}
 use Rattle.es_io.specs.Bytes.{Appends}
+use Rattle.es_io.specs.Count.{Rose}
 use Rattle.task_ids.specs.declared.cluster.Cluster.{Cluster}
+use Rattle.task_events.specs.declared.event.Event.{Event}
+use Rattle.task_events.specs.declared.history.TheConstants.{MAX_EVENTS}
 use Rattle.task_events.specs.declared.stop.Stop.{Stop}
 use Rattle.task_events.specs.declared.stop.Stop.TheVariants as stops
 use Rattle.script_lang.specs.declared.command.Mode.TheVariants.{Sim}
@@ -79,6 +82,19 @@ module _ (cluster : Cluster) where
   HasCause HistoryFull kept source sink = StopsRun cluster kept.corpus kept.script kept.history stops.HistoryFull
   HasCause NumbersSpent kept source sink = StopsRun cluster kept.corpus kept.script kept.history stops.NumbersSpent
   HasCause _ kept source sink = Unit {0}
+
+  -- What is told as a whole run is one, in a history that holds it. A full history is told only where each whole run of the script has more events
+  -- than a history holds, and spent numbers only where it has none.
+  abbrev pub IsWholeOrNone : Status → Kept → Type 0
+  IsWholeOrNone Done kept = RanWhole kept × (length kept.history ≤ MAX_EVENTS)
+  IsWholeOrNone WriteFault kept = RanWhole kept × (length kept.history ≤ MAX_EVENTS)
+  IsWholeOrNone HistoryFull kept = (h : List Event) → IsRun cluster kept.corpus kept.script h → MAX_EVENTS < length h
+  IsWholeOrNone NumbersSpent kept = (h : List Event) → IsRun cluster kept.corpus kept.script h → ⊥
+  IsWholeOrNone _ kept = Unit {0}
+
+-- A fault is told where its count rose in the call, and only there. A count at its type's end stands still and does not show it.
+abbrev pub TellsFault : (before after : ℕ) → Type 0 → Type 0
+TellsFault before after told = (before < after → told) × (told → Rose before after)
 
 -- the input was read to its end
 abbrev pub IsReadWhole : Status → Type 0

@@ -1,5 +1,5 @@
 -- What is promised of every moment of what happened, and of its end.
-use Rattle.std.specs.Prelude.{◌≡◌, ℕ, List, ◌∷◌, Some, None, option_map, ⊤}
+use Rattle.std.specs.Prelude.{◌≡◌, ℕ, List, ◌∷◌, ◌++◌, Some, None, option_map, ⊤}
 use Rattle.task_ids.specs.declared.task_id.TaskId.{TaskId}
 use Rattle.task_events.specs.declared.event.Event.{Event}
 use Rattle.task_events.specs.declared.event.Event.TheVariants.{Pass, Listed, AnswerPlaced, AnswerDone}
@@ -22,6 +22,10 @@ EndsListings (Listed n p ∷ h) = ListsAllChildren n p h
 EndsListings (AnswerPlaced c ∷ h) = HasListedAll c h
 EndsListings (AnswerDone c ∷ h) = HasListedAll c h
 EndsListings _ = ⊤
+
+-- A fact holds at each moment of what happened: of all that had happened by then.
+abbrev pub AtEachMoment : (List Event → Type 0) → List Event → Type 0
+AtEachMoment Holds whole = (later h : List Event) → later ++ h ≡ whole → Holds h
 
 -- The laws of one moment.
 pub record KeepsAllLaws (h : List Event) : Type 0 where

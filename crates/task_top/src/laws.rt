@@ -1,4 +1,4 @@
-ghost use Rattle.std.specs.Prelude.{◌≡◌, ◌<◌, ◌↔◌, ◌⊎◌, ℕ, List, None, length};
+ghost use Rattle.std.specs.Prelude.{◌≡◌, ◌<◌, ◌↔◌, ◌⊎◌, ◌++◌, ℕ, List, None, length};
 ghost use Rattle.task_ids.specs.declared.cause.Cause.{Cause};
 ghost use Rattle.task_ids.specs.declared.cause.Cause.TheVariants.{TooLong};
 ghost use Rattle.task_ids.specs.declared.cluster.Cluster.{Cluster};
@@ -8,6 +8,7 @@ ghost use Rattle.task_events.specs.declared.event.Event.{Event};
 ghost use Rattle.task_events.specs.Bans.{standing_ban};
 ghost use Rattle.task_events.specs.Lawful.{Lawful};
 ghost use Rattle.task_events.specs.declared.history.TheConstants.{MAX_EVENTS};
+ghost use Rattle.task_events.specs.declared.stop.Stop.TheVariants.{HistoryFull, NumbersSpent};
 ghost use Rattle.task_events.specs.Laws.{IsDrained};
 ghost use Rattle.script_lang.specs.declared.command.Mode.{Mode};
 ghost use Rattle.script_lang.specs.declared.command.Script.{Script};
@@ -15,7 +16,7 @@ ghost use Rattle.command_roots.specs.Roots.{scripted};
 ghost use Rattle.world_moves.specs.Cancels.{AllAnswered};
 ghost use Rattle.world_moves.specs.Moves.{greatest_number};
 ghost use Rattle.world_moves.specs.Plain.{AnswersPlainly};
-ghost use Rattle.world_steps.specs.Scripts.{CanRun, IsRun, IsRunSoFar};
+ghost use Rattle.world_steps.specs.Scripts.{CanRun, IsRun, IsRunSoFar, StopsRun};
 ghost use Rattle.write_laws.specs.CopiedAll.{CopiesItsRows};
 ghost use Rattle.write_laws.specs.Throttled.{KeepsToRates};
 ghost use Rattle.write_laws.specs.TreeWrites.{CountsItsWrites};
@@ -53,6 +54,27 @@ pub fn limits()
     ensures events { MAX_EVENTS ≡ 4000000 }
     ensures numbers { greatest_number ≡ 1048575 }
     ensures bytes { max_input ≡ 67108864 }
+{}
+
+/// What had happened at an earlier moment of a run was a run so far too, so what holds of these holds at each moment.
+///
+/// It computes nothing: its contract is the law.
+pub fn earlier_is_so_far()
+    ensures { (cluster : Cluster) (corpus : Corpus) (script : Script) (later h : List Event)
+        → IsRunSoFar cluster corpus script (later ++ h) → IsRunSoFar cluster corpus script h }
+{}
+
+/// A run so far is a first part of the whole run, where there is one. So where a run comes to an early end for want of room, each whole
+/// run has more events than a history holds; and where it does for want of a number, there is none.
+///
+/// It computes nothing: its contract is the law.
+pub fn early_ends()
+    ensures first_part { (cluster : Cluster) (corpus : Corpus) (script : Script) (past h : List Event)
+        → IsRunSoFar cluster corpus script past → IsRun cluster corpus script h → (later : List Event) × (later ++ past ≡ h) }
+    ensures full { (cluster : Cluster) (corpus : Corpus) (script : Script) (past h : List Event)
+        → StopsRun cluster corpus script past HistoryFull → IsRun cluster corpus script h → MAX_EVENTS < length h }
+    ensures spent { (cluster : Cluster) (corpus : Corpus) (script : Script) (past h : List Event)
+        → StopsRun cluster corpus script past NumbersSpent → IsRun cluster corpus script h → ⊥ }
 {}
 
 /// The laws of cancellation hold at a moment of a lawful history; where it is drained no ban stands; and a command's task

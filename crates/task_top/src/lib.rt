@@ -12,7 +12,7 @@ mod top;
 pub use command_line::{Plan, PlanError, plan};
 pub use generated::gen_top;
 pub use kept::Kept;
-pub use laws::{limits, one_reading};
+pub use laws::{earlier_is_so_far, early_ends, limits, one_reading};
 pub use line_print::{Note, print_lines};
 pub use script_lang::{Command, Script};
 pub use status::Status;

@@ -1,21 +1,23 @@
-ghost use Rattle.std.specs.Prelude.{◌<◌, ◌≡◌, ◌≤◌, ◌++◌, List, [], length, IfSome, Some};
+ghost use Rattle.std.specs.Prelude.{◌<◌, ◌≡◌, ◌≤◌, ◌↔◌, [], length, IfSome, Some};
+ghost use Rattle.es_io.specs.Bytes.{IfGave};
 ghost use Rattle.es_io.specs.Count.{Rose};
-ghost use Rattle.task_events.specs.declared.event.Event.{Event};
+ghost use Rattle.task_events.specs.declared.history.TheConstants.{MAX_EVENTS};
 ghost use Rattle.task_events.specs.Lawful.{Lawful};
 ghost use Rattle.command_roots.specs.Roots.{scripted};
 ghost use Rattle.world_moves.specs.Owning.{OneAtATime};
 ghost use Rattle.world_moves.specs.Plain.{AnswersPlainly};
 ghost use Rattle.world_steps.specs.Scripts.{CanRun};
-ghost use Rattle.task_top.specs.Kept.{AnswersInput, IsReadWhole, RanAsRead, Rests, TellsEach, WritesLines, HasCause, IsAfterReading, early_status};
+ghost use Rattle.task_top.specs.Kept.{AnswersInput, IsReadWhole, IsWholeOrNone, RanAsRead, Rests, TellsEach, WritesLines, HasCause, TellsFault, IsAfterReading, early_status};
 ghost use Rattle.task_top.specs.Progress.{EndsWhole};
-ghost use Rattle.task_top.specs.Promises.{KeepsAllLaws, CancelsExactly};
+ghost use Rattle.task_top.specs.Promises.{AtEachMoment, KeepsAllLaws, CancelsExactly};
+ghost use Rattle.task_top.specs.Reading.{max_input};
 ghost use Rattle.task_top.specs.Unharmed.{AnswersWholly};
 ghost use Rattle.write_laws.specs.CopiedAll.{CopiesItsRows};
 ghost use Rattle.write_laws.specs.Throttled.{KeepsToRates};
 ghost use Rattle.write_laws.specs.TreeWrites.{CountsItsWrites};
 
 use crate::kept::Kept;
-use crate::laws::{all_laws, answer_laws};
+use crate::laws::{all_laws, answer_laws, earlier_is_so_far, early_ends};
 use crate::reading::read_input;
 use crate::run::run_script;
 use crate::status::Status;
@@ -49,33 +51,40 @@ pub fn sim_top<S: Source, K: Sink>(
     ensures input { IfSome (S.left input.old) (λ bytes. AnswersInput cluster.now bytes result.0 result.1) }
     // Where it was read and memory did not run out, nothing of it is left.
     ensures ended { IsReadWhole result.0 → IfSome (S.left input.old) (λ _. S.left input.new ≡ Some []) }
+    // It is refused as too long exactly where the source gave more bytes than an input may have, whatever memory there was.
+    ensures too_long { IfGave (S.left input.old) (S.left input.new) (λ n. (max_input < n) ↔ (result.0 ≡ Status.Refused 0 Cause.TooLong)) }
+    // That the source failed is told exactly where it has failed in this call, whatever memory there was.
+    ensures source_told { TellsFault (S.faults input.old) (S.faults input.new) (result.0 ≡ Status.ReadFault) }
     // What happened is the run of what was read.
     ensures run { RanAsRead cluster.now result.0 result.1 }
+    // Where all is told that is the whole run. A full history, or spent numbers, are told only where no whole run can come: none that a history
+    // holds, or none at all.
+    ensures whole { IsWholeOrNone cluster.now result.0 result.1 }
     // Each event of it was allowed when it came.
     ensures lawful { Lawful cluster.now result.1.history }
-    // So at every moment: each unanswered ask is in one place, and each ban in one stage. A child that registers after its
+    // So at every moment, as all up to `throttled`: each unanswered ask is in one place, and each ban in one stage. A child that registers after its
     // parent's ban on that node is refused with the ban's number, and a running earlier one is marked before the listing
     // there ends. A waiting cancel is answered only when no task that it named and no descendant is live. Once its messages
     // are handled, an ended task has no ban. A task is cancelled only by a cancel that named it or an ancestor.
-    ensures laws { (later h : List Event) → later ++ h ≡ result.1.history → KeepsAllLaws h }
+    ensures laws { AtEachMoment KeepsAllLaws result.1.history }
     // The reply of a search or of a page is cancelled exactly where its task was marked, with the number of the mark.
-    ensures cancelled { CancelsExactly result.1.history }
-    // Each search that ended in it without being cancelled replied with the plain answer, and each page of one with that over its context:
+    ensures cancelled { AtEachMoment CancelsExactly result.1.history }
+    // Each search that has ended by then without being cancelled replied with the plain answer, and each page of one with that over its context:
     // of the shards that this keeps, each as it was read, the rows after its cursor.
-    ensures plain { AnswersPlainly cluster.now result.1.corpus result.1.script result.1.history }
+    ensures plain { AtEachMoment (λ h. AnswersPlainly cluster.now result.1.corpus result.1.script h) result.1.history }
     // A page starts only where its context is free, and a task asks only for contexts of its own and for their pages.
-    ensures alone { OneAtATime (scripted result.1.script) result.1.history }
+    ensures alone { AtEachMoment (λ h. OneAtATime (scripted result.1.script) h) result.1.history }
     // No shard of it failed where nothing happened to it: neither it nor a child of it was marked or refused, and none of its requests was rejected.
-    ensures unharmed { AnswersWholly result.1.script result.1.history }
-    // Each reindex that has ended in it, cancelled or not, replied with the numbers of the documents that it and its tasks have created and
+    ensures unharmed { AtEachMoment (λ h. AnswersWholly result.1.script h) result.1.history }
+    // Each reindex that has ended by then, cancelled or not, replied with the numbers of the documents that it and its tasks have created and
     // replaced.
-    ensures wrote { CountsItsWrites result.1.script result.1.history }
+    ensures wrote { AtEachMoment (λ h. CountsItsWrites result.1.script h) result.1.history }
     // Each reindex that tells of no failure has written, for each of its slices, each matching row of that slice at the versions that the
     // slice's first search read, once, with its id and source, and nothing else, and all of it into the index that it was asked to write to.
-    ensures copied { CopiesItsRows cluster.now result.1.corpus result.1.script result.1.history }
+    ensures copied { AtEachMoment (λ h. CopiesItsRows cluster.now result.1.corpus result.1.script h) result.1.history }
     // Each slice asks for a page after its first one once so long has gone by since the page before came as the documents of that take at
     // the rate.
-    ensures throttled { KeepsToRates (scripted result.1.script) result.1.history }
+    ensures throttled { AtEachMoment (λ h. KeepsToRates (scripted result.1.script) h) result.1.history }
     // After a whole run nothing is live, in flight or listed, no ban stands, and every cancel that named a task is answered.
     ensures rests { Rests result.0 result.1 }
     // So each command has its line: a search, a scroll or a reindex the end of its task or what refused it, a tick its event, a cancel its answer or that it
@@ -88,8 +97,10 @@ pub fn sim_top<S: Source, K: Sink>(
     // A fault and an early end have their cause.
     ensures cause { HasCause cluster.now result.0 result.1 (Rose (S.faults input.old) (S.faults input.new)) (Rose (K.faults out.old) (K.faults out.new)) }
 {
-    // The laws of each moment of a lawful history. They compute nothing.
+    // The laws of each moment of a run. They compute nothing.
     earlier_is_lawful();
+    earlier_is_so_far();
+    early_ends();
     all_laws();
     answer_laws();
     whole_is_so_far();
@@ -124,6 +135,7 @@ fn run_and_print<K: Sink>(
     ensures script { result.1.script ≡ script }
     ensures status { IsAfterReading result.0 }
     ensures run { RanAsRead cluster.now result.0 result.1 }
+    ensures fits { length result.1.history ≤ MAX_EVENTS }
     ensures lawful { Lawful cluster.now result.1.history }
     ensures plain { AnswersPlainly cluster.now result.1.corpus result.1.script result.1.history }
     ensures alone { OneAtATime (scripted result.1.script) result.1.history }
@@ -139,6 +151,8 @@ fn run_and_print<K: Sink>(
         script,
         history,
     };
+    // What a history can take besides says how many events it has at most.
+    let _left = kept.history.left();
     match ran {
         Ok(found) => {
             let status = write_lines(alloc, cluster, &kept, found.as_slice(), out);

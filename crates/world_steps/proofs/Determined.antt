@@ -196,7 +196,7 @@ module _ (cluster : Cluster) (corpus : Corpus) (script : Script) where
   nothing_at : (h new : List Event) → in_flight h ≡ [] → Delivers cluster h 0 new → ⊥
   nothing_at h new none d = none_delivered cluster h 0 new (rw none (omega arith)) d
 
-  first_one : (h new other : List Event) → FirstMoves cluster corpus script h new → FirstMoves cluster corpus script h other → new ≡ other
+  pub first_one : (h new other : List Event) → FirstMoves cluster corpus script h new → FirstMoves cluster corpus script h other → new ≡ other
   first_one h new other (inl d) (inl g) = delivers_one cluster h 0 new other d g
   first_one h new other (inl d) (inr (inl (none, rest))) = absurd (nothing_at h new none d)
   first_one h new other (inl d) (inr (inr (none, closed, rest))) = absurd (nothing_at h new none d)
@@ -211,7 +211,7 @@ module _ (cluster : Cluster) (corpus : Corpus) (script : Script) where
       let one : t ≡ u = one_id t u (first.1 u first_too.0) (first_too.1 t first.0) in
       steps_one u h new other (subst (λ x. Steps cluster corpus script x h new) one steps) steps_too
 
-  settled_rests : (h new : List Event) → IsSettled cluster corpus script h → FirstMoves cluster corpus script h new → ⊥
+  pub settled_rests : (h new : List Event) → IsSettled cluster corpus script h → FirstMoves cluster corpus script h new → ⊥
   settled_rests h new s (inl d) = nothing_at h new s.nothing_in_flight d
   settled_rests h new s (inr (inl (none, (l, first, lists)))) = let here = s.no_listing l in let there = first.0 in cc
   settled_rests h new s (inr (inr (none, closed, (t, first, (e, live, next, same))))) = none_some _ e (s.all_wait t live) next
@@ -225,7 +225,7 @@ module _ (cluster : Cluster) (corpus : Corpus) (script : Script) where
       let one : step ≡ next = first_one h step next q.0 p.0 in
       passes_one next later new more other p.1 s (subst (λ x. Passes cluster corpus script x more other) one q.1) t
 
-  settles_one : (h new other : List Event) → Settles cluster corpus script h new → Settles cluster corpus script h other → new ≡ other
+  pub settles_one : (h new other : List Event) → Settles cluster corpus script h new → Settles cluster corpus script h other → new ≡ other
   settles_one h new other (s, (between, p)) (t, (others, q)) = passes_one h between new others other p s q t
 
   -- ---- shuffles
@@ -239,20 +239,20 @@ module _ (cluster : Cluster) (corpus : Corpus) (script : Script) where
   one_tasks ls ms ts us h a b =
       btree_set_from_contains ids_total (record { keys = ts }) (record { keys = us }) a.tasks_ascend b.tasks_ascend (λ t. a.tasks_ready t ∙ sym (b.tasks_ready t)) exact_ids
 
-  chooses_one : (chance : ℕ) (m n : Move) (h : List Event) → Chooses cluster corpus script chance m h → Chooses cluster corpus script chance n h → m ≡ n
+  pub chooses_one : (chance : ℕ) (m n : Move) (h : List Event) → Chooses cluster corpus script chance m h → Chooses cluster corpus script chance n h → m ≡ n
   chooses_one chance m n h (ls, ts, can, at) (ms, us, can_too, at_too) =
       let listings = one_listings ls ms ts us h can can_too in
       let tasks = one_tasks ls ms ts us h can can_too in
       let same : moves_of h ls ts ≡ moves_of h ms us = λ i. moves_of h (listings i) (tasks i) in
       some_one (slice_get (moves_of h ls ts) (chosen_of chance (length (moves_of h ls ts)))) m n at (ap (λ all. slice_get all (chosen_of chance (length all))) same ∙ at_too)
 
-  makes_one : (move : Move) (h new other : List Event) → Makes cluster corpus script move h new → Makes cluster corpus script move h other → new ≡ other
+  pub makes_one : (move : Move) (h new other : List Event) → Makes cluster corpus script move h new → Makes cluster corpus script move h other → new ≡ other
   makes_one (moves.Deliver nth) h new other a b = delivers_one cluster h nth new other a b
   makes_one (moves.List l) h new other a b = lists_one cluster h l new other a b
   makes_one (moves.Step t) h new other a b = steps_one t h new other a b
 
   -- where all has settled no move can be made
-  settled_makes_none : (move : Move) (h new : List Event) → IsSettled cluster corpus script h → Makes cluster corpus script move h new → ⊥
+  pub settled_makes_none : (move : Move) (h new : List Event) → IsSettled cluster corpus script h → Makes cluster corpus script move h new → ⊥
   settled_makes_none (moves.Deliver nth) h new s d = none_delivered cluster h nth new (rw s.nothing_in_flight (omega arith)) d
   settled_makes_none (moves.List l) h new s (e, opened, is, same) = let closed = s.no_listing l in cc (opened, closed)
   settled_makes_none (moves.Step t) h new s (e, live, next, same) = none_some _ e (s.all_wait t live) next
@@ -270,14 +270,14 @@ module _ (cluster : Cluster) (corpus : Corpus) (script : Script) where
   -- ---- draining
 
   -- the soonest moment is one
-  one_due : (h : List Event) (due other : ℕ) → IsNextDue cluster corpus script due h → IsNextDue cluster corpus script other h → due ≡ other
+  pub one_due : (h : List Event) (due other : ℕ) → IsNextDue cluster corpus script due h → IsNextDue cluster corpus script other h → due ≡ other
   one_due h due other (there, least) (there_too, least_too) =
       let low = least there_too.0 other there_too.1 in
       let high = least_too there.0 due there.1 in
       omega (arith, low, high)
 
   -- who waits for a moment is live
-  none_due : (h : List Event) (due : ℕ) → NoneLive h → IsNextDue cluster corpus script due h → ⊥
+  pub none_due : (h : List Event) (due : ℕ) → NoneLive h → IsNextDue cluster corpus script due h → ⊥
   none_due h due none ((t, e), least) = let gone = none t in let it = rw gone at e in cc
 
   starts_one_way : (h : List Event) (between : List (List Event)) (start new : List Event) (others : List (List Event)) (begun other : List Event)
@@ -312,7 +312,7 @@ module _ (cluster : Cluster) (corpus : Corpus) (script : Script) where
   place_one nth h new other (inr (past, same)) (inl d) = absurd (none_delivered cluster h nth other past d)
   place_one nth h new other (inr (past, same)) (inr (past_too, same_too)) = same ∙ sym same_too
 
-  does_one : (k : ℕ) (command : Command) (h new other : List Event) → Does cluster corpus script k command h new → Does cluster corpus script k command h other → new ≡ other
+  pub does_one : (k : ℕ) (command : Command) (h new other : List Event) → Does cluster corpus script k command h new → Does cluster corpus script k command h other → new ≡ other
   does_one k (Search index node scroll body opaque_id) h new other a b = where_one (can_start corpus script.commands index scroll body) k node h new other a b
   does_one k (Scroll target keep opaque_id) h new other a b = where_one (can_page script target h) k (page_node target h) h new other a b
   does_one k (ClearScroll target) h new other a b = a ∙ sym b

@@ -51,7 +51,7 @@ partly_settled {new = new} (rests, (between, passes)) = (between, new, passes, i
 -- ---- in the world
 
 -- what is so of the cluster, the documents and the script now was so at the start
-kept_as : (P : Cluster → Corpus → Script → Type 0) (start now : State) → Keeps start now → P now.cluster now.corpus.now now.script.now → P start.cluster start.corpus.now start.script.now
+pub kept_as : (P : Cluster → Corpus → Script → Type 0) (start now : State) → Keeps start now → P now.cluster now.corpus.now now.script.now → P start.cluster start.corpus.now start.script.now
 kept_as P start now keeps p = subst (λ x. P x start.corpus.now start.script.now) keeps.cluster (subst (λ x. P now.cluster x start.script.now) keeps.corpus (subst (λ x. P now.cluster now.corpus.now x) keeps.script p))
 
 last_settled : (now settled : State) → Settles now.cluster now.corpus.now now.script.now now.history settled.history → last_command settled.history ≡ last_command now.history

@@ -43,4 +43,5 @@ pub mod Timely
 pub mod Turning
 pub mod Unacted
 pub mod UsedAlone
+pub mod WaitsAfter
 pub mod WholeNaming

@@ -1,4 +1,4 @@
--- Where it has settled and a task is live, some task waits for a moment.
+-- Where all has settled each live task waits for a moment, or stands above a live task that does. So where none waits for one, nothing is live.
 use Rattle.std.proofs.Common.{◌≡◌, ◌≢◌, ◌≤◌, ℕ, Bool, true, false, List, [], length, Option, Some, None, refl, sym, ap, ◌∙◌}
 use Rattle.std.specs.Prelude.{is_some}
 use Rattle.task_ids.specs.declared.task_id.TaskId.{TaskId}
@@ -22,6 +22,7 @@ use Rattle.world_moves.specs.declared.flight.Sent.{Sent}
 use Rattle.node_parts.specs.declared.running.Running.{Running}
 use Rattle.world_steps.specs.Draining.{due_of}
 use Rattle.world_steps.specs.Runs as runs
+use Rattle.world_steps.specs.Waits.{EachWaits, WaitsBelow}
 use Rattle.world_steps.specs.World.{due_by}
 use Rattle.world_moves.specs.Ties.{Ties}
 use Rattle.world_moves.proofs.NoneAwaited.{none_to_await}
@@ -57,12 +58,17 @@ module _ (cluster : Cluster) (corpus : Corpus) (script : Script) (h : List Event
           let found = some_moment (due_in (next_of r.work writes (clock h))) (sym (laws.moves (few_asks cluster u h ties.lawful room (none_to_await cluster u h ties.lawful l.answered)) writes (clock h) (none_to_await cluster u h ties.lawful l.answered)) ∙ waits) in
           (found.0, waits_kept cluster corpus script h tasks tables flight ties u l.live r e ∙ due_plain r writes (clock h) (kept.new ∙ l.passed) (ap (λ track. track.closed) kept.track ∙ l.unmarked) ∙ found.1)
 
-  pub drained : length h ≤ 4000000 → runs.IsSettled cluster corpus script h → ((t : TaskId) → due_of cluster corpus script t h ≡ None) → IsDrained h
-  drained room s none_due = record { nothing_in_flight = s.nothing_in_flight; no_listing = closed; nothing_live = λ t. gone t (is_live t h) refl }
-    where
-      closed : (n : ℕ) (p : TaskId) → listing_is_open n p h ≡ false
-      closed n p = s.no_listing (record { node = n; parent = p })
+  closed : runs.IsSettled cluster corpus script h → (n : ℕ) (p : TaskId) → listing_is_open n p h ≡ false
+  closed s n p = s.no_listing (record { node = n; parent = p })
 
+  at_rest : runs.IsSettled cluster corpus script h → IsAtRest h
+  at_rest s = record {
+    nothing_in_flight = s.nothing_in_flight;
+    no_listing = closed s;
+    no_first_step = λ t l. not_new t l (is_new t h) refl;
+    no_cancelled_end = λ t l marked. waits_for_answers t l (mark_of t h) refl marked;
+  }
+    where
       not_new : (t : TaskId) → is_live t h ≡ true → (b : Bool) → is_new t h ≡ b → is_new t h ≡ false
       not_new t l false n = n
       not_new t l true n = absurd (let waits = s.all_wait t l in let moves = next_new cluster corpus script h tasks tables flight ties t n in cc)
@@ -75,17 +81,18 @@ module _ (cluster : Cluster) (corpus : Corpus) (script : Script) (h : List Event
           let waits = s.all_wait t l in
           cc
 
-      rest : IsAtRest h
-      rest = record {
-        nothing_in_flight = s.nothing_in_flight;
-        no_listing = closed;
-        no_first_step = λ t l. not_new t l (is_new t h) refl;
-        no_cancelled_end = λ t l marked. waits_for_answers t l (mark_of t h) refl marked;
-      }
+  pub each_waits : length h ≤ 4000000 → runs.IsSettled cluster corpus script h → EachWaits cluster corpus script h
+  each_waits room s t live =
+      let found = leaf cluster h ties.lawful (at_rest s) t live in
+      let waits = leaf_waits room found.0 found.1 (s.all_wait found.0 found.1.live) in
+      (found.0, waits.0, found.2, waits.1)
+
+  pub drained : length h ≤ 4000000 → runs.IsSettled cluster corpus script h → ((t : TaskId) → due_of cluster corpus script t h ≡ None) → IsDrained h
+  drained room s none_due = record { nothing_in_flight = s.nothing_in_flight; no_listing = closed s; nothing_live = λ t. gone t (is_live t h) refl }
+    where
+      none_below : (t : TaskId) → WaitsBelow cluster corpus script t h → ⊥
+      none_below t (u, moment, below, due) = let never = none_due u in cc
 
       gone : (t : TaskId) (b : Bool) → is_live t h ≡ b → is_live t h ≡ false
       gone t false e = e
-      gone t true e =
-          let found = leaf cluster h ties.lawful rest t e in
-          let waits = leaf_waits room found.0 found.1 (s.all_wait found.0 found.1.live) in
-          absurd (let never = none_due found.0 in let some = waits.1 in cc)
+      gone t true e = absurd (none_below t (each_waits room s t e))

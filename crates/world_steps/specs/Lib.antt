@@ -5,4 +5,5 @@ pub mod PagesFollow
 pub mod Runs
 pub mod Scripts
 pub mod Shuffling
+pub mod Waits
 pub mod World

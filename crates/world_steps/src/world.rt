@@ -24,6 +24,7 @@ ghost use Rattle.world_steps.specs.Shuffling.{Shuffles, PartlyShuffles, StopsShu
 ghost use Rattle.world_steps.specs.Scripts.{CanRun, error_in, Commands, PartlyCommands, Drains, PartlyDrains, IsTurn, closing, StopsCommand, StopsDrain};
 ghost use Rattle.task_ids.specs.Limits.{IsNode, IsSlotCount};
 ghost use Rattle.task_table.specs.Table.{new_table};
+ghost use Rattle.world_steps.specs.Waits.{EachWaits};
 ghost use Rattle.world_steps.specs.World.{tables_from, cores_from, no_bans, no_contexts};
 
 use crate::acting::Stepped;
@@ -529,12 +530,13 @@ impl<'a> World<'a> {
 
     /// Makes first moves for as long as there are any: the oldest message is delivered; where none is in flight the first
     /// open listing makes a step; where there is none either, the lowest task that does not wait. Nothing is in flight or listed after
-    /// that, and each live task waits.
+    /// that, and each live task waits: for a moment, or for a live descendant that does.
     ///
     /// Once it has come to an early end, the world answers that for ever and keeps its past.
     pub fn settle(&mut self) -> Result<(), Stop>
         ensures goes_on { OnOk result (self.new.stopped ≡ None) }
         ensures settled { OnOk result (Settles self.old.cluster self.old.corpus self.old.script self.old.past self.new.past) }
+        ensures waits { OnOk result (EachWaits self.old.cluster self.old.corpus self.old.script self.new.past) }
         ensures part { OnErr result (PartlySettles self.old.cluster self.old.corpus self.old.script self.old.past self.new.past) }
         ensures stop { IfErr result (λ stop. self.new.stopped ≡ Some stop) }
         ensures stopped { IfSome self.old.stopped (λ stop. (result ≡ Err stop) × (self.new.past ≡ self.old.past)) }
@@ -545,7 +547,11 @@ impl<'a> World<'a> {
             return Err(stop);
         }
         match moving::settle(&mut self.state, &mut self.ready) {
-            Ok(()) => Ok(()),
+            Ok(()) => {
+                // What a history can take besides says how many events it has at most.
+                let _left = self.state.history.left();
+                Ok(())
+            }
             Err(stop) => {
                 self.stopped = Some(stop);
                 Err(stop)
