@@ -10,7 +10,7 @@ ghost use Rattle.world_steps.specs.Runs.{AnswersStep, HasRoom, Steps};
 ghost use Rattle.world_moves.specs.Ties.{IsTied, Keeps, task_at, KeepsLaws};
 ghost use Rattle.node_parts.specs.Running.{DoesNext};
 
-use crate::ready::can_act;
+use crate::ready::is_ready;
 use task_events::{Do, MAX_EVENTS, Stop};
 use task_ids::TaskId;
 use world_moves::asks::ask;
@@ -134,7 +134,7 @@ pub(crate) fn act(state: &mut State<'_>, task: TaskId) -> Result<Stepped, Stop>
         return Ok(Stepped::NotRunning);
     };
     let running = running.get();
-    if !can_act(running, state.clock) {
+    if !is_ready(state, task, Some(running)) {
         return Ok(Stepped::Waiting);
     }
     if state.history.len() == MAX_EVENTS {

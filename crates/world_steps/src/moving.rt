@@ -33,7 +33,10 @@ pub(crate) fn deliver_one(state: &mut State<'_>, nth: usize) -> Result<(), Stop>
     ensures spent { (result ≡ Err Stop.NumbersSpent) ↔ DeliveryLacksNumber state.old.cluster state.old.history nth }
     ensures memory { result ≡ Err Stop.Memory → length state.old.history ≢ MAX_EVENTS }
 {
-    check_delivery(state, nth)?;
+    match check_delivery(state, nth) {
+        Ok(()) => {}
+        Err(stop) => return Err(stop),
+    }
     if let Some(notice) = state.flight.notice(nth) {
         return deliver_notice(state, nth, notice);
     }

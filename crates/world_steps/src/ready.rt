@@ -62,7 +62,7 @@ pub(crate) fn task_of(event: &Event) -> Option<TaskId>
 
 /// Whether a kept task does not wait at this moment: a marked one waits while an ask of it is unanswered, and for the others their work
 /// says.
-pub(crate) fn can_act(running: &Running, now: u64) -> bool
+fn can_act(running: &Running, now: u64) -> bool
     ensures { (writes : List Doc) → result ≡ can_act running.now writes now }
 {
     if running.is_new {
@@ -95,7 +95,7 @@ fn kept_at<'s>(state: &'s State<'_>, task: TaskId) -> Option<&'s Running>
 }
 
 /// Whether a task is live and does not wait, which is kept as is given.
-fn is_ready(state: &State<'_>, task: TaskId, kept: Option<&Running>) -> bool
+pub(crate) fn is_ready(state: &State<'_>, task: TaskId, kept: Option<&Running>) -> bool
     requires tied { IsTied state.now }
     requires given { option_copied kept ≡ task_at state.now.tasks task }
     ensures { result ≡ ready_in state.now task }
