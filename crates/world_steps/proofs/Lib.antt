@@ -25,7 +25,6 @@ pub mod NamesOne
 pub mod NamingEnds
 pub mod NextCut
 pub mod NextDue
-pub mod NextSteps
 pub mod NoneDue
 pub mod PagesInOrder
 pub mod PagesStart

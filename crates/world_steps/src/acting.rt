@@ -1,7 +1,6 @@
 //! The next step of a live task.
 
-ghost use Rattle.std.specs.Prelude.{◌≡◌, ◌≢◌, length, true, false, not, Err, Some, None, IfOk, IfErr, OnOk, OnErr};
-ghost use Rattle.task_events.specs.declared.history.TheConstants.{MAX_EVENTS};
+ghost use Rattle.std.specs.Prelude.{◌≡◌, true, false, not, Some, None, IfOk, IfErr, OnOk, OnErr};
 ghost use Rattle.task_events.specs.Bans.{mark_of, ban_over};
 ghost use Rattle.task_events.specs.Tasks.{is_live, is_new};
 ghost use Rattle.world_moves.specs.Facts.{awaited_by, none_awaited};
@@ -10,8 +9,7 @@ ghost use Rattle.world_steps.specs.Runs.{AnswersStep, HasRoom, Steps};
 ghost use Rattle.world_moves.specs.Ties.{IsTied, Keeps, task_at, KeepsLaws};
 ghost use Rattle.node_parts.specs.Running.{DoesNext};
 
-use crate::ready::is_ready;
-use task_events::{Do, MAX_EVENTS, Stop};
+use task_events::{Do, Stop};
 use task_ids::TaskId;
 use world_moves::asks::ask;
 use world_moves::ends::{finish, finish_cancelled, refuse};
@@ -117,8 +115,7 @@ fn leave_or_wait(
     }
 }
 
-/// A live task makes its next step, unless it waits. That it waits, and that the history is full (`HistoryFull`, at 4,000,000 events), take no
-/// memory to find.
+/// A live task makes its next step, unless it waits.
 pub(crate) fn act(state: &mut State<'_>, task: TaskId) -> Result<Stepped, Stop>
     requires tied { IsTied state.old }
     ensures stepped { IfOk result (λ stepped. AnswersStep state.old.cluster state.old.corpus.now state.old.script.now task state.old.history stepped state.new.history) }
@@ -128,18 +125,11 @@ pub(crate) fn act(state: &mut State<'_>, task: TaskId) -> Result<Stepped, Stop>
     ensures part { OnErr result (IsPartly (Steps state.old.cluster state.old.corpus.now state.old.script.now task) state.old.history state.new.history) }
     ensures laws { OnErr result (KeepsLaws state.new) }
     ensures stop { IfErr result (λ stop. StopsMove (Steps state.old.cluster state.old.corpus.now state.old.script.now task) state.old.history state.new.history stop) }
-    ensures memory { result ≡ Err Stop.Memory → length state.old.history ≢ MAX_EVENTS }
 {
     let Some(running) = state.tasks.get(&task) else {
         return Ok(Stepped::NotRunning);
     };
     let running = running.get();
-    if !is_ready(state, task, Some(running)) {
-        return Ok(Stepped::Waiting);
-    }
-    if state.history.len() == MAX_EVENTS {
-        return Err(Stop::HistoryFull);
-    }
     if running.is_new {
         return first_step(state, task);
     }

@@ -99,7 +99,6 @@ pub(crate) fn step_and_refresh(
     ensures part { OnErr result (IsPartly (Steps state.old.cluster state.old.corpus.now state.old.script.now task) state.old.history state.new.history) }
     ensures laws { KeepsLaws state.new }
     ensures stop { IfErr result (λ stop. StopsMove (Steps state.old.cluster state.old.corpus.now state.old.script.now task) state.old.history state.new.history stop) }
-    ensures memory { result ≡ Err Stop.Memory → length state.old.history ≢ MAX_EVENTS }
 {
     let before = state.history.len();
     let stepped = match act(state, task) {

@@ -95,7 +95,7 @@ fn kept_at<'s>(state: &'s State<'_>, task: TaskId) -> Option<&'s Running>
 }
 
 /// Whether a task is live and does not wait, which is kept as is given.
-pub(crate) fn is_ready(state: &State<'_>, task: TaskId, kept: Option<&Running>) -> bool
+fn is_ready(state: &State<'_>, task: TaskId, kept: Option<&Running>) -> bool
     requires tied { IsTied state.now }
     requires given { option_copied kept ≡ task_at state.now.tasks task }
     ensures { result ≡ ready_in state.now task }
