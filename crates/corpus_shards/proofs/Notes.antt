@@ -13,7 +13,7 @@ use Rattle.std.specs.Borrow.{Bor}
 use Rattle.std.specs.declared.alloc.Global.{Global}
 use Rattle.std.proofs.lemmas.Bool.{cases_lt}
 use Rattle.std.proofs.lemmas.Bool.Decides.{nat_tests}
-use Rattle.std.proofs.lemmas.List.{take-set-le, get_or_past, length-take, length-set}
+use Rattle.std.proofs.lemmas.List.{get_or_past}
 use Rattle.std.proofs.lemmas.List.Folds.{list_any-append}
 use Rattle.std.proofs.lemmas.List.Sums.{sum_by-cons, sum_by-swap_remove}
 use Rattle.std.proofs.lemmas.Slice.Eq.{bytes_eq-Decides}
@@ -77,22 +77,6 @@ taken_keeps notes place note within is index shard other was =
     let none : weigh index shard (get_or notes place note) ≡ 0 = ap (weigh index shard) (sym is) ∙ ap one_if other in
     let same : count_by (is_of index shard) (swap_remove notes place note) ≡ count_by (is_of index shard) notes = omega (arith, counted, none) in
     any_count (is_of index shard) (swap_remove notes place note) ∙ ap (nat_lt 0) same ∙ sym (any_count (is_of index shard) notes) ∙ was
-
-take_first : {X : Type 0} (n m : ℕ) (xs : List X) → n ≤ m → take n (take m xs) ≡ take n xs
-take_first zero m xs low = refl
-take_first (suc n) zero xs low = absurd (omega arith)
-take_first (suc n) (suc m) [] low = refl
-take_first (suc n) (suc m) (x ∷ xs) low = ap (λ l. x ∷ l) (take_first n m xs (omega arith))
-
--- those before it stay where they are
-pub taken_before : {X : Type 0} (xs : List X) (place : ℕ) (x : X) → place < length xs → take place (swap_remove xs place x) ≡ take place xs
-taken_before xs place x within = take_first place (length xs - 1) (set xs place (get_or xs (length xs - 1) x)) (omega arith) ∙ take-set-le place xs place (get_or xs (length xs - 1) x) (omega arith)
-
-pub taken_length : {X : Type 0} (xs : List X) (place : ℕ) (x : X) → place < length xs → length (swap_remove xs place x) + 1 ≡ length xs
-taken_length xs place x within =
-    let last = get_or xs (length xs - 1) x in
-    let many = length-take (length xs - 1) (set xs place last) in
-    omega (arith, many, length-set xs place last)
 
 -- ---- all shards
 

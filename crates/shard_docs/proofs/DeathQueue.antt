@@ -114,10 +114,6 @@ none_kept = record {
 }
 
 module _ (oldest : ℕ) (writes : List Doc) (deaths : List ℕ) (are : AreDeaths oldest writes deaths) where
-  -- none is of a version up to the oldest
-  pub none_old : up_to oldest deaths ≡ 0
-  none_old = let at = are.counted oldest (omega arith) in omega arith
-
   pub kept_count : (version : ℕ) → oldest ≤ version → up_to version deaths ≡ dead_rows version writes - dead_rows oldest writes
   kept_count version from = let at = are.counted version from in omega arith
 

@@ -1,7 +1,6 @@
 -- An input is refused as too long where the source gave too many bytes, and nowhere else.
-use Rattle.std.proofs.Common.{◌≡◌, ℕ, ◌<◌, ◌↔◌, List, Option, Some, None, Result, Ok, Err, arith}
+use Rattle.std.proofs.Common.{◌≡◌, ℕ, ◌<◌, ◌↔◌, List, Option, Some, None, Ok, Err, arith}
 use Rattle.es_io.specs.Bytes.{IfGave}
-use Rattle.es_io.specs.declared.whole.ReadAll.{ReadAll}
 use Rattle.es_io.specs.declared.whole.ReadAll.TheVariants as reads
 use Rattle.task_ids.specs.declared.cause.Cause.{Cause}
 use Rattle.task_ids.specs.declared.cause.Cause.TheVariants.{TooLong}

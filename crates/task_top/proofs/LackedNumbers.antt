@@ -1,6 +1,5 @@
 -- Where the next event of a run needs a number that its node has not, there is no whole run: no task has that number.
-use Rattle.std.proofs.Common.{◌≡◌, ◌<◌, ◌≤◌, ◌+◌, ℕ, zero, suc, Bool, true, false, List, [], ◌∷◌, length, Some, sym, subst, ◌∙◌, inl, inr, arith}
-use Rattle.std.specs.Prelude.{slice_get}
+use Rattle.std.proofs.Common.{◌≡◌, ◌<◌, ℕ, zero, suc, Bool, true, false, List, [], ◌∷◌, length, Some, sym, subst, ◌∙◌, inl, inr, arith}
 use Rattle.std.proofs.lemmas.Option.{slice_get_within}
 use Rattle.task_ids.specs.declared.cluster.Cluster.{Cluster}
 use Rattle.task_ids.specs.declared.corpus.Corpus.{Corpus}
@@ -17,13 +16,13 @@ use Rattle.script_lang.specs.declared.command.Command.{Command}
 use Rattle.script_lang.specs.declared.command.Command.TheVariants.{Search, Scroll, ClearScroll, Reindex, Cancel, ListTasks, Tick, Deliver, Step, ListStep, Settle, Shuffle, WaitFor, History, Summary}
 use Rattle.script_lang.specs.declared.command.Script.{Script}
 use Rattle.script_lang.specs.Generator.{next_number}
-use Rattle.world_moves.specs.Moves.{greatest_number, IsDelivery, Delivers, IsStart, Starts, NodeLacksNumber, LacksNumber, DeliveryLacksNumber}
+use Rattle.world_moves.specs.Moves.{greatest_number, IsDelivery, Delivers, IsStart, NodeLacksNumber, LacksNumber, DeliveryLacksNumber}
 use Rattle.world_steps.specs.declared.shuffling.Move.{Move}
 use Rattle.world_steps.specs.declared.shuffling.Move.TheVariants as moves
 use Rattle.world_steps.specs.Draining.{Empties, EmptyingLacksNumber}
 use Rattle.world_steps.specs.Runs.{FirstMoves, Settles, SettlingLacksNumber}
 use Rattle.world_steps.specs.Scripts.{closing, page_node, StartsWhere, CommandLacksNumber, Does, Drains, IsRun, NumberedLacksNumber, StopsRun}
-use Rattle.world_steps.specs.Shuffling.{Chooses, Makes, MoveLacksNumber, Shuffles, ShufflingLacksNumber}
+use Rattle.world_steps.specs.Shuffling.{Makes, MoveLacksNumber, Shuffles, ShufflingLacksNumber}
 use Rattle.world_steps.proofs.Determined.{chooses_one}
 use Rattle.task_top.proofs.WholeRuns.{GoesOn, all_one, command_one, empties_from, in_script, run_goes_on, settles_from, shuffles_on}
 

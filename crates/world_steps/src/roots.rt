@@ -1,6 +1,6 @@
 //! Commands begin, and their roots come to their nodes.
 
-ghost use Rattle.std.specs.Prelude.{◌≡◌, ◌≢◌, ◌∷◌, ◌↔◌, ℕ, Bool, ◌+◌, ◌≤◌, length, cond, Err, Some, None, IfOk, IfErr, OnOk, OnErr};
+ghost use Rattle.std.specs.Prelude.{◌≡◌, ◌≢◌, ◌∷◌, ◌↔◌, ℕ, Bool, ◌+◌, ◌≤◌, length, cond, false, Err, Some, None, IfOk, IfErr, OnOk, OnErr};
 ghost use Rattle.std.specs.BTreeMap.{is_at, get};
 ghost use Rattle.std.specs.Ordering.{nat_cmp};
 ghost use Rattle.task_ids.specs.TaskIdOrder.{task_id_cmp};
