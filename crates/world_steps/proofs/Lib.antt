@@ -33,6 +33,7 @@ pub mod Plans
 pub mod ReadBefore
 pub mod Readiness
 pub mod Resting
+pub mod RootCuts
 pub mod RootsAfter
 pub mod ShardsAnswered
 pub mod Shuffled

@@ -127,7 +127,6 @@ pub(crate) fn list_and_refresh(
     ensures part { OnErr result (IsPartly (ListSteps listing) state.old.history state.new.history) }
     ensures laws { KeepsLaws state.new }
     ensures stop { IfErr result (λ stop. StopsMove (ListSteps listing) state.old.history state.new.history stop) }
-    ensures memory { result ≡ Err Stop.Memory → length state.old.history ≢ MAX_EVENTS }
 {
     let before = state.history.len();
     let stepped = match list_step(state, listing) {

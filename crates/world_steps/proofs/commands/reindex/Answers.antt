@@ -60,4 +60,4 @@ returns-in_err-start_reindex-clause-stop c =
     cut_as (IsPartly (λ h new. (started : Bool) × Starts s.cluster h c.args.number c.args.node started new) s.history) (IsPartly (StartsWhere s.cluster (can_copy s.corpus.now s.script.now.commands c.args.body.now) c.args.number c.args.node) s.history) c.start_reindex.new.state.history
     (λ past. partly_comes_where s.cluster (can_copy s.corpus.now s.script.now.commands c.args.body.now) c.args.number c.args.node can s.history past) (c.start_reindex.ensures.full is_err)))
     (λ failed. (let is_err : c.start_reindex.result ≡ Err NumbersSpent = search rules in
-    (can, c.start_reindex.ensures.spent is_err, c.in_err-start_reindex.ensures.err)))
+    (can, (c.start_reindex.ensures.spent.0 is_err), c.in_err-start_reindex.ensures.err)))

@@ -52,4 +52,4 @@ returns-in_err-start-clause-stop c =
     cut_as (IsPartly (λ h new. (started : Bool) × Starts s.cluster h c.args.number c.args.node started new) s.history) (IsPartly (StartsWhere s.cluster (can_start s.corpus.now s.script.now.commands c.args.index.now c.args.scroll c.args.body.now) c.args.number c.args.node) s.history) c.start.new.state.history
     (λ past. partly_comes s.cluster s.corpus.now s.script.now.commands c.args.index.now c.args.scroll c.args.body.now c.args.number c.args.node c.in-Some.body s.history past good known) (c.start.ensures.full is_err)))
     (λ failed. (let is_err : c.start.result ≡ Err NumbersSpent = search rules in
-    (can_come s.cluster s.corpus.now s.script.now.commands c.args.index.now c.args.scroll c.args.body.now c.args.number c.args.node c.in-Some.body good known, c.start.ensures.spent is_err, c.in_err-start.ensures.err)))
+    (can_come s.cluster s.corpus.now s.script.now.commands c.args.index.now c.args.scroll c.args.body.now c.args.number c.args.node c.in-Some.body good known, (c.start.ensures.spent.0 is_err), c.in_err-start.ensures.err)))

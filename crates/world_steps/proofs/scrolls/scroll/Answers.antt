@@ -91,4 +91,4 @@ returns-in_err-start_page-clause-stop c =
     (λ past part. partly_comes_where s.cluster (can_page s.script.now target s.history) number (page_node target s.history) can s.history past
     (subst (λ n. IsPartly (λ h new. (started : Bool) × Starts s.cluster h number n started new) s.history past) (sym node) part)) (c.start_page.ensures.full is_err)))
     (λ failed. (let is_err : c.start_page.result ≡ Err NumbersSpent = search rules in
-    (can, subst (NodeLacksNumber s.cluster s.history) (sym node) (c.start_page.ensures.spent is_err), c.in_err-start_page.ensures.err)))
+    (can, subst (NodeLacksNumber s.cluster s.history) (sym node) ((c.start_page.ensures.spent.0 is_err)), c.in_err-start_page.ensures.err)))
