@@ -53,30 +53,30 @@ module _ (cluster : Cluster) (h : List Event) (n : ℕ) (low : 1 ≤ n) (high : 
 
   pub slot_or_none : (NodeLacksNumber cluster h n → ⊥) → CanTakeSlot cluster h n ⊎ (cluster.slots ≤ live_on n h)
   slot_or_none has = elim (dec_lt (live_on n h) cluster.slots) [
-      | yes free ↦ inl (next_takes free (left free))
-      | no none ↦ inr (omega arith)
-    ]
+    | yes free ↦ inl (next_takes free (left free))
+    | no none ↦ inr (omega arith)
+  ]
     where
       left : live_on n h < cluster.slots → last_number n h + 1 ≤ 1048575
       left free = elim (dec_lt (last_number n h) 1048575) [
-          | yes below ↦ omega arith
-          | no last ↦ absurd (let most = low_number n h in let greatest = is_greatest in has (free, omega arith))
-        ]
+        | yes below ↦ omega arith
+        | no last ↦ absurd (let most = low_number n h in let greatest = is_greatest in has (free, omega arith))
+      ]
 
 -- A request that does not lack a number is cut short by a full history.
 pub request_cut : (cluster : Cluster) (h : List Event) (nth : ℕ) (token : Token) (to at : ℕ) → Arrives cluster h nth token to at → (NodeLacksNumber cluster h to → ⊥) → length h ≡ MAX_EVENTS
     → IsCutShort (IsPartly (λ x y. Delivers cluster x nth y) h) h
 request_cut cluster h nth token to at a has full = elim (slot_or_none cluster h to a.low a.high has) [
-    | inl takes ↦ cut_only (λ x y. Delivers cluster x nth y) h h (Put takes.0 token.parent token.ask) (Request token.parent token.ask to a.asked, Put takes.0 token.parent token.ask, a.here, (takes.2, takes.1, refl, refl), refl) full refl
-    | inr none ↦ cut_only (λ x y. Delivers cluster x nth y) h h (Reject to token.parent token.ask) (Request token.parent token.ask to a.asked, Reject to token.parent token.ask, a.here, (none, refl, refl, refl), refl) full refl
-  ]
+  | inl takes ↦ cut_only (λ x y. Delivers cluster x nth y) h h (Put takes.0 token.parent token.ask) (Request token.parent token.ask to a.asked, Put takes.0 token.parent token.ask, a.here, (takes.2, takes.1, refl, refl), refl) full refl
+  | inr none ↦ cut_only (λ x y. Delivers cluster x nth y) h h (Reject to token.parent token.ask) (Request token.parent token.ask to a.asked, Reject to token.parent token.ask, a.here, (none, refl, refl, refl), refl) full refl
+]
 
 -- there is an entry at each place below the end
 pub entry_there : (flight : List Sent) (nth : ℕ) → nth < length flight → (s : Sent) × (slice_get flight nth ≡ Some s)
 entry_there flight nth inside = elim (slice_get_cases flight nth).1 [
-    | inl there ↦ (there.0, there.2)
-    | inr past ↦ absurd (let most = past.0 in omega (arith, most, inside))
-  ]
+  | inl there ↦ (there.0, there.2)
+  | inr past ↦ absurd (let most = past.0 in omega (arith, most, inside))
+]
 
 -- an entry that is a request
 pub request_there : (o : Option Sent) (n : ℕ) → node_asked o ≡ Some n → (token : Token) × (at : ℕ) × (headers : Headers) × (o ≡ Some (sent.Request token n at headers))

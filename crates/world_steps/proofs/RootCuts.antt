@@ -11,6 +11,6 @@ use Rattle.world_moves.proofs.NextNumbers.{slot_or_none}
 pub root_cut : (cluster : Cluster) (h : List Event) (command node : ℕ) → 1 ≤ node → node ≤ cluster.nodes → (NodeLacksNumber cluster h node → ⊥) → length h ≡ MAX_EVENTS
     → IsCutShort (IsPartly (λ x y. (started : Bool) × Starts cluster x command node started y) h) h
 root_cut cluster h command node low high has full = elim (slot_or_none cluster h node low high has) [
-    | inl takes ↦ cut_only (λ x y. (started : Bool) × Starts cluster x command node started y) h h (Root command takes.0) (true, (Root command takes.0, (takes.2, takes.1, refl), refl)) full refl
-    | inr none ↦ cut_only (λ x y. (started : Bool) × Starts cluster x command node started y) h h (RootRejected command node) (false, (RootRejected command node, (none, refl, refl), refl)) full refl
-  ]
+  | inl takes ↦ cut_only (λ x y. (started : Bool) × Starts cluster x command node started y) h h (Root command takes.0) (true, (Root command takes.0, (takes.2, takes.1, refl), refl)) full refl
+  | inr none ↦ cut_only (λ x y. (started : Bool) × Starts cluster x command node started y) h h (RootRejected command node) (false, (RootRejected command node, (none, refl, refl), refl)) full refl
+]

@@ -17,7 +17,7 @@ returns-in_err-push-clause-err c =
 pub loop-preserved : goal.loop-preserved
 loop-preserved c = (
   rw (c.in_ok-note.ensures.ok, c.in_ok-push.ensures.items, c.in_ok-note.ensures.note)
-    (writes_next c.args.index.now c.args.number c.args.shard.now.writes c.args.left.now.items c.loop.counter c.loop.shard.writes c.loop.left.items c.pop_front.new.self.items c.loop.notes.items c.in-Some.doc c.loop.invariant.0 c.in-Some.ensures.items),
+      (writes_next c.args.index.now c.args.number c.args.shard.now.writes c.args.left.now.items c.loop.counter c.loop.shard.writes c.loop.left.items c.pop_front.new.self.items c.loop.notes.items c.in-Some.doc c.loop.invariant.0 c.in-Some.ensures.items),
   c.write_one.ensures.oldest ∙ c.loop.invariant.1,
 )
 

@@ -27,12 +27,13 @@ pub returns-in-Some-clause-spent : goal.returns-in-Some-clause-spent
 returns-in-Some-clause-spent c =
     let s = c.args.state.now in
     let r = request_there (slice_get s.flight c.args.nth) c.in-Some.node (sym c.node_at.ensures ∙ c.in-Some.is) in
-    let a = arrives s.cluster s.corpus.now s.script.now s.history _ _ s.flight c.requires.tied.ties c.args.nth r.0 c.in-Some.node r.1 r.2 r.3 in
-    (λ spent. (_, a.here, c.check_room.ensures.spent.0 spent),
+    let a = arrives s.cluster s.corpus.now s.script.now s.history _ _ s.flight c.requires.tied.ties c.args.nth r.0 c.in-Some.node r.1 r.2 r.3 in (
+      λ spent. (_, a.here, c.check_room.ensures.spent.0 spent),
       λ lacks.
-        let same : Some lacks.0 ≡ Some (Request r.0.parent r.0.ask c.in-Some.node a.asked) = sym lacks.1 ∙ a.here in
-        let is : lacks.0 ≡ Request r.0.parent r.0.ask c.in-Some.node a.asked = cc in
-        c.check_room.ensures.spent.1 (subst (LacksNumber s.cluster s.history) is lacks.2))
+          let same : Some lacks.0 ≡ Some (Request r.0.parent r.0.ask c.in-Some.node a.asked) = sym lacks.1 ∙ a.here in
+          let is : lacks.0 ≡ Request r.0.parent r.0.ask c.in-Some.node a.asked = cc in
+          c.check_room.ensures.spent.1 (subst (LacksNumber s.cluster s.history) is lacks.2),
+    )
 
 pub returns-in-Some-clause-stop : goal.returns-in-Some-clause-stop
 returns-in-Some-clause-stop c =
@@ -48,10 +49,12 @@ returns-then-len-eq-MAX_EVENTS-clause-spent c =
     let s = c.args.state.now in
     let e = entry_there s.flight c.args.nth c.requires.there in
     let p = pair_at (message_of s.history) s.flight (in_flight s.history) c.args.nth e.0 c.requires.tied.ties.sent e.1 in
-    let none = ap node_asked (sym e.1) ∙ sym c.node_at.ensures ∙ c.in_default.is in
-    (λ x. absurd (cc), λ lacks. absurd (
-        let r = lacks_at s.cluster s.history lacks.0 lacks.2 in
-        no_request s.history e.0 none r.0 r.1 r.2 r.3 (p.2 ∙ sym p.1 ∙ lacks.1 ∙ ap Some r.4)))
+    let none = ap node_asked (sym e.1) ∙ sym c.node_at.ensures ∙ c.in_default.is in (
+      λ x. absurd (cc),
+      λ lacks. absurd (
+          let r = lacks_at s.cluster s.history lacks.0 lacks.2 in
+          no_request s.history e.0 none r.0 r.1 r.2 r.3 (p.2 ∙ sym p.1 ∙ lacks.1 ∙ ap Some r.4)),
+    )
 
 pub returns-then-len-eq-MAX_EVENTS-clause-stop : goal.returns-then-len-eq-MAX_EVENTS-clause-stop
 returns-then-len-eq-MAX_EVENTS-clause-stop c =
@@ -67,7 +70,9 @@ returns-clause-spent c =
     let s = c.args.state.now in
     let e = entry_there s.flight c.args.nth c.requires.there in
     let p = pair_at (message_of s.history) s.flight (in_flight s.history) c.args.nth e.0 c.requires.tied.ties.sent e.1 in
-    let none = ap node_asked (sym e.1) ∙ sym c.node_at.ensures ∙ c.in_default.is in
-    (λ x. absurd (cc), λ lacks. absurd (
-        let r = lacks_at s.cluster s.history lacks.0 lacks.2 in
-        no_request s.history e.0 none r.0 r.1 r.2 r.3 (p.2 ∙ sym p.1 ∙ lacks.1 ∙ ap Some r.4)))
+    let none = ap node_asked (sym e.1) ∙ sym c.node_at.ensures ∙ c.in_default.is in (
+      λ x. absurd (cc),
+      λ lacks. absurd (
+          let r = lacks_at s.cluster s.history lacks.0 lacks.2 in
+          no_request s.history e.0 none r.0 r.1 r.2 r.3 (p.2 ∙ sym p.1 ∙ lacks.1 ∙ ap Some r.4)),
+    )
