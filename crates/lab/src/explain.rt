@@ -115,11 +115,7 @@ fn push_misfit(
     out.push_str(", and is to be ")?;
     push_rule(out, rule, place.nodes)?;
     if rule == Rule::Command {
-        let met = value.as_u64().and_then(|number| number.checked_sub(1));
-        return match met.and_then(|at| place.before.get(at as usize)) {
-            Some(name) => write!(out, "; that command is a {name}"),
-            None => write!(out, "; before this line there are {}", place.before.len()),
-        };
+        write!(out, "; before this line there are {}", place.before.len())?;
     }
     Ok(())
 }
@@ -228,6 +224,44 @@ pub fn push_command(out: &mut String, value: &Value, place: &Place<'_>) -> Resul
     }
     write!(out, "; there is no command {name}")?;
     push_names(place.alloc, out, name, &COMMANDS)
+}
+
+/// Which commands a command can name.
+fn nameable(command: &str) -> &'static str {
+    match command {
+        "cancel" => "a search, a scroll or a reindex",
+        "wait_for" => "a search, a scroll, a cancel or a reindex without requests_per_second",
+        _ => "a search with scroll",
+    }
+}
+
+/// Tells what is wrong with the number of an earlier command.
+pub fn push_reference(
+    out: &mut String,
+    value: &Value,
+    place: &Place<'_>,
+) -> Result<(), AllocError> {
+    let Some((name, fields)) = value
+        .as_object()
+        .and_then(|members| members.first_key_value())
+    else {
+        return Ok(());
+    };
+    let Some(number) = fields.get("command").and_then(Value::as_u64) else {
+        return Ok(());
+    };
+    write!(
+        out,
+        "; command is {number}, and is to be the number of an earlier command that is {}",
+        nameable(name.as_str())
+    )?;
+    match number
+        .checked_sub(1)
+        .and_then(|at| place.before.get(at as usize))
+    {
+        Some(met) => write!(out, "; command {number} is a {}", met.as_str()),
+        None => write!(out, "; before this line there are {}", place.before.len()),
+    }
 }
 
 /// Tells what is wrong with the action of a document.

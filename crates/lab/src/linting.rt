@@ -1,9 +1,9 @@
 // All faults of an input, each told at length.
 
 use crate::broken::{MARK, push_broken, push_numbers, push_utf8, spread};
-use crate::explain::{Place, push_action, push_command};
+use crate::explain::{Place, push_action, push_command, push_reference};
 use crate::input::without_return;
-use crate::known::COMMANDS;
+use crate::known::{COMMANDS, nearest};
 use crate::running::run;
 use serde_json::Value;
 use std::alloc::{AllocError, Global};
@@ -83,6 +83,15 @@ impl Mended {
             line.text = text;
         }
         Ok(())
+    }
+
+    /// Leaves so many lines out.
+    fn leave_out(&mut self, at: usize, count: usize) {
+        for _ in 0..count {
+            if at < self.lines.len() {
+                drop(self.lines.remove(at));
+            }
+        }
     }
 
     /// What the line at a place is.
@@ -177,9 +186,7 @@ fn take_spread(out: &mut String, mended: &mut Mended, at: usize) -> Result<bool,
     }
     let whole = value.to_string(mended.alloc)?;
     mended.put(at, whole.as_bytes())?;
-    for more in 1..count {
-        mended.put(at.saturating_add(more), b"")?;
-    }
+    mended.leave_out(at.saturating_add(1), count.saturating_sub(1));
     Ok(true)
 }
 
@@ -190,24 +197,21 @@ fn take_early(
     at: usize,
     name: &str,
 ) -> Result<bool, AllocError> {
-    if !COMMANDS.iter().any(|known| *known == name) {
+    let Some(known) = nearest(mended.alloc, name, &COMMANDS)? else {
         return Ok(false);
-    }
+    };
     let Some(line) = mended.lines.get(at) else {
         return Ok(false);
     };
     let number = line.number;
     if mended.has_dashes_after(at) {
-        write!(
-            out,
-            "; {name} is a command, and commands stand after the line --"
-        )?;
+        write!(out, "; the command {known} stands after the line --")?;
         mended.put(at, b"")?;
         return Ok(true);
     }
     write!(
         out,
-        "; {name} is a command: there is no line -- before line {number}"
+        "; {known} is a command, and there is no line -- before line {number}"
     )?;
     let text = Vec::from_slice(mended.alloc, b"--")?;
     mended
@@ -242,13 +246,13 @@ fn take_value(
     mended: &mut Mended,
     cluster: &Cluster,
     at: usize,
-    kind: Kind,
+    cause: Cause,
 ) -> Result<bool, AllocError> {
     let alloc = mended.alloc;
     let Ok(value) = Value::from_slice(alloc, mended.text(at)) else {
         return Ok(false);
     };
-    match kind {
+    match mended.kind(at) {
         Kind::Source => {
             out.push_str("; the source of a document is an object")?;
             Ok(false)
@@ -268,7 +272,11 @@ fn take_value(
                 nodes: cluster.nodes,
                 before: before.as_slice(),
             };
-            push_command(out, &value, &place)?;
+            if matches!(cause, Cause::BadReference | Cause::NotWaitable) {
+                push_reference(out, &value, &place)?;
+            } else {
+                push_command(out, &value, &place)?;
+            }
             Ok(false)
         }
     }
@@ -282,7 +290,6 @@ fn take_cause(
     at: usize,
     cause: Cause,
 ) -> Result<bool, AllocError> {
-    let kind = mended.kind(at);
     match cause {
         Cause::LineTooLong => {
             write!(
@@ -314,7 +321,7 @@ fn take_cause(
             )?;
             Ok(false)
         }
-        _ => take_value(out, mended, cluster, at, kind),
+        _ => take_value(out, mended, cluster, at, cause),
     }
 }
 
@@ -340,9 +347,10 @@ fn take_refusal(
         return Ok(false);
     }
     let kind = mended.kind(at);
-    let name = name_of(mended.alloc, mended.text(at))?;
+    let met = name_of(mended.alloc, mended.text(at))?;
+    let name = nearest(mended.alloc, met.as_str(), &COMMANDS)?.unwrap_or("");
     if !take_cause(out, mended, cluster, at, cause)? {
-        mended.put(at, substitute(kind, name.as_str()))?;
+        mended.put(at, substitute(kind, name))?;
     }
     out.push_str("\n")?;
     Ok(true)

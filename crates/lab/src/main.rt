@@ -52,14 +52,14 @@ fn words<R: Env + AllocGlobal>(rt: &R) -> Result<Vec<String>, Fault> {
 
 /// What is shown, and the exit status after that.
 #[derive(Drop)]
-struct Shown {
+struct Output {
     text: Vec<u8>,
     status: u8,
 }
 
 /// What is shown of an input that has no fault.
-fn whole(text: Vec<u8>) -> Shown {
-    Shown { text, status: 0 }
+fn whole(text: Vec<u8>) -> Output {
+    Output { text, status: 0 }
 }
 
 /// The cluster that the words of `tasktree sim` set.
@@ -91,7 +91,7 @@ fn whole_run(alloc: Global, cluster: &Cluster, bytes: &[u8]) -> Result<Ran, Faul
 }
 
 /// Each step of a script.
-fn walked(alloc: Global, options: &[String], bytes: &[u8]) -> Result<Shown, Fault> {
+fn walked(alloc: Global, options: &[String], bytes: &[u8]) -> Result<Output, Fault> {
     let cluster = cluster_of(alloc, options)?;
     let ran = whole_run(alloc, &cluster, bytes)?;
     let input = Input::of(alloc, bytes)?;
@@ -100,7 +100,7 @@ fn walked(alloc: Global, options: &[String], bytes: &[u8]) -> Result<Shown, Faul
 }
 
 /// The input with its schedule written out.
-fn replayed(alloc: Global, options: &[String], bytes: &[u8]) -> Result<Shown, Fault> {
+fn replayed(alloc: Global, options: &[String], bytes: &[u8]) -> Result<Output, Fault> {
     let cluster = cluster_of(alloc, options)?;
     let ran = whole_run(alloc, &cluster, bytes)?;
     let input = Input::of(alloc, bytes)?;
@@ -108,7 +108,7 @@ fn replayed(alloc: Global, options: &[String], bytes: &[u8]) -> Result<Shown, Fa
 }
 
 /// A small input that prints a text.
-fn shrunk(alloc: Global, words: &[String], bytes: &[u8]) -> Result<Shown, Fault> {
+fn shrunk(alloc: Global, words: &[String], bytes: &[u8]) -> Result<Output, Fault> {
     let Some((text, options)) = words.split_first() else {
         return Err(Fault::Usage);
     };
@@ -123,26 +123,26 @@ fn shrunk(alloc: Global, words: &[String], bytes: &[u8]) -> Result<Shown, Fault>
 }
 
 /// What is wrong with the words of a command line of the program, and else with an input.
-fn linted(alloc: Global, words: &[String], bytes: &[u8]) -> Result<Shown, Fault> {
+fn linted(alloc: Global, words: &[String], bytes: &[u8]) -> Result<Output, Fault> {
     let mut text = String::new(alloc);
     if !words.is_empty() && plan(alloc, words).is_err() {
         push_words(alloc, &mut text, words)?;
         let text = Vec::from_slice(alloc, text.as_bytes())?;
-        return Ok(Shown { text, status: 1 });
+        return Ok(Output { text, status: 1 });
     }
     let cluster = match words {
         [] => cluster_of(alloc, &[])?,
         _ => planned(alloc, words)?,
     };
     let report = lint(alloc, &cluster, bytes)?;
-    Ok(Shown {
+    Ok(Output {
         text: Vec::from_slice(alloc, report.text.as_bytes())?,
         status: if report.faults == 0 { 0 } else { 2 },
     })
 }
 
 /// What a word of the companion shows of an input.
-fn shown(alloc: Global, words: &[String], bytes: &[u8]) -> Result<Shown, Fault> {
+fn shown(alloc: Global, words: &[String], bytes: &[u8]) -> Result<Output, Fault> {
     let Some((word, others)) = words.split_first() else {
         return Err(Fault::Usage);
     };

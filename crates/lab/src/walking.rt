@@ -226,6 +226,26 @@ fn push_part(out: &mut String, title: &str, lines: &str) -> Result<(), AllocErro
     write!(out, "  {title}:\n{lines}")
 }
 
+/// Why a command made nothing happen, if its printed line tells that.
+fn push_error(out: &mut String, ran: &Ran, number: u32) -> Result<(), AllocError> {
+    let mut lines = ran.printed().split(|byte| *byte == b'\n');
+    let line = match (number as usize).checked_sub(1) {
+        Some(place) => lines.nth(place).unwrap_or(b""),
+        None => b"",
+    };
+    let Some((_, error)) = std::str::from_utf8(line)
+        .ok()
+        .and_then(|text| text.split_once("\"error\":"))
+    else {
+        return Ok(());
+    };
+    write!(
+        out,
+        "  nothing happened: {}\n",
+        error.strip_suffix('}').unwrap_or(error)
+    )
+}
+
 /// What is in flight, with the places that `deliver` takes, and which listings are open.
 fn push_scene(alloc: Global, out: &mut String, scene: &Scene) -> Result<(), AllocError> {
     let mut flight = String::new(alloc);
@@ -268,15 +288,21 @@ pub fn walk(
     let mut out = String::new(alloc);
     let mut scene = Scene::new(alloc);
     let mut number = 0;
+    let mut is_still = false;
     for event in ran.kept.history.events() {
         if let Event::Begin { command } = event {
             if number > 0 {
+                if is_still {
+                    push_error(&mut out, ran, number)?;
+                }
                 push_scene(alloc, &mut out, &scene)?;
                 push_tasks(alloc, &mut out, cluster, input, number, &scene.tasks)?;
             }
             number = *command;
+            is_still = true;
             push_title(&mut out, input, number)?;
         } else {
+            is_still = false;
             scene.take(event, started_by(command_of(commands, number)))?;
             push_event(&mut out, commands, &scene, event)?;
         }

@@ -57,9 +57,15 @@ fn push_value(out: &mut String, name: &str, value: &str, most: u32) -> Result<()
 /// Explains the options of `sim`.
 fn push_options(alloc: Global, out: &mut String, words: &[String]) -> Result<(), AllocError> {
     let mut open = None;
+    let mut is_unknown = false;
     let mut met: Vec<&str> = Vec::new(alloc);
     for word in words {
         let word = word.as_str();
+        let is_passed = is_unknown && !word.starts_with("--");
+        is_unknown = false;
+        if is_passed {
+            continue;
+        }
         if let Some((name, most)) = open.take() {
             push_value(out, name, word, most)?;
             continue;
@@ -69,6 +75,7 @@ fn push_options(alloc: Global, out: &mut String, words: &[String]) -> Result<(),
             None => (word, None),
         };
         let Some(most) = most_of(name) else {
+            is_unknown = value.is_none();
             write!(out, "word {word}: there is no such option")?;
             push_nearest(alloc, out, name, &NAMES)?;
             continue;
