@@ -71,12 +71,17 @@ pub fn push_broken(alloc: Global, out: &mut String, line: &[u8]) -> Result<(), A
     let Err(error) = Value::from_slice(alloc, line) else {
         return Ok(());
     };
+    if error.is_eof() {
+        return out.push_str("; the line ends before the JSON does");
+    }
     let at = error.column();
-    write!(out, "; at byte {at}")?;
+    write!(out, "; the fault is at byte {at}")?;
     let from = at.saturating_sub(MAX_TOLD);
     let near = line.get(from..at.min(line.len())).unwrap_or(b"");
     match std::str::from_utf8(near) {
-        Ok(near) if !near.is_empty() => write!(out, ", after {near}"),
+        Ok(near) if !near.bytes().any(|byte| byte < b' ') => {
+            write!(out, ", at the end of {near}")
+        }
         _ => Ok(()),
     }
 }

@@ -15,6 +15,9 @@ use task_top::{Cluster, Status};
 /// How many lines a script has at most.
 const MAX_COMMANDS: usize = 65_535;
 
+/// The longest tick that a command makes.
+const DAY_MS: u64 = 86_400_000;
+
 /// A command that stands in another's place and makes nothing happen.
 const NOTHING: &[u8] = br#"{"summary":true}"#;
 
@@ -89,9 +92,12 @@ impl Pair {
         Ok(())
     }
 
-    /// Adds the moves of the closing drain.
+    /// Adds the moves of the closing drain, up to one that no command makes.
     fn push_drain(&mut self, alloc: Global, moves: &[Move]) -> Result<(), AllocError> {
         for made in moves {
+            if matches!(made, Move::Tick(ms) if *ms > DAY_MS) {
+                return Ok(());
+            }
             push_line(&mut self.written, line_of(alloc, made)?.as_bytes())?;
             self.lines = self.lines.saturating_add(1);
         }
