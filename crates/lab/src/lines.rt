@@ -1,6 +1,7 @@
 // Lines of scripts.
 
 use crate::scene::{Listing, Move};
+use crate::task::Id;
 use serde_json::Value;
 use std::alloc::{AllocError, Global};
 
@@ -14,14 +15,11 @@ pub fn push_line(out: &mut Vec<u8>, line: &[u8]) -> Result<(), AllocError> {
 pub fn line_of(alloc: Global, made: &Move) -> Result<String, AllocError> {
     match made {
         Move::Deliver(at) => format!(in alloc; "{{\"deliver\":{at}}}"),
-        Move::Step(task) => {
-            let (node, number) = (task.node, task.number);
-            format!(in alloc; "{{\"step\":\"n{node}:{number}\"}}")
-        }
+        Move::Step(task) => format!(in alloc; "{{\"step\":\"{}\"}}", Id(*task)),
         Move::ListStep(Listing { node, parent }) => {
-            let (at, number) = (parent.node, parent.number);
             format!(in alloc;
-                "{{\"list_step\":{{\"node\":\"n{node}\",\"parent\":\"n{at}:{number}\"}}}}"
+                "{{\"list_step\":{{\"node\":\"n{node}\",\"parent\":\"{}\"}}}}",
+                Id(*parent)
             )
         }
         Move::Tick(ms) => format!(in alloc; "{{\"tick\":{ms}}}"),

@@ -291,38 +291,29 @@ fn take_cause(
     cause: Cause,
 ) -> Result<bool, AllocError> {
     match cause {
+        Cause::BadJson => return take_broken(out, mended, at),
+        Cause::NoSource => {
+            out.push_str("; the next line is to be the document, an object")?;
+            mended.put(at, b"")?;
+            return Ok(true);
+        }
         Cause::LineTooLong => {
             write!(
                 out,
                 "; it has {} bytes, and 1048576 are the most",
                 mended.text(at).len()
             )?;
-            Ok(false)
         }
-        Cause::BadUtf8 => {
-            push_utf8(out, mended.text(at))?;
-            Ok(false)
-        }
-        Cause::BadJson => take_broken(out, mended, at),
-        Cause::NotWhole => {
-            if let Ok(text) = std::str::from_utf8(mended.text(at)) {
-                push_numbers(out, text)?;
-            }
-            Ok(false)
-        }
-        Cause::NoSource => {
-            out.push_str("; the next line is to be the document, an object")?;
-            mended.put(at, b"")?;
-            Ok(true)
-        }
+        Cause::BadUtf8 => push_utf8(out, mended.text(at))?,
+        Cause::NotWhole => push_numbers(out, std::str::from_utf8(mended.text(at)).unwrap_or(""))?,
         Cause::Conflict => {
             out.push_str(
                 "; an earlier line wrote a document of that id, and create does not replace it",
             )?;
-            Ok(false)
         }
-        _ => take_value(out, mended, cluster, at, cause),
+        _ => return take_value(out, mended, cluster, at, cause),
     }
+    Ok(false)
 }
 
 /// Tells the refusal of a line and mends it. Says whether there may be more.

@@ -1,7 +1,18 @@
 // What is known of a task.
 
 use std::alloc::Global;
+use std::fmt;
 use task_ids::{Action, TaskId};
+
+/// A task's id as it is written.
+#[derive(Clone, Copy)]
+pub struct Id(pub TaskId);
+
+impl fmt::Display for Id {
+    fn fmt<W: fmt::Write>(&self, f: &mut fmt::Formatter<W>) -> fmt::Result {
+        write!(f, "n{}:{}", self.0.node, self.0.number)
+    }
+}
 
 /// An ask that is still to be answered.
 #[derive(Clone, Copy)]

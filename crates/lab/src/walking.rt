@@ -6,7 +6,7 @@ use crate::lines::{line_of, push_line};
 use crate::running::{Ran, run};
 use crate::scene::{Message, Move, Scene};
 use crate::schedule::{command_of, started_by};
-use crate::task::Task;
+use crate::task::{Id, Task};
 use event_text::write_event;
 use script_lang::Command;
 use std::alloc::{AllocError, Global};
@@ -71,56 +71,45 @@ fn push_event(
 }
 
 /// What a message is, and where it goes.
-fn push_message(
-    out: &mut String,
-    at: usize,
-    message: &Message,
-    scene: &Scene,
-) -> Result<(), AllocError> {
+fn push_message(out: &mut String, message: &Message, scene: &Scene) -> Result<(), AllocError> {
     match message {
         Message::Request { parent, ask, to } => {
-            let (node, number) = (parent.node, parent.number);
-            write!(
-                out,
-                "    {at}  request to n{to}: ask {ask} of n{node}:{number}"
-            )?;
-            if let Some(known) = scene.tasks.get(parent) {
-                write!(out, ", {}", known.asked(*ask).text())?;
+            write!(out, "request to n{to}: ask {ask} of {}", Id(*parent))?;
+            match scene.tasks.get(parent) {
+                Some(known) => write!(out, ", {}", known.asked(*ask).text()),
+                None => Ok(()),
             }
-            out.push_str("\n")
         }
         Message::Answer { parent, ask } => {
-            let (node, number) = (parent.node, parent.number);
             write!(
                 out,
-                "    {at}  answer to n{node}: ask {ask} of n{node}:{number}\n"
+                "answer to n{}: ask {ask} of {}",
+                parent.node,
+                Id(*parent)
             )
         }
         Message::Ban { parent, cancel, to } => {
-            let (node, number) = (parent.node, parent.number);
             write!(
                 out,
-                "    {at}  ban to n{to}: of n{node}:{number}, cancelled by command {cancel}\n"
+                "ban to n{to}: of {}, cancelled by command {cancel}",
+                Id(*parent)
             )
         }
         Message::Ack { parent, from } => {
-            let (node, number) = (parent.node, parent.number);
             write!(
                 out,
-                "    {at}  acknowledgement to n{node}: of the ban of n{node}:{number} on n{from}\n"
+                "acknowledgement to n{}: of the ban of {} on n{from}",
+                parent.node,
+                Id(*parent)
             )
         }
-        Message::Unban { parent, to } => {
-            let (node, number) = (parent.node, parent.number);
-            write!(out, "    {at}  unban to n{to}: of n{node}:{number}\n")
-        }
+        Message::Unban { parent, to } => write!(out, "unban to n{to}: of {}", Id(*parent)),
     }
 }
 
 /// A task with its action and its mark.
 fn push_task(out: &mut String, told: &Told<'_>) -> Result<(), AllocError> {
-    let (node, number) = (told.id.node, told.id.number);
-    write!(out, "    n{node}:{number}  {}", told.task.action.text())?;
+    write!(out, "    {}  {}", Id(told.id), told.task.action.text())?;
     if let Some(cancel) = told.task.mark {
         write!(out, ", marked by command {cancel}")?;
     }
@@ -250,16 +239,18 @@ fn push_error(out: &mut String, ran: &Ran, number: u32) -> Result<(), AllocError
 fn push_scene(alloc: Global, out: &mut String, scene: &Scene) -> Result<(), AllocError> {
     let mut flight = String::new(alloc);
     for (at, message) in scene.flight.iter().enumerate() {
-        push_message(&mut flight, at, message, scene)?;
+        write!(flight, "    {at}  ")?;
+        push_message(&mut flight, message, scene)?;
+        flight.push_str("\n")?;
     }
     push_part(out, "in flight", flight.as_str())?;
     let mut listings = String::new(alloc);
     for listing in scene.listings.iter() {
-        let (at, number) = (listing.parent.node, listing.parent.number);
         write!(
             listings,
-            "    n{} of the children of n{at}:{number}\n",
-            listing.node
+            "    n{} of the children of {}\n",
+            listing.node,
+            Id(listing.parent)
         )?;
     }
     push_part(out, "open listings", listings.as_str())

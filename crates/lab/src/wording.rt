@@ -54,47 +54,72 @@ fn push_value(out: &mut String, name: &str, value: &str, most: u32) -> Result<()
     }
 }
 
+/// What the next word is to be.
+#[derive(Clone, Copy)]
+enum Next<'a> {
+    /// An option.
+    Option,
+    /// The value of this option, which is this number at most.
+    Value(&'a str, u32),
+    /// Maybe the value of an option that there is not.
+    Unknown,
+}
+
+/// Explains an option, which may have its value with it.
+fn push_option<'a>(
+    alloc: Global,
+    out: &mut String,
+    word: &'a str,
+    met: &mut Vec<&'a str>,
+) -> Result<Next<'a>, AllocError> {
+    let (name, value) = match word.split_once('=') {
+        Some((name, value)) => (name, Some(value)),
+        None => (word, None),
+    };
+    let Some(most) = most_of(name) else {
+        write!(out, "word {word}: there is no such option")?;
+        push_nearest(alloc, out, name, &NAMES)?;
+        return Ok(match value {
+            Some(_) => Next::Option,
+            None => Next::Unknown,
+        });
+    };
+    if met.iter().any(|before| *before == name) {
+        write!(out, "word {name}: it stands there twice\n")?;
+    }
+    met.push(name)?;
+    match value {
+        Some(value) => {
+            push_value(out, name, value, most)?;
+            Ok(Next::Option)
+        }
+        None => Ok(Next::Value(name, most)),
+    }
+}
+
 /// Explains the options of `sim`.
 fn push_options(alloc: Global, out: &mut String, words: &[String]) -> Result<(), AllocError> {
-    let mut open = None;
-    let mut is_unknown = false;
     let mut met: Vec<&str> = Vec::new(alloc);
+    let mut next = Next::Option;
     for word in words {
         let word = word.as_str();
-        let is_passed = is_unknown && !word.starts_with("--");
-        is_unknown = false;
-        if is_passed {
-            continue;
-        }
-        if let Some((name, most)) = open.take() {
-            push_value(out, name, word, most)?;
-            continue;
-        }
-        let (name, value) = match word.split_once('=') {
-            Some((name, value)) => (name, Some(value)),
-            None => (word, None),
+        next = match next {
+            Next::Value(name, most) => {
+                push_value(out, name, word, most)?;
+                Next::Option
+            }
+            Next::Unknown if !word.starts_with("--") => Next::Option,
+            Next::Unknown | Next::Option => push_option(alloc, out, word, &mut met)?,
         };
-        let Some(most) = most_of(name) else {
-            is_unknown = value.is_none();
-            write!(out, "word {word}: there is no such option")?;
-            push_nearest(alloc, out, name, &NAMES)?;
-            continue;
-        };
-        if met.iter().any(|before| *before == name) {
-            write!(out, "word {name}: it stands there twice\n")?;
-        }
-        met.push(name)?;
-        match value {
-            Some(value) => push_value(out, name, value, most)?,
-            None => open = Some((name, most)),
-        }
     }
-    match open {
-        Some((name, most)) => write!(
-            out,
-            "word {name}: a whole number from 1 to {most} is to follow it\n"
-        ),
-        None => Ok(()),
+    match next {
+        Next::Value(name, most) => {
+            write!(
+                out,
+                "word {name}: a whole number from 1 to {most} is to follow it\n"
+            )
+        }
+        Next::Option | Next::Unknown => Ok(()),
     }
 }
 
