@@ -9,6 +9,8 @@ use task_top::Status;
 pub enum Fault {
     /// The words are in none of the forms.
     Usage,
+    /// Those that the program is to be given are in none of its forms, which is told at length.
+    Words,
     /// The program itself would end so.
     Ran(Status),
     /// The text that a script is to be shrunk for is not printed at all.
@@ -17,8 +19,6 @@ pub enum Fault {
     TooManyMoves,
     /// The moves that were written out give another history. That is a fault of this program.
     OtherHistory,
-    /// The input has faults, which were told.
-    HasFaults,
     /// Standard input could not be read.
     ReadFault,
     /// Standard output took only a first part.
@@ -31,9 +31,9 @@ impl Fault {
     /// The exit status.
     pub fn exit_code(self) -> u8 {
         match self {
-            Fault::Usage => 1,
+            Fault::Usage | Fault::Words => 1,
             Fault::Ran(status) => status.exit_code(),
-            Fault::HasFaults | Fault::NotPrinted | Fault::TooManyMoves => 2,
+            Fault::NotPrinted | Fault::TooManyMoves => 2,
             Fault::ReadFault => 3,
             Fault::WriteFault => 4,
             Fault::Memory => 5,
@@ -52,7 +52,7 @@ impl fmt::Display for Fault {
             Fault::NotPrinted => f.write_str("lab: the script does not print that text"),
             Fault::TooManyMoves => f.write_str("lab: the schedule has more than 65535 lines"),
             Fault::OtherHistory => f.write_str("lab: the moves give another history"),
-            Fault::HasFaults => Ok(()),
+            Fault::Words => Ok(()),
             Fault::ReadFault => f.write_str("lab: read failed"),
             Fault::WriteFault => f.write_str("lab: write failed"),
             Fault::Memory => f.write_str("lab: out of memory"),

@@ -50,16 +50,21 @@ fn words<R: Env + AllocGlobal>(rt: &R) -> Result<Vec<String>, Fault> {
     Ok(args.collect(rt.alloc())?)
 }
 
+/// What the companion is asked for.
+#[derive(Clone, Copy)]
+enum Asked<'a> {
+    Walk,
+    Lint,
+    Replay,
+    /// With the text that is to be printed still.
+    Shrink(&'a str),
+}
+
 /// What is shown, and the exit status after that.
 #[derive(Drop)]
 struct Output {
     text: Vec<u8>,
     status: u8,
-}
-
-/// What is shown of an input that has no fault.
-fn whole(text: Vec<u8>) -> Output {
-    Output { text, status: 0 }
 }
 
 /// The cluster that the words of `tasktree sim` set.
@@ -81,6 +86,37 @@ fn cluster_of(alloc: Global, options: &[String]) -> Result<Cluster, Fault> {
     planned(alloc, words.as_slice())
 }
 
+/// The cluster of the words that the program is to be given, if there are any.
+fn cluster_for(alloc: Global, words: &[String]) -> Result<Cluster, Fault> {
+    let cluster = match words {
+        [] => cluster_of(alloc, &[]),
+        _ => planned(alloc, words),
+    };
+    match cluster {
+        Err(Fault::Usage) => Err(Fault::Words),
+        other => other,
+    }
+}
+
+/// What words ask for, and on which cluster.
+fn asked_by(alloc: Global, words: &[String]) -> Result<(Asked<'_>, Cluster), Fault> {
+    match words {
+        [word, options @ ..] => match word.as_str() {
+            "walk" => Ok((Asked::Walk, cluster_of(alloc, options)?)),
+            "replay" => Ok((Asked::Replay, cluster_of(alloc, options)?)),
+            "lint" => Ok((Asked::Lint, cluster_for(alloc, options)?)),
+            "shrink" => match options {
+                [text, options @ ..] => {
+                    Ok((Asked::Shrink(text.as_str()), cluster_of(alloc, options)?))
+                }
+                [] => Err(Fault::Usage),
+            },
+            _ => Err(Fault::Usage),
+        },
+        [] => Err(Fault::Usage),
+    }
+}
+
 /// A whole run of an input, which is neither refused nor comes to an early end.
 fn whole_run(alloc: Global, cluster: &Cluster, bytes: &[u8]) -> Result<Ran, Fault> {
     let ran = run(alloc, cluster, bytes)?;
@@ -90,84 +126,82 @@ fn whole_run(alloc: Global, cluster: &Cluster, bytes: &[u8]) -> Result<Ran, Faul
     }
 }
 
-/// Each step of a script.
-fn walked(alloc: Global, options: &[String], bytes: &[u8]) -> Result<Output, Fault> {
-    let cluster = cluster_of(alloc, options)?;
-    let ran = whole_run(alloc, &cluster, bytes)?;
-    let input = Input::of(alloc, bytes)?;
-    let text = walk(alloc, &cluster, &input, &ran)?;
-    Ok(whole(Vec::from_slice(alloc, text.as_bytes())?))
-}
-
-/// The input with its schedule written out.
-fn replayed(alloc: Global, options: &[String], bytes: &[u8]) -> Result<Output, Fault> {
-    let cluster = cluster_of(alloc, options)?;
-    let ran = whole_run(alloc, &cluster, bytes)?;
-    let input = Input::of(alloc, bytes)?;
-    Ok(whole(replay(alloc, &cluster, &input, &ran)?))
-}
-
-/// A small input that prints a text.
-fn shrunk(alloc: Global, words: &[String], bytes: &[u8]) -> Result<Output, Fault> {
-    let Some((text, options)) = words.split_first() else {
-        return Err(Fault::Usage);
-    };
-    let cluster = cluster_of(alloc, options)?;
-    whole_run(alloc, &cluster, bytes)?;
-    let wanted = Wanted {
-        alloc,
-        cluster: &cluster,
-        text: text.as_bytes(),
-    };
-    Ok(whole(shrink(&wanted, bytes)?))
-}
-
-/// What is wrong with the words of a command line of the program, and else with an input.
-fn linted(alloc: Global, words: &[String], bytes: &[u8]) -> Result<Output, Fault> {
-    let mut text = String::new(alloc);
-    if !words.is_empty() && plan(alloc, words).is_err() {
-        push_words(alloc, &mut text, words)?;
-        let text = Vec::from_slice(alloc, text.as_bytes())?;
-        return Ok(Output { text, status: 1 });
-    }
-    let cluster = match words {
-        [] => cluster_of(alloc, &[])?,
-        _ => planned(alloc, words)?,
-    };
-    let report = lint(alloc, &cluster, bytes)?;
+/// All faults of an input.
+fn linted(alloc: Global, cluster: &Cluster, bytes: &[u8]) -> Result<Output, Fault> {
+    let report = lint(alloc, cluster, bytes)?;
     Ok(Output {
         text: Vec::from_slice(alloc, report.text.as_bytes())?,
         status: if report.faults == 0 { 0 } else { 2 },
     })
 }
 
-/// What a word of the companion shows of an input.
-fn shown(alloc: Global, words: &[String], bytes: &[u8]) -> Result<Output, Fault> {
-    let Some((word, others)) = words.split_first() else {
-        return Err(Fault::Usage);
+/// What is shown of an input.
+fn shown(
+    alloc: Global,
+    asked: Asked<'_>,
+    cluster: &Cluster,
+    bytes: &[u8],
+) -> Result<Output, Fault> {
+    if matches!(asked, Asked::Lint) {
+        return linted(alloc, cluster, bytes);
+    }
+    let ran = whole_run(alloc, cluster, bytes)?;
+    let input = Input::of(alloc, bytes)?;
+    let text = match asked {
+        Asked::Replay => replay(alloc, cluster, &input, &ran)?,
+        Asked::Shrink(text) => {
+            let wanted = Wanted {
+                alloc,
+                cluster,
+                text: text.as_bytes(),
+            };
+            shrink(&wanted, bytes)?
+        }
+        Asked::Walk | Asked::Lint => {
+            let text = walk(alloc, cluster, &input, &ran)?;
+            Vec::from_slice(alloc, text.as_bytes())?
+        }
     };
-    match word.as_str() {
-        "walk" => walked(alloc, others, bytes),
-        "replay" => replayed(alloc, others, bytes),
-        "lint" => linted(alloc, others, bytes),
-        "shrink" => shrunk(alloc, others, bytes),
-        _ => Err(Fault::Usage),
+    Ok(Output { text, status: 0 })
+}
+
+/// What is wrong with the words that the program is to be given.
+fn faulty_words(alloc: Global, words: &[String]) -> Result<Output, Fault> {
+    let mut text = String::new(alloc);
+    if let [_, words @ ..] = words {
+        push_words(alloc, &mut text, words)?;
+    }
+    Ok(Output {
+        text: Vec::from_slice(alloc, text.as_bytes())?,
+        status: 1,
+    })
+}
+
+/// The whole input.
+fn read_input(rt: &HostRuntime) -> Result<Vec<u8>, Fault> {
+    let mut source = StdSource::new(rt.stdin());
+    match read_all(rt.alloc(), &mut source, MAX_INPUT) {
+        Ok(bytes) => Ok(bytes),
+        Err(ReadAll::ReadFault) => Err(Fault::ReadFault),
+        Err(ReadAll::TooLong(_)) => Err(Fault::Ran(Status::Refused(0, Cause::TooLong))),
+        Err(ReadAll::Memory) => Err(Fault::Memory),
     }
 }
 
+/// Does what the words ask for, and gives the exit status.
 fn work(rt: &HostRuntime) -> Result<u8, Fault> {
     let words = words(rt)?;
-    let mut source = StdSource::new(rt.stdin());
-    let bytes = match read_all(rt.alloc(), &mut source, MAX_INPUT) {
-        Ok(bytes) => bytes,
-        Err(ReadAll::ReadFault) => return Err(Fault::ReadFault),
-        Err(ReadAll::TooLong(_)) => return Err(Fault::Ran(Status::Refused(0, Cause::TooLong))),
-        Err(ReadAll::Memory) => return Err(Fault::Memory),
+    let output = match asked_by(rt.alloc(), words.as_slice()) {
+        Ok((asked, cluster)) => {
+            let bytes = read_input(rt)?;
+            shown(rt.alloc(), asked, &cluster, bytes.as_slice())?
+        }
+        Err(Fault::Words) => faulty_words(rt.alloc(), words.as_slice())?,
+        Err(fault) => return Err(fault),
     };
-    let shown = shown(rt.alloc(), words.as_slice(), bytes.as_slice())?;
     let mut sink = StdSink::new(rt.stdout());
-    match write_all_of(&mut sink, shown.text.as_slice()) {
-        Ok(()) => Ok(shown.status),
+    match write_all_of(&mut sink, output.text.as_slice()) {
+        Ok(()) => Ok(output.status),
         Err(_) => Err(Fault::WriteFault),
     }
 }
