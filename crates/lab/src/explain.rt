@@ -178,19 +178,27 @@ fn push_fields(
     push_pairs(out, command, value)
 }
 
+/// Whether a field is there.
+fn has(value: &Value, name: &str) -> bool {
+    value.get(name).is_some()
+}
+
+/// Whether a cancel has a field of a filter.
+fn has_filter(value: &Value) -> bool {
+    has(value, "actions") || has(value, "nodes") || has(value, "parent_task_id")
+}
+
 /// Tells fields of which one excludes the other, and those of which one must be there.
 fn push_pairs(out: &mut String, command: &str, value: &Value) -> Result<(), AllocError> {
-    let has = |name: &str| value.get(name).is_some();
+    let named = has(value, "command");
     match command {
-        "scroll" | "clear_scroll" if has("scroll_id") == has("command") => {
+        "scroll" | "clear_scroll" if has(value, "scroll_id") == named => {
             out.push_str("; one of scroll_id and command is to be there, and not both")
         }
-        "cancel" if has("task_id") && has("command") => {
+        "cancel" if has(value, "task_id") && named => {
             out.push_str("; task_id and command exclude each other")
         }
-        "cancel"
-            if (has("task_id") || has("command"))
-                && (has("actions") || has("nodes") || has("parent_task_id")) => {
+        "cancel" if (has(value, "task_id") || named) && has_filter(value) => {
             out.push_str("; the fields of a filter do not stand beside task_id or command")
         }
         _ => Ok(()),
