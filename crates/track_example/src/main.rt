@@ -5,7 +5,7 @@
 //! gives the receipt that answers the ask.
 #![tactic(auto)]
 
-ghost use Rattle.std.specs.Prelude.{◌+◌, ◌<◌, ◌^◌, length};
+ghost use Rattle.std.specs.Prelude.{◌≡◌, ◌+◌, ◌<◌, ◌≤◌, ◌^◌, length};
 
 use child_track::{AskError, AskToken, ChildTrack, Receipt};
 use std::alloc::{AllocError, Global};
@@ -24,6 +24,7 @@ fn run_child(alloc: Global, token: AskToken) -> Receipt {
 /// Asks node 2, where the child runs, and node 3, which rejects the request. Gives the two receipts.
 fn ask_both(alloc: Global, asks: &mut ChildTrack) -> Result<(Receipt, Receipt), AskError>
     requires room { length asks.old.asks + 2 < 2 ^ 32 }
+    ensures asked { length asks.new.asks ≤ length asks.old.asks + 2 }
 {
     let first = asks.ask(2)?;
     let second = match asks.ask(3) {
@@ -38,7 +39,9 @@ fn ask_both(alloc: Global, asks: &mut ChildTrack) -> Result<(Receipt, Receipt), 
 }
 
 /// What came of a receipt that the parent was given.
-fn told(asks: &mut ChildTrack, receipt: Receipt) -> &'static str {
+fn told(asks: &mut ChildTrack, receipt: Receipt) -> &'static str
+    ensures no_ask_more { length asks.new.asks ≡ length asks.old.asks }
+{
     match asks.answer(receipt) {
         Ok(()) => "taken",
         Err(_) => "handed back",
