@@ -27,7 +27,10 @@ const ROUNDS: u32 = 100;
 
 const CANCEL: u32 = 5;
 
-const PARENT: TaskId = TaskId { node: 2, number: 1 };
+/// The task that is banned.
+fn parent_task() -> TaskId {
+    TaskId { node: 2, number: 1 }
+}
 
 /// A token on its way to a thread. Where it is let go, the token is spent.
 struct Carried {
@@ -82,13 +85,13 @@ fn enter(board: &Board, mut seat: Seat, carried: Carried) -> (Seat, Option<(Tick
 }
 
 /// Puts the ban of the parent, and then marks the children that are there. Gives how many these are.
-fn ban(board: &Board, mut control: Control) -> (Control, u32)
+fn ban(board: &Board, mut control: Control, parent: TaskId) -> (Control, u32)
     requires fits { IsControlOf board.now control }
     requires slots { (board_size board.now).slots ≡ 4 }
-    requires new { NoneOf (control_view control) (board_size board.now) (task_key PARENT) }
+    requires new { NoneOf (control_view control) (board_size board.now) (task_key parent) }
     ensures fits { IsControlOf board.now result.0 }
 {
-    let Ok(place) = board.ban(&mut control, PARENT, CANCEL) else {
+    let Ok(place) = board.ban(&mut control, parent, CANCEL) else {
         return (control, 0);
     };
     let mut found = [0u32; 4];
@@ -102,17 +105,18 @@ fn race<R: Threads + Sync>(
     board: &Board,
     seat: Seat,
     control: Control,
+    parent: TaskId,
     carried: Carried,
 ) -> (Seat, Option<(Ticket, Check)>, u32)
     requires seat { IsSeatOf board.now seat × ((seat_view seat).drawn ≡ 0) }
-    requires control { IsControlOf board.now control × ((board_size board.now).slots ≡ 4) × NoneOf (control_view control) (board_size board.now) (task_key PARENT) }
+    requires control { IsControlOf board.now control × ((board_size board.now).slots ≡ 4) × NoneOf (control_view control) (board_size board.now) (task_key parent) }
     ensures fits { IsSeatOf board.now result.0 }
     ensures held { IfSome result.1 (λ child. HasTicket (seat_view result.0) child.0) }
 {
     let ((seat, child), (_control, marked)) = thread::join(
         rt,
         move || enter(board, seat, carried),
-        move || ban(board, control),
+        move || ban(board, control, parent),
     );
     (seat, child, marked)
 }
@@ -127,11 +131,12 @@ fn is_stopped<R: Threads + Sync>(rt: &R, alloc: Global) -> Result<bool, AllocErr
     let Some(seat) = seats.pop() else {
         return Ok(false);
     };
-    let mut asks = ChildTrack::new(alloc, PARENT);
+    let parent = parent_task();
+    let mut asks = ChildTrack::new(alloc, parent);
     let Ok(token) = asks.ask(1) else {
         return Err(AllocError);
     };
-    let (mut seat, child, marked) = race(rt, &board, seat, control, Carried { token });
+    let (mut seat, child, marked) = race(rt, &board, seat, control, parent, Carried { token });
     let Some((ticket, check)) = child else {
         return Ok(false);
     };

@@ -12,7 +12,10 @@ use std::alloc::{AllocError, Global};
 use std::io;
 use task_ids::TaskId;
 
-const ROOT: TaskId = TaskId { node: 1, number: 1 };
+/// The task that is cancelled.
+fn root_task() -> TaskId {
+    TaskId { node: 1, number: 1 }
+}
 
 /// The nodes 1, 2 and 3.
 const ASKED: NodeSet = NodeSet(0b1110);
@@ -43,38 +46,39 @@ fn show(rt: &HostRuntime, step: &str, acts: &[Act]) -> io::Result<()> {
     Ok(())
 }
 
-/// The receipt of the root, all of whose asks are answered.
-fn receipt_of_root(alloc: Global) -> Receipt
-    ensures { result.task ≡ Some ROOT }
+/// The receipt of a root, all of whose asks are answered.
+fn receipt_of(alloc: Global, task: TaskId) -> Receipt
+    ensures own { result.task ≡ Some task }
 {
-    ChildTrack::new(alloc, ROOT).seal(None)
+    ChildTrack::new(alloc, task).seal(None)
 }
 
 /// A node that the ban has reached marks the children that it has, and acknowledges; the root's core is told so.
-fn list_at(rt: &HostRuntime, root: &mut CancelCore, from: u32) -> io::Result<()>
-    requires { IsNode from }
+fn list_at(rt: &HostRuntime, core: &mut CancelCore, task: TaskId, from: u32) -> io::Result<()>
+    requires node { IsNode from }
 {
-    let mut node = CancelCore::new(rt.alloc(), from);
-    let ack = node.ban_listed(ROOT);
+    let mut other = CancelCore::new(rt.alloc(), from);
+    let ack = other.ban_listed(task);
     println!(rt; "n{from} has marked its children")?;
     println!(rt; "  {}", told(rt.alloc(), &ack)?.as_str())?;
-    if !root.awaits(ROOT, from) {
+    if !core.awaits(task, from) {
         return Ok(());
     }
-    let acts = root.acked(ROOT, from)?;
+    let acts = core.acked(task, from)?;
     show(rt, "n1 is acknowledged", acts.as_slice())
 }
 
 fn main(rt: HostRuntime) -> io::Result<()> {
-    let mut root = CancelCore::new(rt.alloc(), 1);
-    let acts = root.begin(ROOT, CANCEL.cancel, ASKED, Some(CANCEL))?;
+    let task = root_task();
+    let mut core = CancelCore::new(rt.alloc(), 1);
+    let acts = core.begin(task, CANCEL.cancel, ASKED, Some(CANCEL))?;
     show(&rt, "n1:1 is cancelled by command 9", acts.as_slice())?;
     for node in 1..4 {
-        list_at(&rt, &mut root, node)?;
+        list_at(&rt, &mut core, task, node)?;
     }
-    if root.has(ROOT) && !root.has_ended(ROOT) {
-        let acts = root.ended(ROOT, receipt_of_root(rt.alloc()))?;
+    if core.has(task) && !core.has_ended(task) {
+        let acts = core.ended(task, receipt_of(rt.alloc(), task))?;
         show(&rt, "n1:1 has ended", acts.as_slice())?;
     }
-    println!(rt; "a cancellation is under way: {}", root.has(ROOT))
+    println!(rt; "a cancellation is under way: {}", core.has(task))
 }
