@@ -38,13 +38,13 @@ impl Wanted<'_> {
 
 /// An input of which parts are taken away: its documents first, and then its commands.
 #[derive(Drop)]
-struct Draft<'a> {
-    input: &'a Input<'a>,
+struct Draft<'d, 'a> {
+    input: &'d Input<'a>,
     /// For each part whether it is still there.
     is_there: Vec<bool>,
 }
 
-impl Draft<'_> {
+impl Draft<'_, '_> {
     /// The input that is left, without the parts at `gone`.
     fn text(&self, alloc: Global, gone: &[usize]) -> Result<Vec<u8>, AllocError> {
         let mut text = Vec::new(alloc);
