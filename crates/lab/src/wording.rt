@@ -65,6 +65,11 @@ enum Next<'a> {
     Unknown,
 }
 
+/// Whether a name is among others.
+fn is_among(names: &[&str], name: &str) -> bool {
+    names.iter().any(|other| *other == name)
+}
+
 /// Explains an option, which may have its value with it.
 fn push_option<'a>(
     alloc: Global,
@@ -84,7 +89,7 @@ fn push_option<'a>(
             None => Next::Unknown,
         });
     };
-    if met.iter().any(|before| *before == name) {
+    if is_among(met.as_slice(), name) {
         write!(out, "word {name}: it stands there twice\n")?;
     }
     met.push(name)?;
