@@ -1,10 +1,10 @@
 -- What a seat has of an entry.
-use Rattle.race_board.specs.Calls.{HasTicket}
-use Rattle.race_board.specs.declared.views.View.{View}
+use Rattle.std.specs.Prelude.{ℕ}
+use Rattle.node_boards.specs.Seats.{HasTicket}
 use Rattle.board_races.specs.declared.data.Entry.{Entry}
 use Rattle.board_races.specs.declared.data.Entry.TheVariants.{Live, Rejected}
 
 -- a live child's ticket is the seat's
-abbrev pub IsHeld : View → Entry → Type 0
-IsHeld v (Live child) = HasTicket v child.ticket
-IsHeld v (Rejected receipt) = Unit {0}
+abbrev pub IsHeld : (ℕ → ℕ → Type 0) → Entry → Type 0
+IsHeld has (Live child) = HasTicket has child.ticket
+IsHeld has (Rejected receipt) = Unit {0}

@@ -1,4 +1,4 @@
-//! Single calls on a board of one slot, one place for a ban and one data seat.
+//! Single calls on a board of few slots, with one place for a ban and one data seat.
 ghost use Rattle.std.specs.Prelude.{◌≡◌, ◌≢◌, ℕ, true, IfOk, IfSome, OnOk};
 ghost use Rattle.child_track.specs.Token.{token_parent};
 ghost use Rattle.task_ids.specs.declared.task_id.TaskId.{TaskId};
@@ -9,15 +9,20 @@ ghost use Rattle.race_board.specs.Checks.{IsClear, MayAsk};
 ghost use Rattle.race_board.specs.Keys.{task_key};
 ghost use Rattle.race_board.specs.Lists.{NoneOf};
 ghost use Rattle.race_board.specs.Seats.{seat_view, control_view, board_size, IsSeatOf, IsControlOf};
+ghost use Rattle.task_ids.specs.Limits.{IsCancel, IsSlotCount};
 
-use crate::control::Control;
-use crate::data::{Board, Seat};
 use child_track::{AskToken, ChildTrack};
-use race_board::{BoardParts, Check, Full, Track};
+use race_board::{AnyCancel, BoardParts, Check, ControlSeat, DataSeat, Full, RaceBoard, Track};
 use std::alloc::{AllocError, Global};
 use std::test::Fail;
 use task_ids::TaskId;
 use task_table::{MarkAnswer, Ticket};
+
+type Board = RaceBoard<AnyCancel>;
+
+type Control = ControlSeat<AnyCancel>;
+
+type Seat = DataSeat<AnyCancel>;
 
 /// The task whose children are banned.
 const PARENT: TaskId = TaskId { node: 2, number: 1 };
@@ -26,8 +31,9 @@ const PARENT: TaskId = TaskId { node: 2, number: 1 };
 const OTHER: TaskId = TaskId { node: 2, number: 2 };
 
 /// A board of node 1 with its two seats.
-fn small(alloc: Global) -> Result<(Board, Control, Seat), AllocError>
-    ensures control { IfOk result (λ p. IsControlOf p.0 p.1 × ((board_size p.0).slots ≡ 1) × ((board_size p.0).bans ≡ 1) × ((board_size p.0).seats ≡ 1)) }
+fn small(alloc: Global, slots: u32) -> Result<(Board, Control, Seat), AllocError>
+    requires slots { IsSlotCount slots }
+    ensures control { IfOk result (λ p. IsControlOf p.0 p.1 × ((board_size p.0).slots ≡ slots) × ((board_size p.0).bans ≡ 1) × ((board_size p.0).seats ≡ 1)) }
     ensures unbanned { IfOk result (λ p. (t : TaskId) → NoneOf (control_view p.1) (board_size p.0) (task_key t)) }
     ensures seat { IfOk result (λ p. IsSeatOf p.0 p.2 × ((seat_view p.2).drawn ≡ 0)) }
 {
@@ -35,7 +41,7 @@ fn small(alloc: Global) -> Result<(Board, Control, Seat), AllocError>
         board,
         control,
         mut seats,
-    } = Board::new(alloc, 1, 1, 1, 1)?;
+    } = Board::new(alloc, 1, slots, 1, 1)?;
     match seats.pop() {
         Some(seat) => Ok((board, control, seat)),
         None => Err(AllocError),
@@ -189,7 +195,7 @@ fn is_stopped(
 #[test]
 fn a_child_that_passed_its_check_is_listed(rt: HostRuntime) -> Result<(), Fail> {
     let alloc = rt.alloc();
-    let (board, mut control, mut seat) = small(alloc)?;
+    let (board, mut control, mut seat) = small(alloc, 1)?;
     let mut asks = ChildTrack::new(alloc, PARENT);
     let token = asks.ask(1)?;
     let ticket = enter(&board, &mut seat, Some(token))?;
@@ -228,7 +234,7 @@ fn is_refused(
 #[test]
 fn a_child_that_comes_after_the_ban_is_told_so(rt: HostRuntime) -> Result<(), Fail> {
     let alloc = rt.alloc();
-    let (board, mut control, mut seat) = small(alloc)?;
+    let (board, mut control, mut seat) = small(alloc, 1)?;
     assert!(rt; bans_one(&board, &mut control));
     let mut asks = ChildTrack::new(alloc, PARENT);
     let token = asks.ask(1)?;
@@ -269,8 +275,78 @@ fn is_marked_once(
 #[test]
 fn a_root_is_marked_with_the_first_number(rt: HostRuntime) -> Result<(), Fail> {
     let alloc = rt.alloc();
-    let (board, mut control, mut seat) = small(alloc)?;
+    let (board, mut control, mut seat) = small(alloc, 1)?;
     let root = enter(&board, &mut seat, None)?;
     assert!(rt; is_marked_once(alloc, &board, &mut control, &mut seat, root));
+    Ok(())
+}
+
+/// Whether the task is marked with the cancellation now.
+fn marks(board: &Board, control: &mut Control, number: u32, cancel: u32) -> bool
+    requires fits { IsControlOf board.now control.old }
+    requires cancel { IsCancel cancel }
+    requires new { (t : TaskId) → NoneOf (control_view control.old) (board_size board.now) (task_key t) }
+    ensures fits { IsControlOf board.now control.new }
+    ensures new { (t : TaskId) → NoneOf (control_view control.new) (board_size board.now) (task_key t) }
+{
+    board.mark(control, number, cancel) == MarkAnswer::Marked
+}
+
+/// Whether a list of the ban hands over the tasks 1 and 2 alone.
+fn lists_two(board: &Board, control: &mut Control) -> bool
+    requires fits { IsControlOf board.now control.old }
+    requires size { ((board_size board.now).slots ≡ 4) × ((board_size board.now).bans ≡ 1) }
+    requires stands { ((ban (control_view control.old) 0).parent ≢ 0) × ((ban (control_view control.old) 0).next ≡ 0) }
+    ensures fits { IsControlOf board.now control.new }
+{
+    let mut found = [0u32; 4];
+    board.list(control, 0, &mut found) == 2 && found[0] == 1 && found[1] == 2
+}
+
+/// Whether of the children 1, 2 and 4 and the root 3 a list hands over 1, which it marks, and 2, which was marked before:
+/// 3 and 4 were marked too, but 3 is no child, and 4 has ended.
+fn hands_over_marked(
+    alloc: Global,
+    board: &Board,
+    control: &mut Control,
+    seat: &mut Seat,
+    fourth: Ticket,
+) -> bool
+    requires control { IsControlOf board.now control.old }
+    requires seat { IsSeatOf board.now seat.old }
+    requires held { HasTicket (seat_view seat.old) fourth }
+    requires size { ((board_size board.now).slots ≡ 4) × ((board_size board.now).bans ≡ 1) }
+    requires new { (t : TaskId) → NoneOf (control_view control.old) (board_size board.now) (task_key t) }
+    ensures control { IsControlOf board.now control.new }
+    ensures seat { IsSeatOf board.now seat.new }
+{
+    let second_is_marked = marks(board, control, 2, 7);
+    let third_is_marked = marks(board, control, 3, 7);
+    let fourth_is_marked = marks(board, control, 4, 7);
+    let id = fourth.id();
+    let ended = board.end(seat, fourth, ChildTrack::new(alloc, id));
+    if !bans_one(board, control) {
+        return false;
+    }
+    let is_listed = lists_two(board, control);
+    let is_new = board.mark(control, 1, 5) == MarkAnswer::Already(4);
+    let is_kept = board.mark(control, 2, 5) == MarkAnswer::Already(7);
+    let was_marked = second_is_marked && third_is_marked && fourth_is_marked;
+    was_marked && ended.mark == Some(7) && is_listed && is_new && is_kept
+}
+
+#[test]
+fn a_child_that_was_marked_before_is_listed(rt: HostRuntime) -> Result<(), Fail> {
+    let alloc = rt.alloc();
+    let (board, mut control, mut seat) = small(alloc, 4)?;
+    let mut asks = ChildTrack::new(alloc, PARENT);
+    let first = asks.ask(1)?;
+    enter(&board, &mut seat, Some(first))?.give_up();
+    let second = asks.ask(1)?;
+    enter(&board, &mut seat, Some(second))?.give_up();
+    enter(&board, &mut seat, None)?.give_up();
+    let fourth = asks.ask(1)?;
+    let fourth = enter(&board, &mut seat, Some(fourth))?;
+    assert!(rt; hands_over_marked(alloc, &board, &mut control, &mut seat, fourth));
     Ok(())
 }

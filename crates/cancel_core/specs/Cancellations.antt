@@ -1,4 +1,4 @@
--- What contracts see of a table: the cancellation of each task that has one, and how the logic stores it.
+-- What contracts see of a core: the cancellation of each task that has one, the listings that wait, and how the logic stores it.
 use Rattle.std.specs.Prelude.{ℕ, Bool, List, [], Option, None, Some, is_some, unwrap_or, refl}
 use Rattle.std.specs.FinMap.{FinMap, empty, get, insert, remove, code}
 use Rattle.std.specs.Coded.{Coded, code_by, coded×, coded_ℕ, coded_bool, coded_list, coded_option}
@@ -8,13 +8,15 @@ use Rattle.child_track.specs.Token.{ReceiptParts}
 use Rattle.cancel_core.specs.declared.act.Waiter.{Waiter}
 use Rattle.cancel_core.specs.Cancellation.{Cancellation, opened}
 
--- a node, and the cancellations of its tasks
+-- a node, and the cancellations of its tasks; the tasks for which a listing waits, each with the parent whose children were listed; and for how many of them the listing of a parent waits
 pub record Cancellations : Type 0 where
   pub node : ℕ
   pub entries : FinMap task_id_cmp Cancellation
+  pub waits : FinMap task_id_cmp TaskId
+  pub listings : FinMap task_id_cmp ℕ
 
 abbrev pub no_cancellations : ℕ → Cancellations
-no_cancellations node = record { node = node; entries = empty }
+no_cancellations node = record { node = node; entries = empty; waits = empty; listings = empty }
 
 abbrev pub has_entry : Cancellations → TaskId → Bool
 has_entry table task = is_some (get table.entries task)
@@ -49,5 +51,6 @@ coded_cancellation =
 
 abbrev pub coded_cancellations : Coded Cancellations
 coded_cancellations =
-    code_by (ℕ × FinMap task_id_cmp Cancellation) (coded× coded_ℕ (code coded_task_id coded_cancellation))
-    (λ k. (k.node, k.entries)) (λ p. record { node = p.0; entries = p.1 }) (λ _. refl)
+    code_by (ℕ × (FinMap task_id_cmp Cancellation × (FinMap task_id_cmp TaskId × FinMap task_id_cmp ℕ)))
+    (coded× coded_ℕ (coded× (code coded_task_id coded_cancellation) (coded× (code coded_task_id coded_task_id) (code coded_task_id coded_ℕ))))
+    (λ k. (k.node, (k.entries, (k.waits, k.listings)))) (λ p. record { node = p.0; entries = p.1.0; waits = p.1.1.0; listings = p.1.1.1 }) (λ _. refl)

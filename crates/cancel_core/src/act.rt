@@ -19,7 +19,8 @@ pub enum Act {
         parent: TaskId,
         cancel: u32,
     },
-    /// The parent's node is told that the ban is placed: put, and the children that were there are marked.
+    /// The parent's node is told that the ban is placed: put, the children that were there are marked, and each of
+    /// them has ended or has its own bans placed.
     SendAck {
         to: u32,
         parent: TaskId,

@@ -1,4 +1,4 @@
-ghost use Rattle.std.specs.Prelude.{◌≡◌, ◌++◌, ◌↔◌, true, false, None, Some, IsSome, Contains, IsTrue, is_some, IfOk, OnOk, OnErr, if◌then◌else◌};
+ghost use Rattle.std.specs.Prelude.{◌≡◌, ◌++◌, ◌↔◌, true, false, Some, IsSome, Contains, IsTrue, is_some, IfOk, OnOk, OnErr, if◌then◌else◌};
 ghost use Rattle.std.specs.Option.{ForSome, option_copied};
 ghost use Rattle.std.specs.BTreeMap as tree;
 ghost use Rattle.std.specs.BTreeMap.{is_at};
@@ -10,12 +10,14 @@ ghost use Rattle.task_ids.specs.declared.task_id.TaskId.{TaskId};
 ghost use Rattle.child_track.specs.NodeSet.{nodes_of};
 ghost use Rattle.cancel_core.specs.Cancellation.{Cancellation, with_ack, with_receipt, still_waiting, rest_of, WaitsWherePlaced};
 ghost use Rattle.cancel_core.specs.Cancellations.{no_cancellations, has_entry, entry_of, with_entry};
+ghost use Rattle.cancel_core.specs.Listings.{is_stopped, has_listing, with_listing, listing_act, left_by, leaving_acts};
 ghost use Rattle.cancel_core.specs.Acts.{ban_acts, first_acts, begun, join_acts, joined_by, due_acts};
 ghost use Rattle.cancel_core.specs.Stage.{seen};
 
 use crate::act::{Act, Waiter};
 use crate::due::{bans, due};
 use crate::entry::Entry;
+use crate::listings::Listings;
 use crate::stage::Stage;
 use child_track::{NodeSet, Receipt};
 use std::alloc::{AllocError, Global};
@@ -29,22 +31,27 @@ use task_ids::TaskId;
 /// `AnswerPlaced`. Once, besides, the task has ended, `SendUnban` goes to each banned node, each waiter with
 /// `wait` gets `AnswerDone`, and the task's entry goes. At one step the unbans come first. Several answers come
 /// by ascending number. A step finds its entry without a scan of the others.
+///
+/// A ban that this node was sent is acknowledged by `SendAck` once the children that it listed have stopped: each
+/// has ended or has its own bans placed. It comes at once, or as the last act of the step at which the last of
+/// them stops.
 #[derive(Drop)]
 pub struct CancelCore {
     alloc: Global,
     node: u32,
     entries: BTreeMap<TaskId, Entry>,
+    listings: Listings,
 }
 
 impl Model for CancelCore {
-    ghost use Rattle.std.specs.FinMap.{from_entries};
     ghost use Rattle.cancel_core.specs.Cancellations.{Cancellations, coded_cancellations};
+    ghost use Rattle.cancel_core.specs.Fields.{map_of, core_with};
 
     ghost Value = { Cancellations };
 
     ghost coded = { coded_cancellations };
 
-    ghost view = { λ a. record { node = a.node; entries = from_entries a.entries.entries } };
+    ghost view = { λ a. core_with a.node (map_of a.entries) a.listings };
 }
 
 impl CancelCore {
@@ -57,6 +64,7 @@ impl CancelCore {
             alloc,
             node,
             entries: BTreeMap::new(alloc),
+            listings: Listings::new(alloc),
         }
     }
 
@@ -65,6 +73,13 @@ impl CancelCore {
         ensures { result ≡ self.now.node }
     {
         self.node
+    }
+
+    /// Whether no cancellation is under way.
+    pub fn is_idle(&self) -> bool
+        ensures { IsTrue result ↔ ((task : TaskId) → has_entry self.now task ≡ false) }
+    {
+        self.entries.is_empty()
     }
 
     fn find(&self, task: &TaskId) -> Option<&Entry>
@@ -98,6 +113,13 @@ impl CancelCore {
             Some(entry) => entry.has_ended(),
             None => false,
         }
+    }
+
+    /// Whether a listing of the parent's children waits for one of them.
+    pub fn has_listing(&self, parent: TaskId) -> bool
+        ensures { result ≡ has_listing self.now parent }
+    {
+        self.listings.has(&parent)
     }
 
     /// Begins the cancellation of a task: a ban goes to each of the nodes, ascending. With no node the bans are
@@ -143,24 +165,41 @@ impl CancelCore {
         Ok(acts)
     }
 
-    /// A node that listed the children of a banned parent acknowledges the ban to the parent's node.
-    pub fn ban_listed(&mut self, parent: TaskId) -> Act
-        ensures act { result ≡ Act.SendAck parent.node parent }
-        ensures same { self.new ≡ self.old }
+    /// This node has listed the children of a banned parent. The ban is acknowledged once each of them has its own bans
+    /// placed or has ended. Where all have, the acknowledgement is the answer; else it is the last act of the call of
+    /// `acked` or `ended` at which the last of them does. A child whose cancellation is not under way is not waited for,
+    /// nor is one for which a listing waits already. Where memory runs out nothing has changed.
+    pub fn ban_listed(
+        &mut self,
+        parent: TaskId,
+        children: &[TaskId],
+    ) -> Result<Option<Act>, AllocError>
+        requires once { has_listing self.old parent ≡ false }
+        ensures act { IfOk result (λ act. act ≡ listing_act self.old parent children.now) }
+        ensures listed { OnOk result (self.new ≡ with_listing self.old parent children.now) }
+        ensures err { OnErr result (self.new ≡ self.old) }
     {
-        Act::SendAck {
+        let number = self.listings.note(&self.entries, parent, children)?;
+        if number > 0 {
+            return Ok(None);
+        }
+        Ok(Some(Act::SendAck {
             to: parent.node,
             parent,
-        }
+        }))
     }
 
-    /// An awaited node acknowledges the task's ban. Where memory runs out nothing has changed.
+    /// An awaited node acknowledges the task's ban. If the task's bans are placed with it, a listing that waited for
+    /// the task does so no longer, and if it waits for no other child, the acknowledgement to the parent's node is the
+    /// last act. Where memory runs out nothing has changed.
     pub fn acked(&mut self, task: TaskId, from: u32) -> Result<Vec<Act>, AllocError>
         requires { Contains (entry_of self.old task).awaited from }
         ensures acts { IfOk result (λ acts. acts.items
-            ≡ due_acts task (with_ack (entry_of self.old task) from)) }
+            ≡ due_acts task (with_ack (entry_of self.old task) from)
+            ++ leaving_acts self.old task (is_stopped (with_ack (entry_of self.old task) from))) }
         ensures acked { OnOk result (self.new
-            ≡ with_entry self.old task (rest_of (with_ack (entry_of self.old task) from))) }
+            ≡ left_by (with_entry self.old task (rest_of (with_ack (entry_of self.old task) from))) task
+            (is_stopped (with_ack (entry_of self.old task) from))) }
         ensures err { OnErr result (self.new ≡ self.old) }
         ensures ascending { IsNonDecreasingBy (λ w. w.cancel) (entry_of self.old task).waiters }
     {
@@ -171,15 +210,18 @@ impl CancelCore {
         self.settle(task, &stage)
     }
 
-    /// The task has ended, with this receipt. Where memory runs out nothing has changed.
+    /// The task has ended, with this receipt. A listing that waited for the task does so no longer, and if it waits for
+    /// no other child, the acknowledgement to the parent's node is the last act. Where memory runs out nothing has
+    /// changed.
     pub fn ended(&mut self, task: TaskId, receipt: Receipt) -> Result<Vec<Act>, AllocError>
         requires has { has_entry self.old task ≡ true }
         requires open_task { is_some (entry_of self.old task).receipt ≡ false }
         requires own { receipt.task ≡ Some task }
         ensures acts { IfOk result (λ acts. acts.items
-            ≡ due_acts task (with_receipt (entry_of self.old task) receipt)) }
+            ≡ due_acts task (with_receipt (entry_of self.old task) receipt)
+            ++ leaving_acts self.old task true) }
         ensures ended { OnOk result (self.new
-            ≡ with_entry self.old task (rest_of (with_receipt (entry_of self.old task) receipt))) }
+            ≡ left_by (with_entry self.old task (rest_of (with_receipt (entry_of self.old task) receipt))) task true) }
         ensures err { OnErr result (self.new ≡ self.old) }
         ensures ascending { IsNonDecreasingBy (λ w. w.cancel) (entry_of self.old task).waiters }
     {
@@ -201,18 +243,24 @@ impl CancelCore {
         }
     }
 
-    /// Gives the acts that are due at a stage of the task's cancellation, and moves it on.
+    /// Gives the acts that are due at a stage of the task's cancellation, and moves it on. All memory is taken before
+    /// anything changes.
     fn settle(&mut self, task: TaskId, stage: &Stage) -> Result<Vec<Act>, AllocError>
         requires { has_entry self.old task ≡ true }
         ensures acts { IfOk result (λ acts. acts.items
-            ≡ due_acts task (seen stage.now (entry_of self.old task).waiters)) }
+            ≡ due_acts task (seen stage.now (entry_of self.old task).waiters)
+            ++ leaving_acts self.old task (is_stopped (seen stage.now (entry_of self.old task).waiters))) }
         ensures settled { OnOk result (self.new
-            ≡ with_entry self.old task (rest_of (seen stage.now (entry_of self.old task).waiters))) }
+            ≡ left_by (with_entry self.old task (rest_of (seen stage.now (entry_of self.old task).waiters))) task
+            (is_stopped (seen stage.now (entry_of self.old task).waiters))) }
         ensures err { OnErr result (self.new ≡ self.old) }
         ensures ascending { IsNonDecreasingBy (λ w. w.cancel) (entry_of self.old task).waiters }
     {
-        let acts = due(self.alloc, task, stage, self.waiters(&task))?;
+        let mut acts = due(self.alloc, task, stage, self.waiters(&task))?;
+        let stopped = stage.has_stopped();
+        self.listings.add_ack(&task, stopped, &mut acts)?;
         settle_in(&mut self.entries, &task, stage);
+        self.listings.leave(&task, stopped);
         Ok(acts)
     }
 }

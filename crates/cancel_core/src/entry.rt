@@ -3,6 +3,7 @@ ghost use Rattle.std.specs.List.Sorted.{IsNonDecreasingBy};
 ghost use Rattle.child_track.specs.NodeSet.{nodes_of};
 ghost use Rattle.cancel_core.specs.Cancellation.{opened, is_placed, with_waiter, with_ack, with_receipt, still_waiting, WaitsWherePlaced};
 ghost use Rattle.cancel_core.specs.Acts.{join_acts, joined_by, first_acts, begun};
+ghost use Rattle.cancel_core.specs.Listings.{is_stopped};
 
 use crate::act::{Act, Waiter};
 use crate::stage::Stage;
@@ -85,6 +86,13 @@ impl Entry {
         ensures { result ≡ is_some self.now.receipt }
     {
         self.stage.receipt.is_some()
+    }
+
+    /// Whether the bans are placed or the task has ended.
+    pub(crate) fn has_stopped(&self) -> bool
+        ensures { result ≡ is_stopped self.now }
+    {
+        self.stage.has_stopped()
     }
 
     pub(crate) fn waiters(&self) -> &[Waiter]

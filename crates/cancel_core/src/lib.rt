@@ -7,6 +7,7 @@ mod act;
 mod cancels;
 mod due;
 mod entry;
+mod listings;
 mod stage;
 
 pub use act::{Act, Waiter};

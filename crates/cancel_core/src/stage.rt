@@ -1,4 +1,4 @@
-ghost use Rattle.std.specs.Prelude.{◌≡◌, ◌&&◌, not, filter, List, is_some};
+ghost use Rattle.std.specs.Prelude.{◌≡◌, ◌&&◌, ◌||◌, not, filter, List, is_some};
 ghost use Rattle.std.specs.List.{list_all};
 ghost use Rattle.task_ids.specs.Limits.{IsNode};
 ghost use Rattle.child_track.specs.NodeSet.{all_nodes};
@@ -46,6 +46,14 @@ impl Stage {
             ≡ (is_nil (filter (is_open_at self.now) all_nodes) && is_some self.now.receipt) }
     {
         self.is_placed() && self.receipt.is_some()
+    }
+
+    /// Whether the bans are placed or the task has ended: it starts nothing any more.
+    pub(crate) fn has_stopped(&self) -> bool
+        ensures { result
+            ≡ (is_nil (filter (is_open_at self.now) all_nodes) || is_some self.now.receipt) }
+    {
+        self.is_placed() || self.receipt.is_some()
     }
 
     pub(crate) fn after_ack(&self, from: u32) -> Stage

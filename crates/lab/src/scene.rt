@@ -41,6 +41,13 @@ pub struct Listing {
     pub parent: TaskId,
 }
 
+/// A child for which the acknowledgement of a ban waits.
+#[derive(Clone, Copy, PartialEq, Eq)]
+pub struct Awaited {
+    pub listing: Listing,
+    pub child: TaskId,
+}
+
 /// A move by which an event came.
 #[derive(Clone, Copy)]
 pub enum Move {
@@ -62,6 +69,8 @@ pub struct Scene {
     pub flight: Vec<Message>,
     /// The open listings.
     pub listings: Vec<Listing>,
+    /// The children for which ended listings wait.
+    pub awaited: Vec<Awaited>,
 }
 
 impl Scene {
@@ -72,6 +81,7 @@ impl Scene {
             tasks: BTreeMap::new(alloc),
             flight: Vec::new(alloc),
             listings: Vec::new(alloc),
+            awaited: Vec::new(alloc),
         }
     }
 
@@ -146,7 +156,13 @@ impl Scene {
 
     fn ask(&mut self, parent: TaskId, ask: u32, to: u32, action: Action) -> Result<(), AllocError> {
         if let Some(known) = self.tasks.get_mut(&parent) {
-            known.asks.push(OpenAsk { ask, to, action })?;
+            let child = None;
+            known.asks.push(OpenAsk {
+                ask,
+                to,
+                action,
+                child,
+            })?;
         }
         self.flight.push(Message::Request { parent, ask, to })?;
         Ok(())
@@ -155,10 +171,13 @@ impl Scene {
     fn put(&mut self, task: TaskId, parent: TaskId, ask: u32) -> Result<Option<Move>, AllocError> {
         let to = task.node;
         let made = self.deliver(Message::Request { parent, ask, to });
-        let action = match self.tasks.get(&parent) {
-            Some(known) => known.asked(ask),
-            None => Action::Search,
-        };
+        let mut action = Action::Search;
+        if let Some(known) = self.tasks.get_mut(&parent) {
+            action = known.asked(ask);
+            for open in known.asks.iter_mut().filter(|open| open.ask == ask) {
+                open.child = Some(task);
+            }
+        }
         let child = Task::new(self.alloc, action, Some((parent, ask)));
         self.tasks.insert(task, child)?;
         Ok(made)
@@ -217,11 +236,59 @@ impl Scene {
         Ok(made)
     }
 
+    /// A listing ends. Its ban is acknowledged once it awaits no child.
     fn listed(&mut self, node: u32, parent: TaskId) -> Result<Option<Move>, AllocError> {
         let listing = Listing { node, parent };
         self.listings.retain(|open| *open != listing);
-        self.flight.push(Message::Ack { parent, from: node })?;
+        self.await_children(listing)?;
+        self.acknowledge(listing)?;
         Ok(Some(Move::ListStep(listing)))
+    }
+
+    /// Notes the children that are live and whose own bans are not placed.
+    fn await_children(&mut self, listing: Listing) -> Result<(), AllocError> {
+        let Some(known) = self.tasks.get(&listing.parent) else {
+            return Ok(());
+        };
+        for child in known.asks.iter().filter_map(|open| open.child) {
+            let goes_on = self.tasks.get(&child).is_some_and(|task| task.goes_on());
+            if goes_on && child.node == listing.node {
+                self.awaited.push(Awaited { listing, child })?;
+            }
+        }
+        Ok(())
+    }
+
+    /// Sends the acknowledgement of a ban whose listing awaits no child.
+    fn acknowledge(&mut self, listing: Listing) -> Result<(), AllocError> {
+        if self
+            .awaited
+            .iter()
+            .any(|awaited| awaited.listing == listing)
+        {
+            return Ok(());
+        }
+        self.flight.push(Message::Ack {
+            parent: listing.parent,
+            from: listing.node,
+        })?;
+        Ok(())
+    }
+
+    /// A task that has ended, or whose bans are placed, is awaited no more.
+    fn leave(&mut self, task: TaskId) -> Result<(), AllocError> {
+        if self.tasks.get(&task).is_some_and(|known| known.goes_on()) {
+            return Ok(());
+        }
+        let Some(at) = self
+            .awaited
+            .iter()
+            .position(|awaited| awaited.child == task)
+        else {
+            return Ok(());
+        };
+        let left = self.awaited.remove(at);
+        self.acknowledge(left.listing)
     }
 
     fn acked(&mut self, parent: TaskId, from: u32) -> Result<Option<Move>, AllocError> {
@@ -230,6 +297,7 @@ impl Scene {
             known.unacked = known.unacked.saturating_sub(1);
         }
         self.send_unbans(parent)?;
+        self.leave(parent)?;
         Ok(made)
     }
 
@@ -240,7 +308,8 @@ impl Scene {
                 self.flight.push(Message::Answer { parent, ask })?;
             }
         }
-        self.send_unbans(task)
+        self.send_unbans(task)?;
+        self.leave(task)
     }
 
     /// Sends an unban to each banned node of a task, where it has ended and its bans are placed.

@@ -20,6 +20,8 @@ pub struct OpenAsk {
     pub ask: u32,
     pub to: u32,
     pub action: Action,
+    /// The task that was put for it, once it was.
+    pub child: Option<TaskId>,
 }
 
 /// What the events tell of a task.
@@ -53,6 +55,11 @@ impl Task {
             banned: Vec::new(alloc),
             unacked: 0,
         }
+    }
+
+    /// Whether it is live and its bans are not placed.
+    pub fn goes_on(&self) -> bool {
+        !self.is_over && (self.mark.is_none() || self.unacked > 0)
     }
 
     /// The action of the child that an open ask is for.

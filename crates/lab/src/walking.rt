@@ -235,7 +235,22 @@ fn push_error(out: &mut String, ran: &Ran, number: u32) -> Result<(), AllocError
     )
 }
 
-/// What is in flight, with the places that `deliver` takes, and which listings are open.
+/// The children that the acknowledgements of bans wait for.
+fn push_awaited(alloc: Global, out: &mut String, scene: &Scene) -> Result<(), AllocError> {
+    let mut lines = String::new(alloc);
+    for awaited in scene.awaited.iter() {
+        write!(
+            lines,
+            "    n{} of the ban of {}: for {}\n",
+            awaited.listing.node,
+            Id(awaited.listing.parent),
+            Id(awaited.child)
+        )?;
+    }
+    push_part(out, "acknowledgements that wait", lines.as_str())
+}
+
+/// What is in flight, with the places that `deliver` takes, which listings are open, and which acknowledgements wait.
 fn push_scene(alloc: Global, out: &mut String, scene: &Scene) -> Result<(), AllocError> {
     let mut flight = String::new(alloc);
     for (at, message) in scene.flight.iter().enumerate() {
@@ -253,7 +268,8 @@ fn push_scene(alloc: Global, out: &mut String, scene: &Scene) -> Result<(), Allo
             Id(listing.parent)
         )?;
     }
-    push_part(out, "open listings", listings.as_str())
+    push_part(out, "open listings", listings.as_str())?;
+    push_awaited(alloc, out, scene)
 }
 
 /// The title of a command: its number and its line. After the last one comes the closing drain.

@@ -8,8 +8,8 @@ use task_events::{AnsweredRequest, Reply, Request, Stop};
 use task_ids::{Action, Boxed, Headers, Items, TaskId, TaskInfo};
 use tasks_api::Filter;
 
-/// Which task of a run a letter is about. Each task of a run has a place of its own.
-#[derive(Clone, Copy, PartialEq, Eq)]
+/// Which task of a run a letter is about. Each task of a run has a place of its own. Places are ordered by their fields in turn.
+#[derive(Clone, Copy, PartialEq, Eq, PartialOrd, Ord)]
 pub struct Place {
     /// The command of its tree, from 1.
     pub command: u32,

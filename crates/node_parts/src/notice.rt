@@ -16,7 +16,7 @@ pub enum Notice {
         cancel: u32,
         to: u32,
     },
-    /// A node (`from`) has done so.
+    /// A node (`from`) has done so, and each of the children that it had has ended or has its own bans placed.
     Ack {
         parent: TaskId,
         from: u32,

@@ -1,6 +1,6 @@
 //! A live task, as its node keeps it.
 
-ghost use Rattle.std.specs.Prelude.{◌≡◌, ◌+◌, ◌^◌, ◌<◌, true, length, None, IfOk, IfErr, OnOk};
+ghost use Rattle.std.specs.Prelude.{◌≡◌, ◌+◌, ◌^◌, ◌<◌, true, length, None, IfOk, IfErr, OnOk, OnErr};
 ghost use Rattle.child_track.specs.Track.{Answers};
 ghost use Rattle.task_ids.specs.Limits.{IsNode};
 ghost use Rattle.task_work.specs.Works.{can_ask, work_takes};
@@ -38,6 +38,7 @@ impl Running {
         requires can { can_ask self.old.work (next_number self.old) ≡ true }
         ensures token { IfOk result (λ token. token ≡ record { parent = self.old.track.task; ask = next_number self.old }) }
         ensures asked { OnOk result (self.new ≡ running_with_ask self.old to) }
+        ensures err { OnErr result (self.new ≡ self.old) }
         ensures memory { IfErr result (λ stop. stop ≡ Stop.Memory) }
     {
         match self.track.ask(to) {
@@ -83,6 +84,22 @@ impl Running {
         drop(headers);
         drop(work);
         (ticket, track)
+    }
+
+    /// What the end of the task takes, and what it has worked on, of which its answer may still tell.
+    pub fn into_work(self) -> (Ticket, ChildTrack, Work)
+        ensures { (result.0 ≡ self.ticket) × (result.1 ≡ self.track) × (result.2 ≡ self.work) }
+    {
+        let Running {
+            ticket,
+            track,
+            work,
+            page: _,
+            is_new: _,
+            headers,
+        } = self;
+        drop(headers);
+        (ticket, track, work)
     }
 }
 

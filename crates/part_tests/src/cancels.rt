@@ -23,7 +23,7 @@ fn waits(cancel: u32) -> Waiter {
     Waiter { cancel, wait: true }
 }
 
-fn hurries(cancel: u32) -> Waiter {
+pub(crate) fn hurries(cancel: u32) -> Waiter {
     Waiter {
         cancel,
         wait: false,
@@ -31,7 +31,7 @@ fn hurries(cancel: u32) -> Waiter {
 }
 
 /// Whether the cancellation begins with these acts.
-fn begins(
+pub(crate) fn begins(
     core: &mut CancelCore,
     task: TaskId,
     nodes: NodeSet,
@@ -57,7 +57,7 @@ fn joins(core: &mut CancelCore, task: TaskId, waiter: Waiter, wanted: &[Act]) ->
 }
 
 /// Whether these acts are done at the acknowledgement of a node.
-fn takes(core: &mut CancelCore, task: TaskId, from: u32, wanted: &[Act]) -> bool {
+pub(crate) fn takes(core: &mut CancelCore, task: TaskId, from: u32, wanted: &[Act]) -> bool {
     core.awaits(task, from)
         && core
             .acked(task, from)
@@ -65,7 +65,7 @@ fn takes(core: &mut CancelCore, task: TaskId, from: u32, wanted: &[Act]) -> bool
 }
 
 /// Whether these acts are done when the task ends.
-fn ends(alloc: Global, core: &mut CancelCore, task: TaskId, wanted: &[Act]) -> bool {
+pub(crate) fn ends(alloc: Global, core: &mut CancelCore, task: TaskId, wanted: &[Act]) -> bool {
     if !core.has(task) || core.has_ended(task) {
         return false;
     }
@@ -137,10 +137,6 @@ fn those_who_join_are_answered_by_ascending_number(rt: HostRuntime) {
 #[test]
 fn with_no_node_to_ban_the_bans_are_placed_at_once(rt: HostRuntime) {
     let mut core = CancelCore::new(rt.alloc(), 1);
-    let ack = Act::SendAck {
-        to: 1,
-        parent: task(),
-    };
     assert!(rt;
         begins(
             &mut core,
@@ -151,6 +147,5 @@ fn with_no_node_to_ban_the_bans_are_placed_at_once(rt: HostRuntime) {
         )
     );
     assert!(rt; joins(&mut core, task(), hurries(5), &[placed(5)]));
-    assert!(rt; core.ban_listed(task()) == ack);
     assert!(rt; core.node() == 1);
 }

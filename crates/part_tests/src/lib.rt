@@ -3,6 +3,8 @@
 #![tactic(auto)]
 
 #[cfg(test)]
+mod acknowledgements;
+#[cfg(test)]
 mod bans;
 #[cfg(test)]
 mod bytes;

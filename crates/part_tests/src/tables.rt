@@ -161,6 +161,7 @@ fn pass_root(alloc: Global, table: &mut TaskTable) -> Result<u32, &'static str> 
 #[test]
 fn the_last_number_is_given_once(rt: HostRuntime) -> Result<(), Fail> {
     let mut table = TaskTable::new(rt.alloc(), 15, 1)?;
+    assert!(rt; !table.is_spent());
     for number in 1..1_048_576 {
         assert!(rt; pass_root(rt.alloc(), &mut table) == Ok(number));
     }

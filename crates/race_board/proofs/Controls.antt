@@ -55,9 +55,9 @@ pub in_last : (n : ℕ) (l : List ℕ) → In n (l ++ n ∷ [])
 in_last n [] = inl refl
 in_last n (x ∷ xs) = inr (in_last n xs)
 
-pub in_front : (n m : ℕ) (l : List ℕ) → In n l → In n (l ++ m ∷ [])
-in_front n m [] h = absurd h
-in_front n m (x ∷ xs) h = ⊎_elim (λ (e : n ≡ x). inl e) (λ (e : In n xs). inr (in_front n m xs e)) h
+pub in_front : (n : ℕ) (l ms : List ℕ) → In n l → In n (l ++ ms)
+in_front n [] ms h = absurd h
+in_front n (x ∷ xs) ms h = ⊎_elim (λ (e : n ≡ x). inl e) (λ (e : In n xs). inr (in_front n xs ms e)) h
 
 -- a seat that has done nothing
 blank_seat : (z : Size) (c : View) (owner at : ℕ → ℕ) (ws : List ℕ) (k lead deal : ℕ) → (lead ≢ 0 → k ≡ 0) → SeatOk z c owner at ws k (newcomer z lead deal)
@@ -280,7 +280,7 @@ module _ (z : Size) where
             (λ k l some_word. dite (ℕ_discrete k i)
             (λ e. ((λ _. subst (λ (q : ℕ). In q w.marked) (sym (same_number k e ∙ ap (λ (q : ℕ). number (task s.words q)) e)) (in_last (number n) me.0.marked)), (λ f. absurd (some_cancel (sym (now_cancel k e) ∙ f))), λ _. ap (λ (q : ℕ). get_or w.last q 0) e ∙ (get_or-set_same me.0.last i (number n) 0 (let l = r.lasts in omega arith) ∙ sym (same_number k e ∙ ap (λ (q : ℕ). number (task s.words q)) e))))
             (λ e. let u = r.tasks k l (λ f. some_word (rest k e ∙ f)) in (
-              (λ f. subst (λ (q : ℕ). In (number q) w.marked) (sym (rest k e)) (in_front (number (task s.words k)) (number n) me.0.marked (u.marked (λ g. f (ap cancel (rest k e) ∙ g))))),
+              (λ f. subst (λ (q : ℕ). In (number q) w.marked) (sym (rest k e)) (in_front (number (task s.words k)) me.0.marked (number n ∷ []) (u.marked (λ g. f (ap cancel (rest k e) ∙ g))))),
               (λ f g. ⊎_elim (λ (a : In (number (task ws k)) me.0.marked). u.unmarked (sym (ap cancel (rest k e)) ∙ f) (subst (λ (q : ℕ). In (number q) me.0.marked) (rest k e) a))
                   (λ (a : number (task ws k) ≡ number n). let p = u.stands in let same_at : r.at (number (task s.words k)) ≡ r.at (number n) = ap r.at (sym (ap number (rest k e)) ∙ a) in e (omega arith))
                   (in_more (number (task ws k)) (number n) me.0.marked g)),
@@ -302,7 +302,7 @@ module _ (z : Size) where
             (λ m f. f) (λ f. (f, refl)) ok))
             (λ j l. let o = r.bans j l in record { stands = get_or-set_other s.words x (z.slots + j + 1) new 0 (λ e. omega arith) ∙ o.stands; none_yet = o.none_yet; small = o.small })
             (λ m h. ⊎_elim (λ (a : In m me.0.marked). r.marks m a) (λ (a : m ≡ number n). ap (λ (q : ℕ). r.at q % 2) a ∙ (ap (λ (q : ℕ). q % 2) t ∙ (let odd : (2 * i + 3) % 2 ≡ 1 = omega arith in odd))) (in_more m (number n) me.0.marked h))
-            (λ a m f. in_front a (number n) me.0.marked (r.known a m f))
+            (λ a m f. in_front a me.0.marked (number n ∷ []) (r.known a m f))
             (λ f. absurd (f refl))),
         ((λ _. goes me w bare ∙ (λ q. (noted (struck me.0 (back_one i q) (number n)) (did x n new), []))), λ f. absurd (f hit)),
       ))

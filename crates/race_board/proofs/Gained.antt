@@ -95,5 +95,8 @@ saw_later v u w x n long s = record { turn = s.turn; of_this_call = (let a = s.o
 pub wrote_later : (v u w : View) (x n y : ℕ) → Longer v u → Wrote u w x n y → Wrote v w x n y
 wrote_later v u w x n y long wrote = (wrote.0, (let a = wrote.1 in let b = ap length long.1 in let d = length-append v.steps long.0 in omega arith), wrote.2)
 
+pub wrote_longer : (v u w : View) (x n y : ℕ) → Longer u w → Wrote v u x n y → Wrote v w x n y
+wrote_longer v u w x n y long wrote = (wrote.0, wrote.1, ap (λ (l : List Did). get_elem? l wrote.0) long.1 ∙ at_longer u.steps long.0 wrote.0 (did x n y) wrote.2)
+
 pub wrote_now : (v w : View) (x n y : ℕ) → w.steps ≡ v.steps ++ did x n y ∷ [] → Wrote v w x n y
 wrote_now v w x n y e = (length v.steps, omega arith, ap (λ (l : List Did). get_elem? l (length v.steps)) e ∙ at_last v.steps (did x n y) (length v.steps) refl)

@@ -9,6 +9,9 @@ pub mod DataSteps
 pub mod ControlSteps
 pub mod Gained
 pub mod Listed
+pub mod News
+pub mod Handed
+pub mod Passing
 pub mod MarkSteps
 pub mod Tracked
 pub mod Masked

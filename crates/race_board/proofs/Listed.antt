@@ -1,5 +1,5 @@
 -- The calls of the control seat, over one step.
-use Rattle.std.proofs.Common.{◌≡◌, ◌≢◌, ℕ, ◌+◌, ◌<◌, List, [], ◌∷◌, ◌++◌, length, get_or, set, sym, refl, ap, ◌∙◌, subst, arith, Option, Some, None, append_assoc, get_or-set_other, get_or-set_same, take, append-nil}
+use Rattle.std.proofs.Common.{◌≡◌, ◌≢◌, ℕ, ◌+◌, ◌<◌, List, [], ◌++◌, length, get_or, set, sym, refl, ap, ◌∙◌, subst, arith, Option, get_or-set_other, get_or-set_same, append-nil}
 use Rattle.std.proofs.lemmas.List.{set-set, set-get_or}
 use mathlib.Core.Logic.{dite}
 use native.Mathlib.Decide.{ℕ_discrete}
@@ -7,12 +7,9 @@ use Rattle.race_board.specs.Words.{number, banned, by, ban_word}
 use Rattle.race_board.specs.Board.{ban, no_ban}
 use Rattle.race_board.specs.Steps.{did, noted, banning, with_ban}
 use Rattle.race_board.specs.Calls.{Longer, Saw}
-use Rattle.race_board.specs.Events.{Event, marked, listed}
-use Rattle.race_board.specs.Lists.{with_one, last_with, Listing, Passes, SawNone, marks_with, done_at, pass_events}
-use Rattle.race_board.specs.declared.views.Size.{Size}
+use Rattle.race_board.specs.Lists.{new_to, as_list, last_with, Listing, Passes, SawNone}
 use Rattle.race_board.specs.declared.views.Ban.{Ban}
 use Rattle.race_board.specs.declared.views.View.{View}
-use Rattle.race_board.proofs.Doing.{where_other, marks_more}
 use Rattle.race_board.proofs.Parts.{banned_ban, by_ban}
 use Rattle.race_board.proofs.Gained.{saw_more, saw_now}
 
@@ -30,13 +27,13 @@ bans_set ws bs i b l m p q r all j = let Of : ℕ → Ban → Type 0 = λ x y. (
 pub listing_ban : (v u : View) (j i : ℕ) (ns : List ℕ) → j < length v.bans → Listing v u j i ns → ban u j ≡ banning (ban v j).parent (ban v j).cancel i
 listing_ban v u j i ns l on = ap (λ (q : View). ban q j) on ∙ get_or-set_same v.bans j (banning (ban v j).parent (ban v j).cancel i) no_ban l
 
-pub listing_passes : (v u w : View) (j i : ℕ) (ns : List ℕ) (got : Option ℕ) → j < length v.bans → Listing v u j i ns → Passes u w j i got → Listing v w j (i + 1) (with_one ns got)
-listing_passes v u w j i ns got l on pass = let here = listing_ban v u j i ns l on in let old : Ban = banning (ban v j).parent (ban v j).cancel i in let new : Ban = banning (ban v j).parent (ban v j).cancel (i + 1) in
+pub listing_passes : (v u w : View) (j i : ℕ) (ns ms : List ℕ) (got : Option ℕ) → j < length v.bans → Listing v u j i ns → new_to u (as_list got) ≡ ms → Passes u w j i got → Listing v w j (i + 1) (ns ++ ms)
+listing_passes v u w j i ns ms got l on news pass = let here = listing_ban v u j i ns l on in let old : Ban = banning (ban v j).parent (ban v j).cancel i in let new : Ban = banning (ban v j).parent (ban v j).cancel (i + 1) in
     let bans : set u.bans j (banning (ban u j).parent (ban u j).cancel (i + 1)) ≡ set v.bans j new = (λ y. set (ap (λ (q : View). q.bans) on y) j (banning (here y).parent (here y).cancel (i + 1))) ∙ set-set v.bans j old new in
-    let marked : with_one u.marked got ≡ with_one ns got = ap (λ (q : View). with_one q.marked got) on in
+    let marked : u.marked ++ new_to u (as_list got) ≡ ns ++ ms = (λ y. (ap (λ (q : View). q.marked) on) y ++ news y) in
     let last : w.last ≡ last_with u.last i got = ap (λ (q : View). q.last) pass in
     pass ∙ ((λ y. let r : View = record u { steps = w.steps; bans = bans y; about = 0; loaded = 0; marked = marked y; last = sym last y } in r)
-    ∙ ap (λ (q : View). let r : View = record q { steps = w.steps; bans = set v.bans j new; about = 0; loaded = 0; marked = with_one ns got; last = w.last } in r) on)
+    ∙ ap (λ (q : View). let r : View = record q { steps = w.steps; bans = set v.bans j new; about = 0; loaded = 0; marked = ns ++ ms; last = w.last } in r) on)
 
 pub listing_marked : (v w : View) (j i : ℕ) (ns ms : List ℕ) → ns ≡ ms → Listing v w j i ns → Listing v w j i ms
 listing_marked v w j i ns ms e on = subst (Listing v w j i) e on
@@ -51,17 +48,11 @@ pub put_is : (v w : View) (j x p c y : ℕ) → p < 16777216 → y ≡ ban_word 
 put_is v w j x p c y small is e = e ∙ ((λ k. noted (with_ban v j (banning (banned (is k)) (by (is k)) 0)) (did x 0 (is k))) ∙ (λ k. noted (with_ban v j (banning (banned_ban p c small k) (by_ban p c small k) 0)) (did x 0 (ban_word p c))))
 
 -- no slot is passed yet
-pub listing_first : (v : View) (j : ℕ) (found : List ℕ) → j < length v.bans → (ban v j).next ≡ 0 → v.about ≡ 0 → v.loaded ≡ 0 → Listing v v j 0 (v.marked ++ take 0 found)
-listing_first v j found l none about loaded = let same : ban v j ≡ banning (ban v j).parent (ban v j).cancel 0 = (λ k. banning (ban v j).parent (ban v j).cancel (none k)) in
+pub listing_first : (v : View) (j : ℕ) → j < length v.bans → (ban v j).next ≡ 0 → v.about ≡ 0 → v.loaded ≡ 0 → Listing v v j 0 (v.marked ++ [])
+listing_first v j l none about loaded = let same : ban v j ≡ banning (ban v j).parent (ban v j).cancel 0 = (λ k. banning (ban v j).parent (ban v j).cancel (none k)) in
     let bans : v.bans ≡ set v.bans j (banning (ban v j).parent (ban v j).cancel 0) = sym (set-get_or v.bans j no_ban) ∙ ap (set v.bans j) same in
-    let marked : v.marked ≡ v.marked ++ take 0 found = sym (append-nil v.marked) in
+    let marked : v.marked ≡ v.marked ++ [] = sym (append-nil v.marked) in
     λ k. let r : View = record v { bans = bans k; about = about k; loaded = loaded k; marked = marked k } in r
-
--- the events of a list, after one slot more
-pub list_more : (z : Size) (j k i : ℕ) (ns : List ℕ) (got : Option ℕ) → i ≢ z.slots → (marks_with k ns ++ done_at z j i) ++ pass_events z j k i got ≡ marks_with k (with_one ns got) ++ done_at z j (i + 1)
-list_more z j k i ns None more = ap (λ (l : List Event). l ++ done_at z j (i + 1)) (ap (λ (l : List Event). marks_with k ns ++ l) (where_other i z.slots (listed j ∷ []) [] more) ∙ append-nil (marks_with k ns))
-list_more z j k i ns (Some n) more = ap (λ (l : List Event). l ++ (marked n k ∷ done_at z j (i + 1))) (ap (λ (l : List Event). marks_with k ns ++ l) (where_other i z.slots (listed j ∷ []) [] more) ∙ append-nil (marks_with k ns))
-    ∙ (sym (append_assoc (marks_with k ns) (marked n k ∷ []) (done_at z j (i + 1))) ∙ ap (λ (l : List Event). l ++ done_at z j (i + 1)) (sym (marks_more k ns (n ∷ []))))
 
 -- the plain words of the bans are those of these bans
 abbrev pub AllStand : List ℕ → List Ban → Type 0

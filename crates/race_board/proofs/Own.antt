@@ -12,6 +12,7 @@ use Rattle.race_board.specs.Turn.{Turn}
 use Rattle.race_board.specs.declared.views.Size.{Size}
 use Rattle.race_board.specs.declared.views.View.{View}
 use Rattle.race_board.proofs.Controls.{in_front, in_last}
+use Rattle.race_board.proofs.Parts.{zero_cancel}
 
 module _ (z : Size) (v : View) (s : Moment) (at : IsAt z v s) (lead : v.lead ≢ 0) where
   own : at.holds.control ≡ v
@@ -54,6 +55,25 @@ pub unmarked_yet : (z : Size) (v w : View) (i n left : ℕ) (es : List Event) �
 unmarked_yet z v w i n left es turn lead l full free known = let s : Moment = turn.before in let at : IsAt z v s = record { seat = turn.seat; sits = turn.sits; holds = turn.holds } in
     ((asked z v s at lead).marked i l (λ e. full (sym turn.finds ∙ e))).1 (ap cancel turn.finds ∙ free) (subst (λ (q : ℕ). In (number q) v.marked) (sym turn.finds) known)
 
+-- what is found with a mark was marked by the seat, and last of all in that slot
+pub marked_here : (z : Size) (v w : View) (i n left : ℕ) (es : List Event) → Turn z v w (i + 1) n left es → v.lead ≢ 0 → i < z.slots → cancel n ≢ 0 → (number n ≢ 0) × In (number n) v.marked × (slice_index v.last i ≡ number n)
+marked_here z v w i n left es turn lead l some = subst (λ (q : ℕ). (number q ≢ 0) × In (number q) v.marked × (slice_index v.last i ≡ number q)) turn.finds (named, ((asked z v s at lead).marked i l full).0 mark, (asked z v s at lead).latest i l mark)
+  where
+    s : Moment
+    s = turn.before
+
+    at : IsAt z v s
+    at = record { seat = turn.seat; sits = turn.sits; holds = turn.holds }
+
+    mark : cancel (task s.words i) ≢ 0
+    mark e = some (sym (ap cancel turn.finds) ∙ e)
+
+    full : task s.words i ≢ 0
+    full e = mark (ap cancel e ∙ zero_cancel)
+
+    named : number (task s.words i) ≢ 0
+    named e = let h = turn.holds.held.one i l full in h.5 (h.3 ∙ e)
+
 -- a load leaves the words as they were
 pub load_leaves : (z : Size) (v w : View) (x n : ℕ) (es : List Event) → (turn : Turn z v w x n n es) → get_or turn.after.words x 0 ≡ n
 load_leaves z v w x n es turn = let same : turn.after.words ≡ turn.before.words = turn.leaves ∙ ((λ k. set turn.before.words x (sym turn.finds k)) ∙ set-get_or turn.before.words x 0) in
@@ -73,7 +93,7 @@ pub lasts_struck : (v w : View) (i n : ℕ) → i < length v.last → w.last ≡
 lasts_struck v w i n inside last marks fresh ok = lasts_same new w last marks record {
   marked = λ m a never some is. dite (ℕ_discrete a i)
       (λ e. never (subst (λ (q : ℕ). In q (v.marked ++ n ∷ [])) (sym (here a e) ∙ is) (in_last n v.marked)))
-      (λ e. ok.marked m a (λ h. never (in_front m n v.marked h)) (λ f. some (else_at a e ∙ f)) (sym (else_at a e) ∙ is));
+      (λ e. ok.marked m a (λ h. never (in_front m v.marked (n ∷ []) h)) (λ f. some (else_at a e ∙ f)) (sym (else_at a e) ∙ is));
   apart = λ a b some same. dite (ℕ_discrete a i)
       (λ e. dite (ℕ_discrete b i) (λ f. e ∙ sym f) (λ f. absurd (clash a b e f some same)))
       (λ e. dite (ℕ_discrete b i) (λ f. absurd (clash b a f e (λ g. some (same ∙ g)) (sym same))) (λ f. ok.apart a b (λ g. some (else_at a e ∙ g)) (sym (else_at a e) ∙ (same ∙ else_at b f))));

@@ -1,8 +1,9 @@
 -- What the control seat's calls say.
-use Rattle.std.specs.Prelude.{◌≡◌, ◌≢◌, ℕ, ◌+◌, ◌<◌, ◌⊎◌, ◌==◌, cond, List, ◌++◌, ◌∷◌, [], map, slice_index, slice_set, Option, Some, None}
+use Rattle.std.specs.Prelude.{◌≡◌, ◌≢◌, ℕ, zero, suc, ◌+◌, ◌<◌, ◌⊎◌, ◌==◌, Bool, not, cond, List, ◌++◌, ◌∷◌, [], map, filter, slice_index, slice_set, Option, Some, None}
+use Rattle.std.specs.List.{list_any}
 use Rattle.task_table.specs.declared.ended.MarkAnswer.{MarkAnswer}
 use Rattle.task_table.specs.declared.ended.MarkAnswer.TheVariants.{Marked, Already, NotFound}
-use Rattle.race_board.specs.Words.{number, cancel, ban_word, with_mark}
+use Rattle.race_board.specs.Words.{number, parent, cancel, ban_word, with_mark}
 use Rattle.race_board.specs.Board.{ban, no_ban, In}
 use Rattle.race_board.specs.Steps.{did, noted, banning, with_ban}
 use Rattle.race_board.specs.Calls.{Saw, Wrote, OnlySteps}
@@ -22,10 +23,40 @@ NoneOf v z p = (j : ℕ) → j < z.bans → (ban v j).parent ≢ p
 abbrev pub Unbans : View → View → Size → ℕ → Type 0
 Unbans v w z p = (j : ℕ) × (j < z.bans) × ((ban v j).parent ≡ p) × (w ≡ noted (with_ban v j no_ban) (did (z.slots + j + 1) (ban_word p (ban v j).cancel) 0))
 
--- what was marked
-abbrev pub with_one : List ℕ → Option ℕ → List ℕ
-with_one l (Some n) = l ++ n ∷ []
-with_one l None = l
+-- the seat has marked the task with that number
+abbrev pub has_marked : View → ℕ → Bool
+has_marked v n = list_any (λ m. n == m) v.marked
+
+-- those of the numbers whose tasks the seat has not marked
+abbrev pub new_to : View → List ℕ → List ℕ
+new_to v ns = filter (λ n. not (has_marked v n)) ns
+
+-- the one number, or none
+abbrev pub as_list : Option ℕ → List ℕ
+as_list (Some n) = n ∷ []
+as_list None = []
+
+-- the call marked the child of p in the slot i, which its load had seen without a mark
+abbrev pub MarksChild : View → View → ℕ → ℕ → ℕ → ℕ → Type 0
+MarksChild v w p c i n = (seen : ℕ) × Saw v w (i + 1) seen × (parent seen ≡ p) × (number seen ≡ n) × (cancel seen ≡ 0) × Wrote v w (i + 1) seen (with_mark seen c)
+
+-- its load saw the child of p in the slot i with a mark, which the seat had set before
+abbrev pub SawMarked : View → View → ℕ → ℕ → ℕ → Type 0
+SawMarked v w p i n = (seen : ℕ) × Saw v w (i + 1) seen × (parent seen ≡ p) × (number seen ≡ n) × (cancel seen ≢ 0) × In n v.marked
+
+-- its load saw no child of p in the slot i, or one without a mark whose word had changed before the exchange
+abbrev pub SawNoChild : View → View → ℕ → ℕ → Type 0
+SawNoChild v w p i = (seen : ℕ) × Saw v w (i + 1) seen × (parent seen ≡ p → (cancel seen ≡ 0) × ((after : ℕ) × Saw v w (i + 1) after × (seen ≢ after)))
+
+-- of the slot i a child is handed over that the call marked, or that it saw marked, or none
+abbrev pub Hands : View → View → ℕ → ℕ → ℕ → Option ℕ → Type 0
+Hands v w p c i (Some n) = MarksChild v w p c i n ⊎ SawMarked v w p i n
+Hands v w p c i None = SawNoChild v w p i
+
+-- the scan of the slots below i, for the ban of p with the cancel c, hands over these numbers, in the order of the slots
+abbrev pub HandsOver : View → View → ℕ → ℕ → ℕ → List ℕ → Type 0
+HandsOver v w p c zero ns = ns ≡ []
+HandsOver v w p c (suc i) ns = (earlier : List ℕ) × (got : Option ℕ) × HandsOver v w p c i earlier × Hands v w p c i got × (ns ≡ earlier ++ as_list got)
 
 abbrev pub last_with : List ℕ → ℕ → Option ℕ → List ℕ
 last_with l i (Some n) = slice_set l i n
@@ -35,9 +66,13 @@ last_with l i None = l
 abbrev pub Listing : View → View → ℕ → ℕ → List ℕ → Type 0
 Listing v w j i ns = w ≡ record v { steps = w.steps; bans = slice_set v.bans j (banning (ban v j).parent (ban v j).cancel i); about = 0; loaded = 0; marked = ns; last = w.last }
 
--- the scan of the ban at j goes past the slot i
+-- the scan of the ban at j goes past the slot i, whose child, if one is handed over, is the last that the seat marked there
 abbrev pub Passes : View → View → ℕ → ℕ → Option ℕ → Type 0
-Passes v w j i got = w ≡ record v { steps = w.steps; bans = slice_set v.bans j (banning (ban v j).parent (ban v j).cancel (i + 1)); about = 0; loaded = 0; marked = with_one v.marked got; last = last_with v.last i got }
+Passes v w j i got = w ≡ record v { steps = w.steps; bans = slice_set v.bans j (banning (ban v j).parent (ban v j).cancel (i + 1)); about = 0; loaded = 0; marked = v.marked ++ new_to v (as_list got); last = last_with v.last i got }
+
+-- the seat had not marked the child in the slot i, or it was the last that it marked there
+abbrev pub WasLast : View → ℕ → ℕ → Type 0
+WasLast v i n = (¬ In n v.marked) ⊎ ((n ≢ 0) × In n v.marked × (slice_index v.last i ≡ n))
 
 -- each of these is marked with the cancel
 abbrev pub marks_with : ℕ → List ℕ → List Event
@@ -47,10 +82,9 @@ marks_with c ns = map (λ n. marked n c) ns
 abbrev pub done_at : Size → ℕ → ℕ → List Event
 done_at z j i = cond (i == z.slots) (listed j ∷ []) []
 
--- the events of the scan of the ban at the place j with the cancel c, when it passes the slot i
-abbrev pub pass_events : Size → ℕ → ℕ → ℕ → Option ℕ → List Event
-pass_events z j c i None = done_at z j (i + 1)
-pass_events z j c i (Some n) = marked n c ∷ done_at z j (i + 1)
+-- the events of the scan of the ban at the place j with the cancel c, when it passes the slot i and marks these
+abbrev pub pass_events : Size → ℕ → ℕ → ℕ → List ℕ → List Event
+pass_events z j c i ns = marks_with c ns ++ done_at z j (i + 1)
 
 -- one scan of the call met no live word of that number
 abbrev pub SawNone : View → View → ℕ → ℕ → Type 0

@@ -10,7 +10,7 @@ ghost use Rattle.race_board.specs.Kinds.{bans, lists, unbans};
 ghost use Rattle.race_board.specs.Walks.{Walks};
 ghost use Rattle.race_board.specs.Own.{IsListed, Stops};
 ghost use Rattle.race_board.specs.Calls.{Longer};
-ghost use Rattle.race_board.specs.Lists.{Bans, NoneOf, Unbans, Listing, Passes, marks_with, pass_events};
+ghost use Rattle.race_board.specs.Lists.{Bans, NoneOf, Unbans, Listing, Passes, WasLast, Hands, HandsOver, new_to, as_list, marks_with, pass_events};
 
 use crate::board::RaceBoard;
 use crate::rule::Place;
@@ -72,7 +72,8 @@ impl<N: BoardName> RaceBoard<N> {
         true
     }
 
-    // Looks at the slot that the scan of the ban at a place comes to, and marks the ban's child there.
+    // Looks at the slot that the scan of the ban at a place comes to, and marks the ban's child there, unless it is
+    // marked already. Gives the child's number, where it is marked now.
     fn pass_slot(
         &self,
         seat: &mut Place,
@@ -87,22 +88,29 @@ impl<N: BoardName> RaceBoard<N> {
         requires ban { ((ban seat.old.me.0 place).parent ≡ parent) × ((ban seat.old.me.0 place).cancel ≡ cancel) × ((ban seat.old.me.0 place).next ≡ slot) × (parent ≢ 0) × (cancel ≢ 0) × (cancel < 65536) }
         ensures fits { (seat.new.table_id ≡ seat.old.table_id) × (seat.new.me.1 ≡ []) }
         ensures steps { Longer seat.old.me.0 seat.new.me.0 }
-        ensures moments { Walks (lists place cancel) seat.old.me.0 seat.new.me.0 (pass_events self.now.words.size place cancel slot result) }
-        ensures fresh { IfSome result (λ n. ¬ In n seat.old.me.0.marked) }
+        ensures moments { Walks (lists place cancel) seat.old.me.0 seat.new.me.0 (pass_events self.now.words.size place cancel slot (new_to seat.old.me.0 (as_list result))) }
+        ensures hands { Hands seat.old.me.0 seat.new.me.0 parent cancel slot result }
+        ensures last { IfSome result (WasLast seat.old.me.0 slot) }
         ensures passes { Passes seat.old.me.0 seat.new.me.0 place slot result }
     {
         let seen = self.words.scan(seat, place, slot);
-        if parent_of(seen) != parent || cancel_of(seen) != 0 {
+        if parent_of(seen) != parent {
             return None;
+        }
+        let number = number_of(seen) as u32;
+        if cancel_of(seen) != 0 {
+            // Only the control seat marks, so this seat has marked the child.
+            return Some(number);
         }
         if self.words.strike_child(seat, place, slot, seen, cancel) != seen {
             return None;
         }
-        Some(number_of(seen) as u32)
+        Some(number)
     }
 
     /// Scans the slots once, and marks each unmarked live child of the ban's parent. `found`, with room for one number
-    /// per slot, begins with their numbers, and the answer is how many they are.
+    /// per slot, begins with the numbers of those that it marked and of those that it saw marked, which this seat had
+    /// marked before. They stand in the order of their slots, and the answer is how many they are.
     pub fn list(&self, seat: &mut ControlSeat<N>, place: u32, found: &mut [u32]) -> u32
         requires fits { IsControlOf self.now seat.old }
         requires ban { (place < (board_size self.now).bans) × ((ban (control_view seat.old) place).parent ≢ 0) × ((ban (control_view seat.old) place).next ≡ 0) }
@@ -110,11 +118,12 @@ impl<N: BoardName> RaceBoard<N> {
         ensures fits { IsControlOf self.now seat.new }
         ensures steps { Longer (control_view seat.old) (control_view seat.new) }
         ensures found { (length found.new ≡ length found.old) × (result ≤ length found.new) }
-        ensures moments { Walks (lists place (ban (control_view seat.old) place).cancel) (control_view seat.old) (control_view seat.new) (marks_with (ban (control_view seat.old) place).cancel (take result found.new) ++ listed place ∷ []) }
+        ensures moments { Walks (lists place (ban (control_view seat.old) place).cancel) (control_view seat.old) (control_view seat.new) (marks_with (ban (control_view seat.old) place).cancel (new_to (control_view seat.old) (take result found.new)) ++ listed place ∷ []) }
         ensures done { IsListed (board_size self.now) (control_view seat.new) place }
         ensures stops { Stops (board_size self.now) (control_view seat.new) place }
         ensures known { (k : ℕ) → k < result → In (slice_index found.new k) (control_view seat.new).marked }
-        ensures listed { Listing (control_view seat.old) (control_view seat.new) place (board_size self.now).slots ((control_view seat.old).marked ++ take result found.new) }
+        ensures handed { HandsOver (control_view seat.old) (control_view seat.new) (ban (control_view seat.old) place).parent (ban (control_view seat.old) place).cancel (board_size self.now).slots (take result found.new) }
+        ensures listed { Listing (control_view seat.old) (control_view seat.new) place (board_size self.now).slots ((control_view seat.old).marked ++ new_to (control_view seat.old) (take result found.new)) }
     {
         let place = place as usize;
         let parent = banned_of(seat.bans[place]);
@@ -122,6 +131,7 @@ impl<N: BoardName> RaceBoard<N> {
         let mut count = 0;
         for slot in 0..self.words.size.slots {
             if let Some(number) = self.pass_slot(&mut seat.place, place, slot, parent, cancel) {
+                // Where the child was marked before, this is the number that stands there.
                 seat.marked[slot] = number;
                 found[count] = number;
                 count += 1;

@@ -2,7 +2,7 @@
 use Rattle.std.proofs.Common.{◌≡◌, ℕ, zero, suc, ◌+◌, ◌-◌, ◌<◌, ◌≤◌, Bool, true, false, cond, ◌||◌, List, [], ◌∷◌, ◌++◌, length, get_or, take, drop, insert, remove, refl, sym, ◌∙◌, ap, subst, inl, inr, arith, add-one, Option, Some, None, IfSome, Result, Ok, Err, IfOk, IfErr, is_ok, slice_get, IsTrue, Ordering, Less, Equal, Greater}
 use Rattle.std.specs.Prelude.{All}
 use Rattle.std.specs.Ordering.{is_eq, is_gt, match_ordering, ordering_reverse}
-use Rattle.std.specs.Cmp.{IsTotalOrder}
+use Rattle.std.specs.Cmp.{Equal-is, IsTotalOrder}
 use Rattle.std.specs.List.{list_any}
 use Rattle.std.specs.List.Sorted.{IsStrictlySortedBy}
 use Rattle.std.specs.Set.{remove_key, KeepsOthers}
@@ -26,11 +26,6 @@ is_eq-reverse : (r : Ordering) → is_eq (ordering_reverse r) ≡ is_eq r
 is_eq-reverse Less = refl
 is_eq-reverse Equal = refl
 is_eq-reverse Greater = refl
-
-equal_if : (r : Ordering) → is_eq r ≡ true → r ≡ Equal
-equal_if Less is = absurd (false≢true is)
-equal_if Equal is = refl
-equal_if Greater is = absurd (false≢true is)
 
 -- where no key passes, none is taken
 remove_key_none : {K : Type 0} (test : K → Bool) (keys : List K) → list_any test keys ≡ false → remove_key test keys ≡ keys
@@ -176,7 +171,7 @@ module _ {K : Type 0} {cmp : K → K → Ordering} (laws : IsTotalOrder cmp) whe
     -- what a change at k alone does, in the words of the clause `updates`
     module _ (old new : List K) (b : Bool) (this : list_any (is_at (cmp k)) new ≡ b) (others : (p : K → Bool) → ((x : K) → is_at (cmp k) x ≡ true → p x ≡ false) → list_any p new ≡ list_any p old) where
       other_key : (q : K) → is_at (cmp k) q ≡ false → list_any (is_at (cmp q)) new ≡ list_any (is_at (cmp q)) old
-      other_key q apart = others (is_at (cmp q)) (λ x same. ap is_eq (sym (alike_right laws k x q (equal_if (cmp k x) same))) ∙ is_eq_back q k ∙ apart)
+      other_key q apart = others (is_at (cmp q)) (λ x same. ap is_eq (sym (alike_right laws k x q ((Equal-is (cmp k x)).0 same))) ∙ is_eq_back q k ∙ apart)
 
       same_key : (q : K) → cmp k q ≡ Equal → list_any (is_at (cmp q)) new ≡ b
       same_key q same = sym (λ j. list_any (λ x. is_eq (laws.congr k q x same j)) new) ∙ this
@@ -186,7 +181,7 @@ module _ {K : Type 0} {cmp : K → K → Ordering} (laws : IsTotalOrder cmp) whe
       updates_at = (λ q. by q (is_at (cmp k) q) refl, this, other_key, λ other test apart. others other apart)
         where
           by : (q : K) (t : Bool) → is_at (cmp k) q ≡ t → list_any (is_at (cmp q)) new ≡ cond t b (list_any (is_at (cmp q)) old)
-          by q true t = same_key q (equal_if (cmp k q) t)
+          by q true t = same_key q ((Equal-is (cmp k q)).0 t)
           by q false t = other_key q t
 
     module _ (keys : List K) (i : ℕ) where
@@ -239,7 +234,7 @@ module _ {K : Type 0} {cmp : K → K → Ordering} (laws : IsTotalOrder cmp) whe
   below_members x q (y ∷ ys) all any = by (below_members x q ys (All-tail (IsLeBy cmp x) y ys all)) (is_at (cmp q) y) refl any
     where
       by : (list_any (is_at (cmp q)) ys ≡ true → is_gt (cmp x q) ≡ false) → (b : Bool) → is_at (cmp q) y ≡ b → (b || list_any (is_at (cmp q)) ys) ≡ true → is_gt (cmp x q) ≡ false
-      by rest true same more = ap is_gt (alike_right laws q y x (equal_if (cmp q y) same)) ∙ All-head (IsLeBy cmp x) y ys all
+      by rest true same more = ap is_gt (alike_right laws q y x ((Equal-is (cmp q y)).0 same)) ∙ All-head (IsLeBy cmp x) y ys all
       by rest false other more = rest more
 
   -- the first key is not above any

@@ -16,7 +16,7 @@ use Rattle.task_events.specs.SliceTask.{answer_at, context_in}
 use Rattle.task_events.specs.Steps.{with_answer}
 use Rattle.reindex.specs.OpenAsks.{AreNumbered}
 use Rattle.reindex.specs.SliceRuns.{newest, newest_answer}
-use Rattle.reindex.proofs.FedSums.{AreFrom, row}
+use Rattle.reindex.proofs.FedSums.{AreFrom, row, first_is, later_are}
 
 -- ---- the last of a list
 
@@ -73,16 +73,10 @@ first_context_open k (a ∷ asked) = refl
 
 -- ---- numbers
 
-first_number : (n m : ℕ) (o : Option Reply) (asked : List Asked) → AreFrom n (row m o ∷ asked) → m ≡ n
-first_number n m o asked e = cc
-
-later_numbers : (n m : ℕ) (o : Option Reply) (asked : List Asked) → AreFrom n (row m o ∷ asked) → AreFrom (n + 1) asked
-later_numbers n m o asked e = cc
-
 -- the newest ask has the number of all
 last_number : (n : ℕ) (before : List Asked) (a : Asked) → AreFrom n (before ++ a ∷ []) → a.ask ≡ n + length before
-last_number n [] a e = let same : a.ask ≡ n = first_number n a.ask a.answer [] e in omega arith
-last_number n (b ∷ bs) a e = let later = last_number (n + 1) bs a (later_numbers n b.ask b.answer (bs ++ a ∷ []) e) in omega arith
+last_number n [] a e = let same : a.ask ≡ n = first_is n a.ask a.answer [] e in omega arith
+last_number n (b ∷ bs) a e = let later = last_number (n + 1) bs a (later_are n b.ask b.answer (bs ++ a ∷ []) e) in omega arith
 
 pub newest_number : (before : List Asked) (a : Asked) → AreNumbered (before ++ a ∷ []) → a.ask ≡ length before + 1
 newest_number before a e = let is = last_number 1 before a e in omega arith
@@ -91,9 +85,9 @@ newest_number before a e = let is = last_number 1 before a e in omega arith
 unchanged : (n k : ℕ) (answer : Option Reply) (before : List Asked) (a : Asked) → AreFrom n (before ++ a ∷ []) → n + length before ≤ k → map (with_answer k answer) before ≡ before
 unchanged n k answer [] a e past = refl
 unchanged n k answer (b ∷ bs) a e past =
-    let first = first_number n b.ask b.answer (bs ++ a ∷ []) e in
+    let first = first_is n b.ask b.answer (bs ++ a ∷ []) e in
     let other : (k == b.ask) ≡ false = ne_eqb k b.ask (λ same. omega arith) in
-    let later = unchanged (n + 1) k answer bs a (later_numbers n b.ask b.answer (bs ++ a ∷ []) e) (omega arith) in
+    let later = unchanged (n + 1) k answer bs a (later_are n b.ask b.answer (bs ++ a ∷ []) e) (omega arith) in
     rw other (ap (λ xs. b ∷ xs) later)
 
 pub before_unchanged : (k : ℕ) (answer : Option Reply) (before : List Asked) (a : Asked) → AreNumbered (before ++ a ∷ []) → k ≡ length before + 1 → map (with_answer k answer) before ≡ before

@@ -74,7 +74,7 @@ part_can_have shards part (Wrote counts) = refl
 part_can_have shards part (Cancelled task cancel counts) = refl
 part_can_have shards part (Rejected node) = refl
 
-open_last : (k : ℕ) (asks : List ℕ) → is_open k (asks ++ k ∷ []) ≡ true
+pub open_last : (k : ℕ) (asks : List ℕ) → is_open k (asks ++ k ∷ []) ≡ true
 open_last k [] = let same : (k == k) ≡ true = eq-eqb k k refl in rw same refl
 open_last k (ask ∷ asks) = or_right (ask == k) (is_open k (asks ++ k ∷ [])) (open_last k asks)
 

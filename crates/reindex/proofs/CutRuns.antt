@@ -24,6 +24,7 @@ use Rattle.reindex.specs.OpenAsks.{open_in, is_settled}
 use Rattle.reindex.specs.Roots.{Cutting, IsNewCut, cut_next, cut_may_ask, cut_with_ask, cut_takes, sum_with, cut_with_answer, IsCutAt}
 use Rattle.reindex.specs.RootFields.{IsCut}
 use Rattle.reindex.proofs.Answers.{below_all}
+use Rattle.reindex.proofs.BulkRuns.{open_last}
 use Rattle.reindex.proofs.FedSums.{row, fed_sum, fed_open, fed_numbered, fed_length, asked_numbered, asked_open, asked_answers, settled}
 use Rattle.reindex.proofs.SliceLemmas.{slice_is, slice_none}
 
@@ -123,10 +124,6 @@ slice_replies shards a (AllFailed failed) = refl
 slice_replies shards a (Wrote counts) = refl
 slice_replies shards a (Cancelled task cancel counts) = refl
 slice_replies shards a (Rejected node) = refl
-
-open_last : (k : ℕ) (asks : List ℕ) → is_open k (asks ++ k ∷ []) ≡ true
-open_last k [] = let same : (k == k) ≡ true = eq-eqb k k refl in rw same refl
-open_last k (ask ∷ asks) = or_right (ask == k) (is_open k (asks ++ k ∷ [])) (open_last k asks)
 
 -- it takes each reply that the slice for which it asks can have
 pub cut_may_take : {ask : ReindexAsk} {asked : List Asked} {c : Cutting} → IsCutAt ask asked c → (shards : ℕ) (request : Request) → cut_next c ≡ AskNext request → (reply : Reply) → can_have shards request reply ≡ true

@@ -26,10 +26,10 @@ row k answer = record { ask = k; answer = answer }
 abbrev pub AreFrom : ℕ → List Asked → Type 0
 AreFrom n asked = map (λ a. a.ask) asked ≡ range_with_len n (length asked)
 
-first_is : (n m : ℕ) (o : Option Reply) (asked : List Asked) → AreFrom n (row m o ∷ asked) → m ≡ n
+pub first_is : (n m : ℕ) (o : Option Reply) (asked : List Asked) → AreFrom n (row m o ∷ asked) → m ≡ n
 first_is n m o asked e = cc
 
-later_are : (n m : ℕ) (o : Option Reply) (asked : List Asked) → AreFrom n (row m o ∷ asked) → AreFrom (n + 1) asked
+pub later_are : (n m : ℕ) (o : Option Reply) (asked : List Asked) → AreFrom n (row m o ∷ asked) → AreFrom (n + 1) asked
 later_are n m o asked e = cc
 
 -- ---- the asks after this one

@@ -2,8 +2,11 @@ pub mod FieldLemmas
 pub mod Fitting
 pub mod GeneratorLemmas
 pub mod KeepAliveLemmas
+pub mod LateCauses
+pub mod LaterLines
 pub mod LineLemmas
 pub mod Places
 pub mod Ranges
+pub mod RunningOut
 pub mod Shapes
 pub mod Sources

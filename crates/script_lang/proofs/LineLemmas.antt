@@ -1,11 +1,8 @@
 -- Reading a script line by line: what is read of the whole is what is read from here on, after the commands so far.
-use Rattle.std.proofs.Common.{◌≡◌, ℕ, ◌+◌, List, [], ◌∷◌, ◌++◌, length, Bool, true, false, cond, eqb, nat_le, IsTrue, Result, Ok, Err, sym, ap, ◌∙◌, subst}
+use Rattle.std.proofs.Common.{◌≡◌, ◌<◌, ℕ, ◌+◌, List, [], ◌∷◌, ◌++◌, length, Bool, true, false, cond, eqb, nat_le, IsTrue, Result, Ok, Err, sym, ap, ◌∙◌, subst}
 use Rattle.task_ids.specs.declared.cause.Cause.{Cause}
 use Rattle.task_ids.specs.declared.cause.Cause.TheVariants.{TooManyLines}
-use Rattle.shard_docs.specs.declared.fault.CorpusError.{CorpusError}
-use Rattle.shard_docs.specs.declared.fault.CorpusError.TheVariants as corpus
-use Rattle.shard_docs.specs.Fault as shard
-use Rattle.shard_docs.specs.Fault.{Fault, and_then, on_line}
+use Rattle.shard_docs.specs.Fault.{Fault, and_then, on_line, MayRunOut}
 use Rattle.shard_docs.specs.Json.{is_text, whole_json_of}
 use Rattle.shard_docs.proofs.ActionLemmas.{found_on_line}
 use Rattle.shard_docs.proofs.TextLines.{text_of_whole, through}
@@ -13,15 +10,16 @@ use Rattle.script_lang.specs.declared.command.Command.{Command}
 use Rattle.script_lang.specs.declared.command.Mode.{Mode}
 use Rattle.script_lang.specs.declared.error.ScriptError.{ScriptError}
 use Rattle.script_lang.specs.declared.error.ScriptError.TheVariants.{Bad, Memory}
-use Rattle.script_lang.specs.Answers.{Tells, OnMemory, same_error}
+use Rattle.script_lang.specs.Answers.{Tells}
 use Rattle.script_lang.specs.Commands.{command_in}
 use Rattle.script_lang.specs.Script.{max_commands, command_of, commands_of}
+use Rattle.script_lang.proofs.RunningOut.{line_runs_out, read_runs_out}
 
 -- a fault of a first step is one of both
 first_tells : {A B : Type 0} (found : Result A Fault) (f : A → Result B Fault) (error : ScriptError) → Tells error found → Tells error (and_then found f)
 first_tells (Ok x) f (Bad line cause) told = cc
 first_tells (Err e) f (Bad line cause) told = let same : ◌≡◌ {A = Fault} e (line, cause) = cc in ap Err same
-first_tells found f Memory told = tt
+first_tells found f (Memory line) told = tt
 
 module _ (mode : Mode) (nodes number : ℕ) (before : List Command) (here : List (List ℕ)) (whole : Result (List Command) Fault) (so_far : commands_of mode nodes number before here ≡ whole) where
   pub read_at_end : here ≡ [] → whole ≡ Ok before
@@ -46,26 +44,17 @@ module _ (mode : Mode) (nodes number : ℕ) (before : List Command) (here : List
           subst (Tells error) from_command
           (first_tells (on_line number (command_of mode nodes before line)) (λ command. commands_of mode nodes (number + 1) (before ++ command ∷ []) rest) error told)
 
+      -- memory may run out at its line while the command is read, and once it was
+      pub short_here : length before < 65535 → IsTrue (is_text line) → MayRunOut whole number
+      short_here few text = subst (λ found. MayRunOut found number) from_command (line_runs_out mode nodes number before line rest few text)
+
+      pub short_after : (command : Command) → on_line number (command_of mode nodes before line) ≡ Ok command → MayRunOut whole number
+      short_after command is = subst (λ found. MayRunOut found number) from_command (read_runs_out mode nodes number before line rest command is)
+
       pub goes_on : (command : Command) → on_line number (command_of mode nodes before line) ≡ Ok command → commands_of mode nodes (number + 1) (before ++ command ∷ []) rest ≡ whole
       goes_on command is = sym (ap (λ found. and_then found (λ x. commands_of mode nodes (number + 1) (before ++ x ∷ []) rest)) is) ∙ from_command
 
--- ---- want of memory
-
--- what holds is said of want of memory too
-pub said_here : {X : Type 0} (P : Type 0) (answer : Result X ScriptError) → P → OnMemory answer P
-said_here P (Ok x) p = tt
-said_here P (Err (Bad line cause)) p = tt
-said_here P (Err Memory) p = p
-
--- and what follows from it
-pub said_so : (P Q : Type 0) (error : ScriptError) → (P → Q) → OnMemory {X = ℕ} (Err error) P → OnMemory {X = ℕ} (Err error) Q
-said_so P Q (Bad line cause) f p = tt
-said_so P Q Memory f p = f p
-
--- and what follows from what is said of it at a line of a corpus
-pub said_as : (P Q : Type 0) (error : CorpusError) → (P → Q) → shard.OnMemory {X = ℕ} (Err error) P → OnMemory {X = ℕ} (Err (same_error error)) Q
-said_as P Q (corpus.Bad line cause) f p = tt
-said_as P Q corpus.Memory f p = f p
+-- ---- a line that was read
 
 if_few : {A : Type 0} (many : Bool) (found : Result A Cause) (x : A) → cond many (Err TooManyLines) found ≡ Ok x → found ≡ Ok x
 if_few true found x e = cc

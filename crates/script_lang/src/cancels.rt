@@ -8,11 +8,11 @@ ghost use Rattle.script_lang.specs.Fields.{seen};
 ghost use Rattle.script_lang.specs.Seen.{cancel_seen};
 
 use crate::command::Command;
-use crate::error::CommandError;
 use crate::fields::{both, field, fields_of, flag_or_false, text_or};
 use crate::targets::{NamedTarget, target_from, target_in};
 use crate::texts::text_from;
 use serde_json::Value;
+use shard_docs::LineError;
 use std::alloc::Global;
 use task_ids::Cause;
 
@@ -61,7 +61,7 @@ pub(crate) fn cancel_in(
     alloc: Global,
     before: &[Command],
     value: &Value,
-) -> Result<Command, CommandError>
+) -> Result<Command, LineError>
     requires { length before.now < 2 ^ 32 }
     ensures { Reads (λ c. c) result (spec.cancel_in before.now (view value.now)) }
 {

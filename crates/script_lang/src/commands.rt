@@ -10,7 +10,6 @@ ghost use Rattle.script_lang.specs.Commands as spec;
 
 use crate::cancels::cancel_in;
 use crate::command::{Command, Mode};
-use crate::error::CommandError;
 use crate::fields::{
     both, field, fields_of, moves_in, needed_number, node_in, number_in, task_in, time_in, truth_in,
 };
@@ -21,6 +20,7 @@ use crate::scrolls::{clear_in, scroll_in};
 use crate::searches::search_in;
 use crate::targets::awaited_in;
 use serde_json::{Map, Value};
+use shard_docs::LineError;
 use std::alloc::Global;
 use task_ids::Cause;
 
@@ -99,7 +99,7 @@ fn command_of_kind(
     before: &[Command],
     kind: Kind,
     value: &Value,
-) -> Result<Command, CommandError>
+) -> Result<Command, LineError>
     requires nodes { nodes ≤ 15 }
     requires few { length before.now < 2 ^ 32 }
     requires whole { has_float (view value.now) ≡ false }
@@ -149,7 +149,7 @@ pub(crate) fn command_in(
     nodes: u32,
     before: &[Command],
     value: &Value,
-) -> Result<Command, CommandError>
+) -> Result<Command, LineError>
     requires nodes { nodes ≤ 15 }
     requires few { length before.now < 2 ^ 32 }
     requires whole { has_float (view value.now) ≡ false }
@@ -157,11 +157,11 @@ pub(crate) fn command_in(
     ensures { Reads (λ c. c) result (spec.command_in mode nodes before.now (view value.now)) }
 {
     let Some((name, value)) = only_member(value) else {
-        return Err(CommandError::Refused(Cause::NotObject));
+        return Err(LineError::Refused(Cause::NotObject));
     };
     let kind = Kind::named(name)?;
     if mode == Mode::Run && kind.is_schedule() {
-        return Err(CommandError::Refused(Cause::ScheduleLineInRun));
+        return Err(LineError::Refused(Cause::ScheduleLineInRun));
     }
     command_of_kind(alloc, nodes, before, kind, value)
 }

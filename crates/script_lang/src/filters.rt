@@ -7,9 +7,9 @@ ghost use Rattle.script_lang.specs.Fields.{seen};
 ghost use Rattle.script_lang.specs.Filters as spec;
 ghost use Rattle.script_lang.specs.Seen.{filter_seen};
 
-use crate::error::CommandError;
 use crate::fields::{both, field, optional_task, optional_text};
 use serde_json::{Map, Value};
+use shard_docs::LineError;
 use std::alloc::Global;
 use task_ids::{Cause, TaskId};
 use tasks_api::Filter;
@@ -48,7 +48,7 @@ pub(crate) fn filter_parts(fields: &Map<String, Value>) -> Result<FilterParts<'_
 }
 
 /// The filter that these are the parts of.
-pub(crate) fn filter_from(alloc: Global, parts: FilterParts<'_>) -> Result<Filter, CommandError>
+pub(crate) fn filter_from(alloc: Global, parts: FilterParts<'_>) -> Result<Filter, LineError>
     ensures { Reads (λ filter. filter) result (Ok (filter_seen parts.entry)) }
 {
     Ok(Filter::read(alloc, parts.actions, parts.nodes, parts.parent)?)

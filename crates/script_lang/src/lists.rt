@@ -8,10 +8,10 @@ ghost use Rattle.script_lang.specs.Fields.{seen};
 ghost use Rattle.script_lang.specs.Seen.{list_seen};
 
 use crate::command::Command;
-use crate::error::CommandError;
 use crate::fields::{both, field, fields_of, flag_or_false, group_or_nodes};
 use crate::filters::{FilterParts, filter_from, filter_parts};
 use serde_json::Value;
+use shard_docs::LineError;
 use std::alloc::Global;
 use task_ids::Cause;
 use tasks_api::GroupBy;
@@ -45,7 +45,7 @@ fn list_parts(value: &Value) -> Result<ListParts<'_>, Cause>
 }
 
 /// A list of tasks.
-pub(crate) fn list_in(alloc: Global, value: &Value) -> Result<Command, CommandError>
+pub(crate) fn list_in(alloc: Global, value: &Value) -> Result<Command, LineError>
     ensures { Reads (λ c. c) result (spec.list_in (view value.now)) }
 {
     let parts = list_parts(value)?;

@@ -11,12 +11,12 @@ ghost use Rattle.script_lang.specs.Fields.{seen};
 ghost use Rattle.script_lang.specs.Seen.{reindex_seen};
 
 use crate::command::Command;
-use crate::error::CommandError;
 use crate::fields::{
     both, field, fields_of, node_or_first, object_in, optional_text, rate_or_none, slices_or_one,
 };
 use crate::texts::shared_from;
 use serde_json::Value;
+use shard_docs::LineError;
 use std::alloc::Global;
 use task_ids::{Body, Cause};
 
@@ -57,7 +57,7 @@ fn reindex_parts(nodes: u32, value: &Value) -> Result<ReindexParts<'_>, Cause>
 }
 
 /// A reindex on a cluster of so many nodes.
-pub(crate) fn reindex_in(alloc: Global, nodes: u32, value: &Value) -> Result<Command, CommandError>
+pub(crate) fn reindex_in(alloc: Global, nodes: u32, value: &Value) -> Result<Command, LineError>
     requires nodes { nodes ≤ 15 }
     requires whole { has_float (view value.now) ≡ false }
     requires nests { depth (view value.now) ≤ max_depth }

@@ -9,11 +9,11 @@ ghost use Rattle.script_lang.specs.Seen.{scroll_seen};
 ghost use Rattle.script_lang.specs.Targets.{context_in};
 
 use crate::command::{Command, ContextTarget};
-use crate::error::CommandError;
 use crate::fields::{both, field, fields_of, optional_keep_alive, optional_text, task_in};
 use crate::targets::{NamedFor, reference_in};
 use crate::texts::shared_from;
 use serde_json::{Map, Value};
+use shard_docs::LineError;
 use std::alloc::Global;
 use task_ids::Cause;
 
@@ -71,7 +71,7 @@ pub(crate) fn scroll_in(
     alloc: Global,
     before: &[Command],
     value: &Value,
-) -> Result<Command, CommandError>
+) -> Result<Command, LineError>
     requires { length before.now < 2 ^ 32 }
     ensures { Reads (λ c. c) result (spec.scroll_in before.now (view value.now)) }
 {

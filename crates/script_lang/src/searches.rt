@@ -12,12 +12,12 @@ ghost use Rattle.script_lang.specs.Fields.{seen, body_or_empty};
 ghost use Rattle.script_lang.specs.Seen.{search_seen};
 
 use crate::command::Command;
-use crate::error::CommandError;
 use crate::fields::{
     body_in, both, field, fields_of, node_or_first, optional_keep_alive, optional_text, text_of,
 };
 use crate::texts::{shared_from, text_from};
 use serde_json::Value;
+use shard_docs::LineError;
 use std::alloc::Global;
 use task_ids::{Body, Cause};
 
@@ -35,7 +35,7 @@ struct SearchParts<'v> {
 }
 
 /// The body of a search, an empty object where there is none.
-fn body_from(alloc: Global, value: Option<&Value>) -> Result<Body, CommandError>
+fn body_from(alloc: Global, value: Option<&Value>) -> Result<Body, LineError>
     requires { IsSource (body_or_empty (option_map (λ v. view v.now) value)) }
     ensures { Reads (λ b. b) result (Ok (body_or_empty (option_map (λ v. view v.now) value.entry))) }
 {
@@ -69,7 +69,7 @@ fn search_parts(nodes: u32, value: &Value) -> Result<SearchParts<'_>, Cause>
 }
 
 /// A search on a cluster of so many nodes.
-pub(crate) fn search_in(alloc: Global, nodes: u32, value: &Value) -> Result<Command, CommandError>
+pub(crate) fn search_in(alloc: Global, nodes: u32, value: &Value) -> Result<Command, LineError>
     requires nodes { nodes ≤ 15 }
     requires whole { has_float (view value.now) ≡ false }
     requires nests { depth (view value.now) ≤ max_depth }

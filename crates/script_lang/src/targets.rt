@@ -8,10 +8,10 @@ ghost use Rattle.script_lang.specs.Seen.{target_seen};
 ghost use Rattle.script_lang.specs.Targets as spec;
 
 use crate::command::{CancelTarget, Command};
-use crate::error::CommandError;
 use crate::fields::{field, task_in};
 use crate::filters::{FilterParts, filter_from, filter_parts, has_filter};
 use serde_json::{Map, Value};
+use shard_docs::LineError;
 use std::alloc::Global;
 use task_ids::{Cause, TaskId};
 
@@ -112,10 +112,7 @@ pub(crate) fn target_in<'v>(
 }
 
 /// The target of a cancel.
-pub(crate) fn target_from(
-    alloc: Global,
-    named: NamedTarget<'_>,
-) -> Result<CancelTarget, CommandError>
+pub(crate) fn target_from(alloc: Global, named: NamedTarget<'_>) -> Result<CancelTarget, LineError>
     ensures { Reads (λ target. target) result (Ok (target_seen named.entry)) }
 {
     match named {

@@ -15,7 +15,7 @@ const CLUSTER: Cluster = Cluster {
 /// How many commands are read of a script for a mode, or why it is refused.
 fn counted_in(alloc: Global, mode: Mode, script: &str) -> Result<usize, ScriptError> {
     if script.len() > 67_108_864 {
-        return Err(ScriptError::Memory);
+        return Err(ScriptError::Memory { line: 0 });
     }
     match read_script(alloc, script.as_bytes(), 2, mode, &CLUSTER) {
         Ok(script) => Ok(script.commands.as_slice().len()),
@@ -56,7 +56,7 @@ fn all_bad(alloc: Global, lines: &str, cause: Cause) -> bool {
 fn with_line(alloc: Global, earlier: &str, line: &str) -> Result<usize, ScriptError> {
     match format!(in alloc; "{earlier}{line}") {
         Ok(script) => counted(alloc, script.as_str()),
-        Err(_) => Err(ScriptError::Memory),
+        Err(_) => Err(ScriptError::Memory { line: 0 }),
     }
 }
 

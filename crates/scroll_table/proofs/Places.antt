@@ -1,7 +1,7 @@
 -- Each task of a row has a place of its own, also after one more and one less.
 use Rattle.std.proofs.Common.{◌≡◌, ◌≢◌, ℕ, zero, suc, ◌+◌, ◌-◌, ◌<◌, ◌≤◌, ◌==◌, List, [], ◌∷◌, ◌++◌, length, slice_get, get_or, Option, None, Some, option_map, Bool, true, false, cond, ◌⊎◌, inl, inr, Ordering, Less, Equal, Greater, refl, sym, ap, subst, arith, ◌∙◌, ne_eqb, eq-eqb}
 use Rattle.std.specs.Ordering.{is_eq}
-use Rattle.std.specs.Cmp.{eq_by_cmp_equiv}
+use Rattle.std.specs.Cmp.{Equal-is, eq_by_cmp_equiv}
 use Rattle.std.specs.BTreeMap.{BTreeMap, get, is_at}
 use Rattle.std.proofs.lemmas.Bool.{both_ways, cases_eq}
 use Rattle.std.proofs.lemmas.Option.{slice_get_within, slice_get-get_or}
@@ -11,13 +11,8 @@ use Rattle.task_ids.proofs.TaskIdKeys.{exact_ids, ids_total}
 
 -- ---- tasks that are one
 
-equal : (o : Ordering) → is_eq o ≡ true → o ≡ Equal
-equal Less e = absurd (cc)
-equal Equal e = refl
-equal Greater e = absurd (cc)
-
 pub same_at : (a b : TaskId) → is_at (task_id_cmp a) b ≡ true → a ≡ b
-same_at a b e = exact_ids a b (equal (task_id_cmp a b) e)
+same_at a b e = exact_ids a b ((Equal-is (task_id_cmp a b)).0 e)
 
 pub self_at : (a : TaskId) → is_at (task_id_cmp a) a ≡ true
 self_at a = (eq_by_cmp_equiv ids_total).refl a

@@ -3,32 +3,12 @@ use Rattle.std.specs.Prelude.{◌≡◌, List, [], ◌∷◌, Bool, true, false,
 use Rattle.std.proofs.Common.{sym, ◌∙◌, ap}
 use Rattle.std.specs.declared.cmp.Ordering.{Ordering}
 use Rattle.std.specs.declared.cmp.Ordering.TheVariants.{Less, Equal, Greater}
-use Rattle.std.specs.Ordering.{nat_cmp, ordering_then, ordering_reverse, is_le, is_gt}
-use Rattle.std.specs.Cmp.{IsTotalOrder, then_total, on_total, nat_cmp_total, upto}
-use Rattle.std.specs.FinMap.{nat_cmp-IsAntisymmetric}
-use Rattle.query_match.specs.Sorting.{key_cmp}
-use Rattle.query_match.specs.Orders.{key_cmp_total, key_cmp_equal}
+use Rattle.std.specs.Ordering.{ordering_reverse, is_le, is_gt}
+use Rattle.std.specs.Cmp.{upto}
 use Rattle.task_events.specs.declared.request.HitKey.{HitKey}
 use Rattle.task_events.specs.HitOrder.{hit_cmp, placed, in_hit_order}
+pub use Rattle.task_events.proofs.HitKeys.{hit_cmp_total, hit_cmp_equal}
 use Rattle.search_phase.proofs.Sorting.{IsLinear, put, put_all}
-
-pub hit_cmp_total : IsTotalOrder hit_cmp
-hit_cmp_total = then_total (on_total (λ (k : HitKey). k.sort) key_cmp_total) (then_total (on_total (λ (k : HitKey). k.shard) nat_cmp_total) (on_total (λ (k : HitKey). k.place) nat_cmp_total))
-
-both_tie : (r s : Ordering) → ordering_then r s ≡ Equal → (r ≡ Equal) × (s ≡ Equal)
-both_tie Less s e = absurd cc
-both_tie Equal s e = (refl, e)
-both_tie Greater s e = absurd cc
-
-pub hit_cmp_equal : (a b : HitKey) → hit_cmp a b ≡ Equal → a ≡ b
-hit_cmp_equal a b e =
-    let first : (key_cmp a.sort b.sort ≡ Equal) × (ordering_then (nat_cmp a.shard b.shard) (nat_cmp a.place b.place) ≡ Equal) = both_tie (key_cmp a.sort b.sort) (ordering_then (nat_cmp a.shard b.shard) (nat_cmp a.place b.place)) e in
-    let second : (nat_cmp a.shard b.shard ≡ Equal) × (nat_cmp a.place b.place ≡ Equal) = both_tie (nat_cmp a.shard b.shard) (nat_cmp a.place b.place) first.1 in
-    λ i. record {
-      sort = key_cmp_equal a.sort b.sort first.0 i;
-      shard = nat_cmp-IsAntisymmetric a.shard b.shard second.0 i;
-      place = nat_cmp-IsAntisymmetric a.place b.place second.1 i;
-    }
 
 abbrev pub stands_first : HitKey → HitKey → Bool
 stands_first a b = is_le (hit_cmp a b)

@@ -2,6 +2,7 @@ pub mod AnswerParts
 pub mod Answered
 pub mod Asks
 pub mod CountsFit
+pub mod CursorCuts
 pub mod Cut
 pub mod FetchAnswers
 pub mod FetchTurns
@@ -10,7 +11,10 @@ pub mod Growing
 pub mod Growth
 pub mod HitKeys
 pub mod Kept
+pub mod KeysApart
+pub mod ListedHits
 pub mod Lookups
+pub mod NextCut
 pub mod NextRows
 pub mod Numbers
 pub mod Ordered

@@ -67,7 +67,7 @@ pub all_behind : (a b : HitKey) → stands_first a b ≡ true → (keys : List H
 all_behind a b h [] all = tt
 all_behind a b h (key ∷ keys) all = (hits_linear.trans a b key h all.0, all_behind a b h keys all.1)
 
-all-placed : (P : HitKey → Type 0) (key : HitKey) (keys : List HitKey) → P key → AllByRecursion P keys → AllByRecursion P (placed key keys)
+pub all-placed : (P : HitKey → Type 0) (key : HitKey) (keys : List HitKey) → P key → AllByRecursion P keys → AllByRecursion P (placed key keys)
 all-placed P key [] h all = (h, tt)
 all-placed P key (next ∷ later) h all =
     elim (stands_first key next) as (λ b. AllByRecursion P (cond b (key ∷ next ∷ later) (next ∷ placed key later))) [

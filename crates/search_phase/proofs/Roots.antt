@@ -20,6 +20,7 @@ use Rattle.search_phase.specs.declared.fetching.Fetching.{Fetching}
 use Rattle.search_phase.specs.Searching.{Searching, AreRising, next_request, next_step, wants_to_ask, is_above, with_ask, is_open, awaited, takes, answered_by, with_answer}
 use Rattle.search_phase.specs.FetchPhase.{fetching_of, fetching_in, request_by, fetch_by}
 use Rattle.search_phase.specs.Roots.{IsRoot}
+use Rattle.search_phase.proofs.Rows.{few_filter}
 use Rattle.search_phase.proofs.Sorting.{by_test}
 use Rattle.search_phase.proofs.Requests.{list_all-slice_get, slice_get_none, query_requests, requests_after, request_of_query, slice_get-append_right, length-query_requests, length-requests_after, length-requests_before, slice_get_below}
 use Rattle.search_phase.proofs.Asks.{IsSearching-ask, asks_by, has_queried-ask, tops_in-ask}
@@ -146,10 +147,6 @@ takes_at s fetching capacity h ask reply place e =
 -- ---- what stays
 
 -- a search has at most two asks for each shard
-length-filter : {X : Type 0} (p : X → Bool) (xs : List X) → length (filter p xs) ≤ length xs
-length-filter p [] = omega arith
-length-filter p (x ∷ xs) = let h : length (filter p xs) ≤ length xs = length-filter p xs in by_test (p x) (λ yes. rw yes (omega arith)) (λ other. rw other (omega arith))
-
 pub length-filter_map : {X Y : Type 0} (h : X → Option Y) (xs : List X) → length (filter_map h xs) ≤ length xs
 length-filter_map h [] = omega arith
 length-filter_map {X} {Y} h (x ∷ xs) = of_option (h x) (length-filter_map h xs)
@@ -171,7 +168,7 @@ few_requests s =
     let tops : List ShardTop = tops_in (length s.reading.shards) s.asked in
     let all : length (requests_of s.reading s.asked) ≡ length s.reading.shards + length (fetches_of s.reading.ask tops) = length-requests_after s.reading s.asked q in
     let each : length (fetches_of s.reading.ask tops) ≡ length (won_tops s.reading.ask.body tops) = length-map (won_tops s.reading.ask.body tops) (fetch_of s.reading.ask (winners_among s.reading.ask.body tops)) in
-    let won : length (won_tops s.reading.ask.body tops) ≤ length tops = length-filter (has_winner (winners_among s.reading.ask.body tops)) tops in
+    let won : length (won_tops s.reading.ask.body tops) ≤ length tops = few_filter (has_winner (winners_among s.reading.ask.body tops)) tops in
     let few : length tops ≤ length s.reading.shards = few_tops (length s.reading.shards) s.asked in
     omega arith)
     (λ waiting. let few : length (requests_of s.reading s.asked) ≡ length s.reading.shards = length-requests_before s.reading s.asked waiting in omega arith)

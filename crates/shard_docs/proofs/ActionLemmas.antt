@@ -7,10 +7,10 @@ use Rattle.serde_json.specs.Written.{has_float}
 use Rattle.task_ids.specs.declared.cause.Cause.{Cause}
 use Rattle.task_ids.specs.declared.cause.Cause.TheVariants.{BadAction}
 use Rattle.shard_docs.specs.declared.action.BulkKind.{BulkKind}
-use Rattle.shard_docs.specs.declared.fault.CorpusError.{CorpusError}
-use Rattle.shard_docs.specs.declared.fault.CorpusError.TheVariants.{Bad, Memory}
+use Rattle.shard_docs.specs.declared.fault.LineError.{LineError}
+use Rattle.shard_docs.specs.declared.fault.LineError.TheVariants.{Refused, Memory}
 use Rattle.shard_docs.specs.BulkAction.{has_one_key, chosen, kind_of, index_of, id_or_auto, target_of, action_of_value}
-use Rattle.shard_docs.specs.Fault.{Fault, and_then, on_line, Tells}
+use Rattle.shard_docs.specs.Fault.{and_then, on_line, Says}
 use Rattle.shard_docs.proofs.FloatLemmas.{found_whole}
 
 -- what is found at a line was found
@@ -18,11 +18,11 @@ pub found_on_line : {A : Type 0} (at : ℕ) (found : Result A Cause) (x : A) →
 found_on_line at (Ok y) x e = let same : y ≡ x = cc in ap Ok same
 found_on_line at (Err cause) x e = cc
 
--- a fault of a first step is one of both
-pub first_tells : {A B : Type 0} (at : ℕ) (found : Result A Cause) (f : A → Result B Cause) (error : CorpusError) → Tells error (on_line at found) → Tells error (on_line at (and_then found f))
-first_tells at (Ok x) f (Bad line cause) told = cc
-first_tells at (Err e) f (Bad line cause) told = let same : ◌≡◌ {A = Fault} (at, e) (line, cause) = cc in ap Err same
-first_tells at found f Memory told = tt
+-- a cause of a first step is one of both
+pub first_says : {A B : Type 0} (found : Result A Cause) (f : A → Result B Cause) (error : LineError) → Says error found → Says error (and_then found f)
+first_says (Ok x) f (Refused cause) said = cc
+first_says (Err e) f (Refused cause) said = let same : e ≡ cause = cc in ap Err same
+first_says found f Memory said = tt
 
 chosen_whole : (one : Bool) (first second : Option Data) (choice : BulkKind × Data) → ((d : Data) → first ≡ Some d → has_float d ≡ false) → ((d : Data) → second ≡ Some d → has_float d ≡ false)
     → cond one (chosen first second) (Err BadAction) ≡ Ok choice → has_float choice.1 ≡ false
@@ -32,19 +32,18 @@ chosen_whole true None (Some d) choice f s e = let same : d ≡ choice.1 = cc in
 chosen_whole true None None choice f s e = cc
 
 -- what an action is about has no float where its line has none
-pub target_whole : (at : ℕ) (value : Data) (choice : BulkKind × Data) → has_float value ≡ false → on_line at (kind_of value) ≡ Ok choice → has_float choice.1 ≡ false
-target_whole at value choice whole e =
+pub target_whole : (value : Data) (choice : BulkKind × Data) → has_float value ≡ false → kind_of value ≡ Ok choice → has_float choice.1 ≡ false
+target_whole value choice whole e =
     chosen_whole (has_one_key value) (get (codes "index") value) (get (codes "create") value) choice
-    (λ d found. found_whole (codes "index") value d whole found) (λ d found. found_whole (codes "create") value d whole found)
-    (found_on_line at (kind_of value) choice e)
+    (λ d found. found_whole (codes "index") value d whole found) (λ d found. found_whole (codes "create") value d whole found) e
 
--- a fault of the id is one of the action
-pub id_tells : (at : ℕ) (value : Data) (choice : BulkKind × Data) (index : List ℕ) (error : CorpusError) → on_line at (kind_of value) ≡ Ok choice
-    → Some index ≡ index_of choice.1 → Tells error (on_line at (ok_or (id_or_auto at (get (codes "_id") choice.1)) BadAction)) → Tells error (on_line at (action_of_value at value))
+-- a cause of the id is one of the action
+pub id_says : (at : ℕ) (value : Data) (choice : BulkKind × Data) (index : List ℕ) (error : LineError) → kind_of value ≡ Ok choice → Some index ≡ index_of choice.1
+    → Says error (ok_or (id_or_auto at (get (codes "_id") choice.1)) BadAction) → Says error (action_of_value at value)
 unfolding action_of_value
-id_tells at value choice index error kind named told =
-    subst (λ found. Tells error (on_line at found))
+id_says at value choice index error kind named said =
+    subst (Says error)
     (sym
-    (ap (λ found. and_then found (λ x. target_of at x.0 x.1)) (found_on_line at (kind_of value) choice kind)
+    (ap (λ found. and_then found (λ x. target_of at x.0 x.1)) kind
     ∙ ap (λ found. and_then (ok_or found BadAction) (λ i. and_then (ok_or (id_or_auto at (get (codes "_id") choice.1)) BadAction) (λ id. Ok (record { kind = choice.0; index = i; id = id })))) (sym named)))
-    (first_tells at (ok_or (id_or_auto at (get (codes "_id") choice.1)) BadAction) (λ id. Ok (record { kind = choice.0; index = index; id = id })) error told)
+    (first_says (ok_or (id_or_auto at (get (codes "_id") choice.1)) BadAction) (λ id. Ok (record { kind = choice.0; index = index; id = id })) error said)

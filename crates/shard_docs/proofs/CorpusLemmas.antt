@@ -1,5 +1,5 @@
 -- Reading a corpus line by line: what is found in the whole is what is found from here on, after the documents so far.
-use Rattle.std.proofs.Common.{◌≡◌, ℕ, ◌+◌, ◌-◌, List, [], ◌∷◌, ◌++◌, length, drop, Bool, true, false, cond, eqb, Result, Ok, Err, refl, sym, ap, ◌∙◌, subst}
+use Rattle.std.proofs.Common.{◌≡◌, ◌≤◌, ℕ, ◌+◌, ◌-◌, List, [], ◌∷◌, ◌++◌, length, drop, Bool, true, false, cond, eqb, Result, Ok, Err, refl, sym, ap, ◌∙◌, subst, arith}
 use Rattle.std.specs.Str.{bytes_eq}
 use Rattle.std.specs.Str.Lines.{lines}
 use Rattle.task_ids.specs.declared.cause.Cause.TheVariants.{NoSource}
@@ -10,15 +10,17 @@ use Rattle.shard_docs.specs.declared.fault.CorpusError.TheVariants.{Bad, Memory}
 use Rattle.shard_docs.specs.BulkAction.{action_of}
 use Rattle.shard_docs.specs.Corpus.{Read, dashes, is_there, source_line, document, next_document, documents}
 use Rattle.shard_docs.specs.Ends.{IsEndOf}
-use Rattle.shard_docs.specs.Fault.{Fault, and_then, on_line, Tells}
+use Rattle.shard_docs.specs.Fault.{Fault, and_then, on_line, MayRunOut, Tells}
 use Rattle.shard_docs.specs.Seen.{Name, has_name}
+use Rattle.shard_docs.proofs.FaultLines.{numbered, after_numbered}
 use Rattle.shard_docs.proofs.NamesLemmas.{SameNames}
+use Rattle.shard_docs.proofs.RunningOut.{runs_then, runs_before}
 
 -- a fault of a first step is one of all of them
 first_tells : {A B : Type 0} (found : Result A Fault) (f : A → Result B Fault) (error : CorpusError) → Tells error found → Tells error (and_then found f)
 first_tells (Ok x) f (Bad line cause) told = cc
 first_tells (Err e) f (Bad line cause) told = let same : ◌≡◌ {A = Fault} e (line, cause) = cc in ap Err same
-first_tells found f Memory told = tt
+first_tells found f (Memory line) told = tt
 
 at_empty : (number : ℕ) (before : List CorpusLine) (line : List ℕ) (rest : List (List ℕ)) → eqb (length line) 0 ≡ true → documents number before (line ∷ rest) ≡ documents (number + 1) before rest
 unfolding documents
@@ -110,6 +112,18 @@ module _ (number : ℕ) (before : List CorpusLine) (here : List (List ℕ)) (who
           pub document_fails : (error : CorpusError) → Tells error (next_document number (λ index id. has_name index id names) line rest) → Tells error whole
           document_fails error told =
               subst (Tells error) from_next (first_tells (next_document number (λ index id. has_name index id names) line rest) (after_document number before) error told)
+
+          -- memory may run out here where it may while the next document is read
+          pub short_here : (at : ℕ) → at ≤ number + 1 → MayRunOut (next_document number (λ index id. has_name index id names) line rest) at → MayRunOut whole at
+          short_here at le runs =
+              subst (λ found. MayRunOut found at) from_next
+              (runs_then at (next_document number (λ index id. has_name index id names) line rest) (after_document number before) runs
+              (λ next. runs_before at (number + 2) (after_document number before next) (omega arith)
+              (after_numbered (number + 2) (length next.1) (after_document number before next) (numbered (number + 2) (before ++ next.0 ∷ []) next.1))))
+
+          -- and where it was read
+          pub short_after : (next : CorpusLine × List (List ℕ)) → next_document number (λ index id. has_name index id names) line rest ≡ Ok next → MayRunOut whole number
+          short_after next is = short_here number (omega arith) (subst (λ found. MayRunOut found number) (sym is) tt)
 
           pub goes_on : (found : CorpusLine) (more : List (List ℕ)) → next_document number (λ index id. has_name index id names) line rest ≡ Ok (found, more)
               → documents (number + 2) (before ++ found ∷ []) more ≡ whole

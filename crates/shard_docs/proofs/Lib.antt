@@ -7,6 +7,7 @@ pub mod CorpusLemmas
 pub mod DeadRows
 pub mod DeathQueue
 pub mod Exact
+pub mod FaultLines
 pub mod FloatLemmas
 pub mod Forgetting
 pub mod Gaining
@@ -20,6 +21,7 @@ pub mod KeptIndexed
 pub mod KeptLemmas
 pub mod KeptPlaces
 pub mod KeptReads
+pub mod LateCauses
 pub mod LinesLemmas
 pub mod LivingLemmas
 pub mod NamesLemmas
@@ -27,6 +29,7 @@ pub mod Numbered
 pub mod OneNumber
 pub mod PickedPlaces
 pub mod RowLemmas
+pub mod RunningOut
 pub mod SeenLemmas
 pub mod ShardParts
 pub mod ShownMore

@@ -8,8 +8,8 @@ use Rattle.task_ids.specs.declared.cause.Cause.{Cause}
 use Rattle.task_ids.specs.declared.cause.Cause.TheVariants.{LineTooLong, BadUtf8, BadJson}
 use Rattle.task_ids.specs.declared.corpus.CorpusLine.{CorpusLine}
 use Rattle.shard_docs.specs.declared.action.BulkAction.{BulkAction}
-use Rattle.shard_docs.specs.declared.fault.CorpusError.{CorpusError}
-use Rattle.shard_docs.specs.declared.fault.CorpusError.TheVariants.{Bad, Memory}
+use Rattle.shard_docs.specs.declared.fault.LineError.{LineError}
+use Rattle.shard_docs.specs.declared.fault.LineError.TheVariants.{Refused, Memory}
 use Rattle.shard_docs.specs.BulkAction.{action_of_value, action_of}
 use Rattle.shard_docs.specs.Corpus.{next_document}
 use Rattle.shard_docs.specs.Fault.{and_then, on_line, OnMemory}
@@ -17,15 +17,10 @@ use Rattle.shard_docs.specs.Json.{is_text, begins_with_text, max_line, json_of, 
 use Rattle.shard_docs.proofs.ActionLemmas.{found_on_line}
 
 -- what holds is said of want of memory too
-pub said : {X : Type 0} (P : Type 0) (answer : Result X CorpusError) → P → OnMemory answer P
+pub said : {X : Type 0} (P : Type 0) (answer : Result X LineError) → P → OnMemory answer P
 said P (Ok x) p = tt
-said P (Err (Bad line cause)) p = tt
+said P (Err (Refused cause)) p = tt
 said P (Err Memory) p = p
-
--- and what follows from it
-pub said_so : (P Q : Type 0) (error : CorpusError) → (P → Q) → OnMemory {X = ℕ} (Err error) P → OnMemory {X = ℕ} (Err error) Q
-said_so P Q (Bad line cause) f p = tt
-said_so P Q Memory f p = f p
 
 -- both steps were taken
 pub through : {A B E P : Type 0} (found : Result A E) (f : A → Result B E) (y : B) → and_then found f ≡ Ok y → ((x : A) → found ≡ Ok x → P) → P

@@ -7,10 +7,8 @@ use Rattle.std.specs.BTreeMap.{BTreeMap, is_at, get}
 use Rattle.std.specs.Global.{Vec}
 use Rattle.std.specs.HashMap.{get_by_text}
 use Rattle.std.specs.Option.{option_map_or}
-use Rattle.std.specs.Ordering.{is_eq}
+use Rattle.std.specs.Cmp.{Equal-is}
 use Rattle.std.specs.Str.{bytes_eq}
-use Rattle.std.specs.declared.cmp.Ordering.{Ordering}
-use Rattle.std.specs.declared.cmp.Ordering.TheVariants.{Less, Equal, Greater}
 use Rattle.query_match.specs.Orders.{value_cmp_equal}
 use Rattle.query_match.specs.Values.{value_cmp, value_eq, same_bytes}
 use Rattle.query_match.specs.declared.scalar.Scalar.{Scalar}
@@ -18,11 +16,6 @@ use Rattle.query_match.specs.declared.scalar.Scalar.TheVariants.{Whole, Text, Bo
 use Rattle.shard_docs.specs.declared.index.Index.{Index}
 use Rattle.shard_docs.specs.Places.{places_at, places_of, MayAdd, KeepsUnless}
 use Rattle.shard_docs.proofs.Adding.{May}
-
-ties : (o : Ordering) → is_eq o ≡ true → o ≡ Equal
-ties Less h = absurd cc
-ties Equal h = refl
-ties Greater h = absurd cc
 
 own : (v : Scalar) → value_eq v v ≡ true
 own (Whole a) = (Decides-int_eq a a).1 refl
@@ -34,7 +27,7 @@ not_at : (value v : Scalar) → value_eq value v ≡ false → is_at (value_cmp 
 not_at value v apart =
     ⊎_elim
     (λ here.
-    let same : value ≡ v = value_cmp_equal value v (ties (value_cmp value v) here) in
+    let same : value ≡ v = value_cmp_equal value v ((Equal-is (value_cmp value v)).0 here) in
     absurd (true≢false (sym (subst (λ (w : Scalar). value_eq value w ≡ true) same (own value)) ∙ apart)))
     (λ other. other)
     (cases_Bool (is_at (value_cmp value) v))
@@ -54,7 +47,7 @@ module _ (old new : BTreeMap Scalar (Vec ℕ)) (value : Scalar) (places : Vec �
   at_values place may v =
       ⊎_elim
       (λ here.
-      let same : value ≡ v = value_cmp_equal value v (ties (value_cmp value v) here) in
+      let same : value ≡ v = value_cmp_equal value v ((Equal-is (value_cmp value v)).0 here) in
       let now : places_at new v ≡ places.items = ap listed (updates v ∙ ap (λ b. cond b (Some places) (get value_cmp old v)) here) in
       subst (λ (l : List ℕ). May place (places_at old v) l) (sym now) (subst (λ (w : Scalar). May place (places_at old w) places.items) same may))
       (λ other. inl (elsewhere v other))

@@ -2,6 +2,7 @@
 use Rattle.std.specs.Prelude.{ℕ, ◌+◌, List, [], ◌∷◌, ◌++◌, length, codes, Bool, true, false, ◌&&◌, ◌==◌, if◌then◌else◌, Result, Ok, Err}
 use Rattle.std.specs.List.{list_any}
 use Rattle.std.specs.Str.{bytes_eq}
+use Rattle.task_ids.specs.declared.cause.Cause.{Cause}
 use Rattle.task_ids.specs.declared.cause.Cause.TheVariants.{NoSource, Conflict}
 use Rattle.task_ids.specs.declared.corpus.CorpusLine.{CorpusLine}
 use Rattle.shard_docs.specs.declared.action.BulkAction.{BulkAction}
@@ -28,13 +29,16 @@ abbrev pub source_line : ℕ → List (List ℕ) → Result (List ℕ × List (L
 source_line number [] = Err (number, NoSource)
 source_line number (line ∷ rest) = if bytes_eq line dashes then Err (number, NoSource) else Ok (line, rest)
 
--- The document of an action at a line and of its source on the next line. To create one that is there is a conflict, told at the action's line.
+-- the document of an action is noted; to create one that is there is a conflict
+unfoldable pub noted : Bool → BulkAction → Result (Unit {0}) Cause
+noted there action = if is_create action.kind && there then Err Conflict else Ok tt
+
+-- the document of an action at a line and of its source on the next line; a conflict is told at the action's line
 unfoldable pub document : ℕ → Bool → BulkAction → List ℕ → Result CorpusLine Fault
-document number there action source =
-    if is_create action.kind && there then Err (number, Conflict)
-    else (do
-      found ← on_line (number + 1) (source_of source)
-      Ok (record { index = action.index; doc = record { id = action.id; source = found } }))
+document number there action source = do
+  known ← on_line number (noted there action)
+  found ← on_line (number + 1) (source_of source)
+  Ok (record { index = action.index; doc = record { id = action.id; source = found } })
 
 -- The document of an action line and of its source on the next line, and the lines after them. A document of this index and id is there already where it
 -- is said so.

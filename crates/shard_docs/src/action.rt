@@ -5,10 +5,10 @@ ghost use Rattle.serde_json.specs.View.{view};
 ghost use Rattle.serde_json.specs.Written.{has_float};
 ghost use Rattle.std.specs.Prelude.{codes, string_bytes};
 ghost use Rattle.shard_docs.specs.BulkAction as spec;
-ghost use Rattle.shard_docs.specs.Fault.{Gives, OnMemory, on_line};
+ghost use Rattle.shard_docs.specs.Fault.{Reads, OnMemory};
 ghost use Rattle.shard_docs.specs.Json.{is_text};
 
-use crate::fault::CorpusError;
+use crate::fault::LineError;
 use crate::json_line::whole_value_of_line;
 use serde_json::Value;
 use std::alloc::Global;
@@ -40,20 +40,20 @@ fn has_one_key(value: &Value) -> bool
     }
 }
 
-/// The kind of an action and what it is about, on a line of this number. It takes no memory.
-fn kind_of(number: u32, value: &Value) -> Result<(BulkKind, &Value), CorpusError>
-    ensures kind { Gives (λ choice. (choice.0, view choice.1.now)) result (on_line number (spec.kind_of (view value.now))) }
+/// The kind of an action and what it is about. It takes no memory.
+fn kind_of(value: &Value) -> Result<(BulkKind, &Value), LineError>
+    ensures kind { Reads (λ choice. (choice.0, view choice.1.now)) result (spec.kind_of (view value.now)) }
     ensures memory { OnMemory result ⊥ }
 {
     if !has_one_key(value) {
-        return Err(CorpusError::at(number, Cause::BadAction));
+        return Err(LineError::Refused(Cause::BadAction));
     }
     if let Some(target) = value.get("index") {
         return Ok((BulkKind::Index, target));
     }
     match value.get("create") {
         Some(target) => Ok((BulkKind::Create, target)),
-        None => Err(CorpusError::at(number, Cause::UnknownAction)),
+        None => Err(LineError::Refused(Cause::UnknownAction)),
     }
 }
 
@@ -65,41 +65,41 @@ fn index_of(target: &Value) -> Option<&str>
     if name.is_empty() { None } else { Some(name) }
 }
 
-/// An id that is written on a line of this number. What is no id is refused whatever memory there is.
-fn written_id(alloc: Global, number: u32, id: &Value) -> Result<String, CorpusError>
+/// An id that is written. What is no id is refused whatever memory there is.
+fn written_id(alloc: Global, id: &Value) -> Result<String, LineError>
     requires { has_float (view id.now) ≡ false }
-    ensures id { Gives (λ text. string_bytes text) result (on_line number (ok_or (spec.written_id (view id.now)) Cause.BadAction)) }
+    ensures id { Reads (λ text. string_bytes text) result (ok_or (spec.written_id (view id.now)) Cause.BadAction) }
     ensures memory { OnMemory result (IsSome (spec.written_id (view id.now))) }
 {
     match id {
         Value::String(text) if !text.is_empty() => Ok(text.clone()?),
         Value::Number(_) => Ok(id.to_string(alloc)?),
-        _ => Err(CorpusError::at(number, Cause::BadAction)),
+        _ => Err(LineError::Refused(Cause::BadAction)),
     }
 }
 
 /// The id that an action on a line of this number is about. What is no id is refused whatever memory there is.
-fn id_of(alloc: Global, number: u32, target: &Value) -> Result<String, CorpusError>
+fn id_of(alloc: Global, number: u32, target: &Value) -> Result<String, LineError>
     requires { has_float (view target.now) ≡ false }
-    ensures id { Gives (λ text. string_bytes text) result (on_line number (ok_or (spec.id_or_auto number (get (codes "_id") (view target.now))) Cause.BadAction)) }
+    ensures id { Reads (λ text. string_bytes text) result (ok_or (spec.id_or_auto number (get (codes "_id") (view target.now))) Cause.BadAction) }
     ensures memory { OnMemory result (IsSome (spec.id_or_auto number (get (codes "_id") (view target.now)))) }
 {
     match target.get("_id") {
-        Some(id) => written_id(alloc, number, id),
+        Some(id) => written_id(alloc, id),
         None => Ok(format!(in alloc; "auto-{number}")?),
     }
 }
 
 /// The action of a value that has no float, on a line of this number. A value that is none is refused whatever memory there is.
 #[tactic(auto, unfolding(crate::specs::BulkAction::action_of_value))]
-fn action_of_value(alloc: Global, number: u32, value: &Value) -> Result<BulkAction, CorpusError>
+fn action_of_value(alloc: Global, number: u32, value: &Value) -> Result<BulkAction, LineError>
     requires { has_float (view value.now) ≡ false }
-    ensures action { Gives (λ action. action) result (on_line number (spec.action_of_value number (view value.now))) }
+    ensures action { Reads (λ action. action) result (spec.action_of_value number (view value.now)) }
     ensures memory { OnMemory result (IsOk (spec.action_of_value number (view value.now))) }
 {
-    let (kind, target) = kind_of(number, value)?;
+    let (kind, target) = kind_of(value)?;
     let Some(index) = index_of(target) else {
-        return Err(CorpusError::at(number, Cause::BadAction));
+        return Err(LineError::Refused(Cause::BadAction));
     };
     let id = Text::new(id_of(alloc, number, target)?);
     let index = Text::new(String::from_str(alloc, index)?);
@@ -112,10 +112,10 @@ pub(crate) fn action_of_line(
     alloc: Global,
     number: u32,
     line: &[u8],
-) -> Result<BulkAction, CorpusError>
-    ensures action { Gives (λ action. action) result (on_line number (spec.action_of number line.now)) }
+) -> Result<BulkAction, LineError>
+    ensures action { Reads (λ action. action) result (spec.action_of number line.now) }
     ensures memory { OnMemory result (IsTrue (is_text line.now)) }
 {
-    let value = whole_value_of_line(alloc, number, line)?;
+    let value = whole_value_of_line(alloc, line)?;
     action_of_value(alloc, number, &value)
 }

@@ -1,14 +1,14 @@
 ghost use Rattle.std.specs.Prelude.{◌≡◌, ◌+◌, ◌<◌, ◌≤◌, ◌^◌, [], drop, length, IfOk, IsTrue};
 ghost use Rattle.std.specs.Str.Lines.{lines};
-ghost use Rattle.shard_docs.specs.Corpus.{source_line, document, next_document, corpus_of};
+ghost use Rattle.shard_docs.specs.Corpus.{source_line, noted, document, next_document, corpus_of};
 ghost use Rattle.shard_docs.specs.CorpusRead.{read_of};
 ghost use Rattle.shard_docs.specs.Ends.{IsEndOf};
-ghost use Rattle.shard_docs.specs.Fault.{Gives, OnMemory};
+ghost use Rattle.shard_docs.specs.Fault.{Gives, MayRunOut, Reads, WhereShort};
 ghost use Rattle.shard_docs.specs.Json.{is_text, begins_with_text};
 ghost use Rattle.shard_docs.specs.Seen.{has_name, with_name};
 
 use crate::action::{BulkAction, BulkKind, action_of_line};
-use crate::fault::CorpusError;
+use crate::fault::{CorpusError, LineError, read_at};
 use crate::json_line::source_of_line;
 use crate::lines::split_line;
 use crate::seen::Seen;
@@ -33,11 +33,14 @@ pub struct CorpusRead {
 /// The line of the source of an action at a line, and what follows it. It takes no memory.
 fn source_after(number: u32, bytes: &[u8]) -> Result<(&[u8], &[u8]), CorpusError>
     ensures gives { Gives (λ source. (source.0.now, lines source.1.now)) result (source_line number (lines bytes.now)) }
-    ensures memory { OnMemory result ⊥ }
+    ensures memory { WhereShort result (λ _. ⊥) }
     ensures shorter { IfOk result (λ source. length source.1.now < length bytes.now) }
     ensures ends { IfOk result (λ source. IsEndOf source.1.now bytes.now) }
 {
-    let missing = CorpusError::at(number, Cause::NoSource);
+    let missing = CorpusError::Bad {
+        line: number,
+        cause: Cause::NoSource,
+    };
     match split_line(bytes) {
         Some((line, _)) if line == DASHES.as_bytes() => Err(missing),
         Some(source) => Ok(source),
@@ -52,7 +55,22 @@ fn shared_id(alloc: Global, id: Text) -> Result<Shared<Text>, AllocError>
     Ok(Shared::new(alloc, id)?)
 }
 
-/// The document of an action at a line and of its source on the next line. It is noted.
+/// Notes the document of an action. To create one that is there is a conflict.
+#[tactic(auto, unfolding(crate::specs::Corpus::noted))]
+fn note(seen: &mut Seen, action: &BulkAction) -> Result<(), LineError>
+    ensures reads { Reads (λ _. tt) result (noted (has_name action.now.index action.now.id seen.old) action.now) }
+    ensures noted { IfOk result (λ _. seen.new ≡ with_name action.now.index action.now.id seen.old) }
+{
+    let is_new = seen.insert(action.index.as_str(), action.id.as_str())?;
+    if action.kind == BulkKind::Create && !is_new {
+        Err(LineError::Refused(Cause::Conflict))
+    } else {
+        Ok(())
+    }
+}
+
+/// The document of an action at a line and of its source on the next line. It is noted. A source that is too long or not UTF-8 is told
+/// whatever memory there is, once the document is noted.
 #[tactic(auto, unfolding(crate::specs::Corpus::document))]
 fn document_of(
     alloc: Global,
@@ -65,14 +83,14 @@ fn document_of(
     requires { number + 1 < 2 ^ 32 }
     ensures gives { Gives (λ line. line) result (document number (has_name action.index action.id seen.old) action source.now) }
     ensures noted { IfOk result (λ line. seen.new ≡ with_name line.index line.doc.id seen.old) }
+    ensures memory { WhereShort result (λ at. (at ≤ number + 1) × MayRunOut (document number (has_name action.index action.id seen.old) action source.now) at) }
 {
-    let is_new = seen.insert(action.index.as_str(), action.id.as_str())?;
-    if action.kind == BulkKind::Create && !is_new {
-        return Err(CorpusError::at(number, Cause::Conflict));
-    }
-    let source = source_of_line(alloc, number + 1, source, keys)?;
+    read_at(number, note(seen, &action))?;
+    let source = read_at(number + 1, source_of_line(alloc, source, keys))?;
     let BulkAction { index, id, .. } = action;
-    let id = shared_id(alloc, id)?;
+    let Ok(id) = shared_id(alloc, id) else {
+        return Err(CorpusError::Memory { line: number });
+    };
     let doc = Doc { id, source };
     Ok(CorpusLine { index, doc })
 }
@@ -91,11 +109,11 @@ fn document_at<'a>(
     requires { number + 1 < 2 ^ 32 }
     ensures gives { Gives (λ next. (next.0, lines next.1.now)) result (next_document number (λ index id. has_name index id seen.old) line.now (lines after.now)) }
     ensures noted { IfOk result (λ next. seen.new ≡ with_name next.0.index next.0.doc.id seen.old) }
-    ensures memory { OnMemory result (IsTrue (is_text line.now)) }
+    ensures memory { WhereShort result (λ at. (at ≤ number + 1) × IsTrue (is_text line.now) × MayRunOut (next_document number (λ index id. has_name index id seen.old) line.now (lines after.now)) at) }
     ensures shorter { IfOk result (λ next. length next.1.now < length after.now) }
     ensures ends { IfOk result (λ next. IsEndOf next.1.now after.now) }
 {
-    let action = action_of_line(alloc, number, line)?;
+    let action = read_at(number, action_of_line(alloc, number, line))?;
     let (source, left) = source_after(number, after)?;
     let document = document_of(alloc, seen, keys, number, action, source)?;
     Ok((document, left))
@@ -115,7 +133,8 @@ fn read_documents(
     requires none_seen { seen.old ≡ [] }
     ensures gives { Gives (λ place. (found.new, place.1, lines (drop place.0 bytes.now))) result (corpus_of (lines bytes.now)) }
     ensures within { IfOk result (λ place. place.0 ≤ length bytes.now) }
-    ensures memory { OnMemory result (IsTrue (begins_with_text (lines bytes.now))) }
+    ensures memory { WhereShort result (MayRunOut (corpus_of (lines bytes.now))) }
+    ensures begins { WhereShort result (λ _. IsTrue (begins_with_text (lines bytes.now))) }
 {
     let mut number = 1;
     let mut rest = bytes;
@@ -129,7 +148,9 @@ fn read_documents(
             return Ok((bytes.len() - after.len(), number + 1));
         }
         let (document, left) = document_at(alloc, seen, keys, number, line, after)?;
-        found.push(document)?;
+        let Ok(()) = found.push(document) else {
+            return Err(CorpusError::Memory { line: number });
+        };
         number += 2;
         rest = left;
     }
@@ -146,7 +167,8 @@ fn read_all_documents(
     requires none_found { found.old ≡ [] }
     ensures gives { Gives (λ place. (found.new, place.1, lines (drop place.0 bytes.now))) result (corpus_of (lines bytes.now)) }
     ensures within { IfOk result (λ place. place.0 ≤ length bytes.now) }
-    ensures memory { OnMemory result (IsTrue (begins_with_text (lines bytes.now))) }
+    ensures memory { WhereShort result (MayRunOut (corpus_of (lines bytes.now))) }
+    ensures begins { WhereShort result (λ _. IsTrue (begins_with_text (lines bytes.now))) }
 {
     let mut seen = Seen::new(alloc);
     let mut keys = Keys::new(alloc);
@@ -158,13 +180,14 @@ fn read_all_documents(
 /// A document is an action line and a line with its source, after Elasticsearch's bulk API: `{"index":{"_index":I}}` or
 /// `{"create":{"_index":I}}`, maybe with an `_id`, a text or a whole number; without one its id is `auto-` and the number
 /// of the action's line. The error is the first bad line and the first of its causes in the order of `Cause`, where an action
-/// line without a source comes after its own causes; or want of memory, which is never told of an input whose first line that
-/// is not empty is too long or not UTF-8.
+/// line without a source comes after its own causes; or want of memory, and the line at which it came. No line before that one
+/// is bad, and it isn't too long or not UTF-8 itself, nor is the first line that is not empty.
 pub fn read_corpus(alloc: Global, bytes: &[u8]) -> Result<CorpusRead, CorpusError>
     requires { length bytes.now ≤ 67108864 }
     ensures gives { Gives (read_of bytes.now) result (corpus_of (lines bytes.now)) }
     ensures within { IfOk result (λ read. read.script_at ≤ length bytes.now) }
-    ensures memory { OnMemory result (IsTrue (begins_with_text (lines bytes.now))) }
+    ensures memory { WhereShort result (MayRunOut (corpus_of (lines bytes.now))) }
+    ensures begins { WhereShort result (λ _. IsTrue (begins_with_text (lines bytes.now))) }
 {
     let mut found = Items::new(alloc);
     let (script_at, script_line) = read_all_documents(alloc, &mut found, bytes)?;

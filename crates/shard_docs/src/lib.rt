@@ -14,7 +14,7 @@ mod seen;
 mod shard;
 
 pub use corpus::{CorpusRead, read_corpus};
-pub use fault::CorpusError;
+pub use fault::{CorpusError, LineError, read_at};
 pub use json_line::whole_value_of_line;
 pub use lines::split_line;
 pub use numbers::{NumberAt, number_at};

@@ -3,7 +3,7 @@ use Rattle.std.specs.Prelude.{◌≡◌, ◌↔◌, Bool, true, IsTrue}
 use Rattle.std.specs.declared.cmp.Ordering.{Ordering}
 use Rattle.std.specs.declared.cmp.Ordering.TheVariants.{Less, Equal, Greater}
 use Rattle.std.specs.Ordering.{nat_cmp, ordering_then, ordering_reverse, is_eq}
-use Rattle.std.specs.Cmp.{IsTotalOrder, then_total, on_total, nat_cmp_total}
+use Rattle.std.specs.Cmp.{Equal-is, IsTotalOrder, then_total, on_total, nat_cmp_total}
 use Rattle.std.specs.FinMap.{nat_cmp-IsAntisymmetric}
 use Rattle.std.proofs.Common.{refl, sym, ◌∙◌, ap}
 use Rattle.query_match.specs.Sorting.{key_cmp}
@@ -30,11 +30,6 @@ hit_cmp_equal a b e =
       place = nat_cmp-IsAntisymmetric a.place b.place second.1 i;
     }
 
-ties : (r : Ordering) → is_eq r ≡ true → r ≡ Equal
-ties Less e = absurd cc
-ties Equal e = refl
-ties Greater e = absurd cc
-
 own_reverse : (r : Ordering) → r ≡ ordering_reverse r → is_eq r ≡ true
 own_reverse Less e = absurd cc
 own_reverse Equal e = refl
@@ -44,6 +39,6 @@ own_reverse Greater e = absurd cc
 pub same_by_cmp : (a b : HitKey) (r : Ordering) (same : Bool) → r ≡ hit_cmp a b → same ≡ is_eq r → IsTrue same ↔ (a ≡ b)
 same_by_cmp a b r same compared told =
     let told_by : same ≡ is_eq (hit_cmp a b) = told ∙ ap is_eq compared in (
-      λ yes. hit_cmp_equal a b (ties (hit_cmp a b) (sym told_by ∙ yes)),
+      λ yes. hit_cmp_equal a b ((Equal-is (hit_cmp a b)).0 (sym told_by ∙ yes)),
       λ equal. told_by ∙ sym (ap (λ (k : HitKey). is_eq (hit_cmp a k)) equal) ∙ own_reverse (hit_cmp a a) (hit_cmp_total.antisymm a a),
     )

@@ -1,5 +1,5 @@
 -- Marks, the nodes that a mark bans, and how far the bans have come.
-use Rattle.std.specs.Prelude.{ℕ, Bool, true, false, ◌&&◌, List, [], ◌∷◌, Option, Some, None, is_some, option_and_then, if◌then◌else◌}
+use Rattle.std.specs.Prelude.{ℕ, Bool, true, false, ◌&&◌, ◌||◌, List, [], ◌∷◌, Option, Some, None, is_some, option_and_then, if◌then◌else◌}
 use Rattle.std.specs.List.{list_all}
 use Rattle.task_ids.specs.declared.task_id.TaskId.{TaskId}
 use Rattle.task_events.specs.declared.event.Event.{Event}
@@ -79,3 +79,25 @@ abbrev pub late_ban : TaskId → List Event → Option ℕ
 late_ban t [] = None
 late_ban t (Put u p k ∷ h) = if same_task t u then ban_put u.node p h else late_ban t h
 late_ban t (_ ∷ h) = late_ban t h
+
+-- ---- when the acknowledgement of a ban is due
+
+-- the children of p that were put on n, the youngest first
+abbrev pub put_for : ℕ → TaskId → List Event → List TaskId
+put_for n p [] = []
+put_for n p (Put t q k ∷ h) = if same_pair p n q t.node then t ∷ put_for n p h else put_for n p h
+put_for n p (_ ∷ h) = put_for n p h
+
+-- those of them that were put before the listing for p on n ended
+abbrev pub listed_children : ℕ → TaskId → List Event → List TaskId
+listed_children n p [] = []
+listed_children n p (Listed m q ∷ h) = if same_pair p n q m then put_for n p h else listed_children n p h
+listed_children n p (_ ∷ h) = listed_children n p h
+
+-- the task has ended, or its own bans are placed: it starts nothing any more
+abbrev pub is_stopped : TaskId → List Event → Bool
+is_stopped t h = has_ended t h || bans_are_placed t h
+
+-- The acknowledgement of the ban of p on n is due once its listing has ended and each child that was put there before is stopped.
+abbrev pub ack_is_due : ℕ → TaskId → List Event → Bool
+ack_is_due n p h = is_listed n p h && list_all (λ t. is_stopped t h) (listed_children n p h)

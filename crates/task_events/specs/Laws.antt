@@ -1,5 +1,5 @@
 -- The laws of cancellation.
-use Rattle.std.specs.Prelude.{ℕ, ◌+◌, ◌<◌, ◌≤◌, ◌≡◌, ◌≢◌, ◌⊎◌, Bool, true, false, ◌&&◌, not, is_some, ◌==◌, List, [], ◌∷◌, Some, None, option_map, cond, All, remove, slice_get, count_by}
+use Rattle.std.specs.Prelude.{ℕ, ◌+◌, ◌<◌, ◌≤◌, ◌≡◌, ◌≢◌, ◌⊎◌, Bool, true, false, ◌&&◌, ◌||◌, not, is_some, ◌==◌, List, [], ◌∷◌, Some, None, option_map, cond, All, Contains, remove, slice_get, count_by}
 use Rattle.std.specs.List.{list_any}
 use Rattle.task_ids.specs.declared.task_id.TaskId.{TaskId}
 use Rattle.task_ids.specs.declared.cluster.Cluster.{Cluster}
@@ -8,11 +8,11 @@ use Rattle.task_events.specs.declared.reply.Reply.TheVariants.{Cancelled}
 use Rattle.task_ids.specs.declared.text.Text.{Text}
 use Rattle.task_events.specs.declared.event.Outcome.{Outcome}
 use Rattle.task_events.specs.declared.event.Event.{Event}
-use Rattle.task_events.specs.declared.event.Event.TheVariants.{Begin, NotFound, Write, Root, RootRejected, Ask, Put, Reject, Refuse, Cancel, Mark, Listed, Work, End, AnswerPlaced, AnswerDone}
+use Rattle.task_events.specs.declared.event.Event.TheVariants.{Begin, NotFound, Write, Root, RootRejected, Ask, Put, Reject, Pass, Refuse, Cancel, Mark, Listed, Acked, Work, End, AnswerPlaced, AnswerDone}
 use Rattle.task_events.specs.Same.{same_task}
 use Rattle.task_events.specs.Tasks.{no_counts, is_live, live_tasks, has_ended, is_new, has_passed, refusal_of, reply_of, live_child, live_on, parent_of, ancestors, descends}
 use Rattle.task_events.specs.Asks.{is_unanswered, unanswered, node_of_ask, request_of_ask, answer_of}
-use Rattle.task_events.specs.Bans.{mark_of, late_ban, banned_nodes, standing_ban, listing_is_open, is_listed, is_acked, is_gone, bans_are_placed, unbans_are_sent}
+use Rattle.task_events.specs.Bans.{mark_of, late_ban, banned_nodes, standing_ban, ban_over, listing_is_open, is_listed, is_acked, is_gone, bans_are_placed, unbans_are_sent, listed_children, ack_is_due}
 use Rattle.task_events.specs.declared.request.Request.{Request as AskedFor}
 use Rattle.task_events.specs.Messages.{Message, in_flight, is_request, is_answer, is_ban, is_ack, is_unban, without, number_in_flight}
 use Rattle.task_events.specs.Messages.Message.{Request, Answer, Ban, Ack, Unban}
@@ -39,13 +39,20 @@ stands n p h = is_some (standing_ban n p h)
 abbrev pub is_banned : ℕ → TaskId → List Event → Bool
 is_banned n p h = list_any (λ m. n == m) (banned_nodes p h)
 
--- ---- the six stages of a ban of p on n, each 1 where it is the one
+-- the listing for p on n has ended, and a child that was put there before is live and its bans are not placed
+abbrev pub awaits_children : ℕ → TaskId → List Event → Bool
+awaits_children n p h = is_listed n p h && not (ack_is_due n p h)
+
+-- ---- the seven stages of a ban of p on n, each 1 where it is the one
 
 abbrev pub ban_in_flight : ℕ → TaskId → List Event → ℕ
 ban_in_flight n p h = number_in_flight (is_ban n p) h
 
 abbrev pub children_listed : ℕ → TaskId → List Event → ℕ
 children_listed n p h = one_if (stands n p h && listing_is_open n p h)
+
+abbrev pub children_awaited : ℕ → TaskId → List Event → ℕ
+children_awaited n p h = one_if (stands n p h && awaits_children n p h)
 
 abbrev pub ack_in_flight : ℕ → TaskId → List Event → ℕ
 ack_in_flight n p h = cond (stands n p h) (number_in_flight (is_ack n p) h) 0
@@ -59,14 +66,18 @@ unban_in_flight n p h = cond (stands n p h) (number_in_flight (is_unban n p) h) 
 abbrev pub ban_gone : ℕ → TaskId → List Event → ℕ
 ban_gone n p h = one_if (is_gone n p h)
 
--- The ban of a task on one of its banned nodes is in one stage of six: it is in flight; it stands with its listing
--- open; it stands and its acknowledgement is in flight; it stands, is acknowledged, and the unbans of the task are
--- not sent; it stands and its unban is in flight; it is gone.
+-- The ban of a task on one of its banned nodes is in one stage of seven: it is in flight; it stands with its listing
+-- open; it stands, is listed, and awaits that each child listed is stopped; it stands and its acknowledgement is in
+-- flight; it stands, is acknowledged, and the unbans of the task are not sent; it stands and its unban is in flight; it
+-- is gone.
 pub record OneStage (h : List Event) : Type 0 where
   pub stage : (n : ℕ) (p : TaskId) → is_banned n p h ≡ true →
-      ban_in_flight n p h + children_listed n p h + ack_in_flight n p h + waits_for_unban n p h + unban_in_flight n p h + ban_gone n p h ≡ 1
-  -- on the way there a ban is in flight, or listed, or being acknowledged, or acknowledged
-  pub placing : (n : ℕ) (p : TaskId) → number_in_flight (is_ban n p) h + one_if (listing_is_open n p h) + number_in_flight (is_ack n p) h + one_if (is_acked n p h) ≡ one_if (is_banned n p h)
+      ban_in_flight n p h + children_listed n p h + children_awaited n p h + ack_in_flight n p h + waits_for_unban n p h + unban_in_flight n p h + ban_gone n p h ≡ 1
+  -- on the way there a ban is in flight, or being listed, or awaits the listed children, or is being acknowledged, or is
+  -- acknowledged
+  pub placing : (n : ℕ) (p : TaskId) → number_in_flight (is_ban n p) h + one_if (listing_is_open n p h) + one_if (awaits_children n p h) + number_in_flight (is_ack n p) h + one_if (is_acked n p h) ≡ one_if (is_banned n p h)
+  -- the acknowledgement is sent exactly where it is due, and then comes
+  pub acking : (n : ℕ) (p : TaskId) → number_in_flight (is_ack n p) h + one_if (is_acked n p h) ≡ one_if (ack_is_due n p h)
   -- it is in flight, or it stands, or it is gone; and no other ban stands
   pub standing : (n : ℕ) (p : TaskId) → number_in_flight (is_ban n p) h + one_if (stands n p h) + one_if (is_gone n p h) ≡ one_if (is_banned n p h)
   -- the unbans are sent exactly where the task has ended and its bans are placed, and then come
@@ -96,16 +107,46 @@ LeavesNoBan h = (p : TaskId) → has_ended p h ≡ true → IsQuiet p h → (n :
 abbrev pub ListsAllChildren : ℕ → TaskId → List Event → Type 0
 ListsAllChildren n p h = (t : TaskId) → parent_of t h ≡ Some p → t.node ≡ n → has_ended t h ≡ false → mark_of t h ≢ None
 
+-- Each child of p on n that was put before the listing ended has ended, or is marked and its own bans are placed.
+abbrev pub HasStoppedChildren : ℕ → TaskId → List Event → Type 0
+HasStoppedChildren n p h = (t : TaskId) → Contains (listed_children n p h) t → (has_ended t h ≡ true) ⊎ ((mark_of t h ≢ None) × (bans_are_placed t h ≡ true))
+
+-- Over each live descendant of the task a ban of its parent stands on its node, and the descendant is marked or has not
+-- passed: nothing of the tree starts, and nothing goes on.
+abbrev pub HasStoppedTree : TaskId → List Event → Type 0
+HasStoppedTree a h = (t : TaskId) → descends a t h ≡ true → is_live t h ≡ true → (ban_over t h ≢ None) × ((mark_of t h ≢ None) ⊎ (has_passed t h ≡ false))
+
+-- so it is with the tree of each task that the cancellation named
+abbrev pub HasStoppedTrees : ℕ → List Event → Type 0
+HasStoppedTrees c h = (a : TaskId) → is_named c a h ≡ true → HasStoppedTree a h
+
 -- For each task that the cancellation named the listing has ended on each banned node.
 abbrev pub HasListedAll : ℕ → List Event → Type 0
 HasListedAll c h = (t : TaskId) (n : ℕ) → is_named c t h ≡ true → is_banned n t h ≡ true → is_listed n t h ≡ true
 
--- A running earlier child is cancelled: where a listing has ended, and so before its acknowledgement, all children
--- there are ended or marked; and a cancellation is answered only after all listings of its tasks have ended.
+-- A running earlier child is cancelled: where a listing has ended, all children there are ended or marked; a ban is
+-- acknowledged only where besides each of those children has ended or has its own bans placed; and a cancellation is
+-- answered only after all listings of its tasks have ended, when their whole trees have stopped.
 pub record CancelsEarlyChildren (cluster : Cluster) : Type 0 where
   pub listed : (n : ℕ) (p : TaskId) (h : List Event) → Lawful cluster (Listed n p ∷ h) → ListsAllChildren n p h
-  pub placed : (c : ℕ) (h : List Event) → Lawful cluster (AnswerPlaced c ∷ h) → HasListedAll c h
-  pub done : (c : ℕ) (h : List Event) → Lawful cluster (AnswerDone c ∷ h) → HasListedAll c h
+  pub acked : (n : ℕ) (p : TaskId) (h : List Event) → Lawful cluster (Acked p n ∷ h) → HasStoppedChildren n p h
+  pub placed : (c : ℕ) (h : List Event) → Lawful cluster (AnswerPlaced c ∷ h) → HasListedAll c h × HasStoppedTrees c h
+  pub done : (c : ℕ) (h : List Event) → Lawful cluster (AnswerDone c ∷ h) → HasListedAll c h × HasStoppedTrees c h
+
+-- Where the bans of a task are placed its whole tree has stopped, from then on.
+abbrev pub StopsPlacedTrees : List Event → Type 0
+StopsPlacedTrees h = (a : TaskId) → bans_are_placed a h ≡ true → HasStoppedTree a h
+
+-- a cancellation that named one of these tasks has been answered
+abbrev pub IsCalledOff : List TaskId → List Event → Type 0
+IsCalledOff ts h = (c : ℕ) × (is_answered_placed c h || is_answered_done c h ≡ true) × (names_one_of c ts h ≡ true)
+
+-- After the answer of a cancellation no descendant of a task that it named passes, and neither such a task nor a
+-- descendant of one asks or works.
+pub record StartsNothingLater (cluster : Cluster) : Type 0 where
+  pub passes : (t : TaskId) (h : List Event) → Lawful cluster (Pass t ∷ h) → IsCalledOff (ancestors t h) h → ⊥
+  pub asks : (t : TaskId) (k n : ℕ) (r : AskedFor) (h : List Event) → Lawful cluster (Ask t k n r ∷ h) → IsCalledOff (t ∷ ancestors t h) h → ⊥
+  pub works : (t : TaskId) (h : List Event) → Lawful cluster (Work t ∷ h) → IsCalledOff (t ∷ ancestors t h) h → ⊥
 
 -- So from the end of a listing on, a live child of the banned task there is marked, or it was put late, after the
 -- ban with the mark's number.
@@ -170,12 +211,13 @@ pub record OnceInFlight (h : List Event) : Type 0 where
 
 -- What a message in flight says is what has happened: a request goes to the node of its ask, an answer has the
 -- reply of the ask's child or its rejection, a ban has its task's mark and goes to a banned node, an acknowledgement
--- comes from an ended listing, and an unban goes to a banned node once the task has ended and its bans are placed.
+-- comes from an ended listing each child of which has stopped, and an unban goes to a banned node once the task has
+-- ended and its bans are placed.
 abbrev pub IsTold : Message → List Event → Type 0
 IsTold (Request p k n r) h = (node_of_ask p k h ≡ Some n) × (request_of_ask p k h ≡ Some r)
 IsTold (Answer p k reply) h = answer_of p k h ≡ Some reply
 IsTold (Ban p c n) h = (mark_of p h ≡ Some c) × (is_banned n p h ≡ true)
-IsTold (Ack p n) h = is_listed n p h ≡ true
+IsTold (Ack p n) h = ack_is_due n p h ≡ true
 IsTold (Unban p n) h = (unbans_are_sent p h ≡ true) × (is_banned n p h ≡ true)
 
 abbrev pub MessagesTellThePast : List Event → Type 0
@@ -223,6 +265,11 @@ pub record IsDrained (h : List Event) : Type 0 where
 -- Then no ban stands, and of each marked task the bans are placed and it has ended: each answer is due.
 abbrev pub DrainsAll : List Event → Type 0
 DrainsAll h = IsDrained h → ((n : ℕ) (p : TaskId) → standing_ban n p h ≡ None) × ((t : TaskId) → mark_of t h ≢ None → (bans_are_placed t h ≡ true) × (has_ended t h ≡ true))
+
+-- Where nothing is in flight and no listing is open, the bans of each marked task are placed, though it may be live: no
+-- listing awaits a child for ever.
+abbrev pub PlacesBans : List Event → Type 0
+PlacesBans h = in_flight h ≡ [] → ((n : ℕ) (p : TaskId) → listing_is_open n p h ≡ false) → (t : TaskId) → mark_of t h ≢ None → bans_are_placed t h ≡ true
 
 -- the cancellation has no answer, and has not found that there is no task
 abbrev pub IsOpenCancel : ℕ → List Event → Type 0

@@ -1,5 +1,5 @@
 -- The messages in flight.
-use Rattle.std.specs.Prelude.{ℕ, Bool, false, List, [], ◌∷◌, ◌++◌, Option, Some, None, map, count_by, if◌then◌else◌}
+use Rattle.std.specs.Prelude.{ℕ, Bool, false, List, [], ◌∷◌, ◌++◌, ◌&&◌, not, Option, Some, None, map, count_by, if◌then◌else◌}
 use Rattle.task_ids.specs.declared.task_id.TaskId.{TaskId}
 use Rattle.task_events.specs.declared.request.Request.{Request as AskedFor}
 use Rattle.task_events.specs.declared.reply.Reply.{Reply}
@@ -9,7 +9,7 @@ use Rattle.task_events.specs.declared.event.Event.TheVariants.{Ask, Put, Reject,
 use Rattle.task_events.specs.Same.{same_pair}
 use Rattle.task_events.specs.Tasks.{no_counts, parent_of, ask_of}
 use Rattle.task_events.specs.Asks.{unanswered_nodes}
-use Rattle.task_events.specs.Bans.{banned_nodes, unbans_are_sent}
+use Rattle.task_events.specs.Bans.{banned_nodes, unbans_are_sent, ack_is_due}
 
 pub data Message : Type 0 where
   -- of an ask, to its node
@@ -59,20 +59,29 @@ answer_from (Some p) k reply = Answer p k reply ∷ []
 abbrev pub unbans_from : TaskId → List Event → List Message
 unbans_from t h = if unbans_are_sent t h then map (Unban t) (banned_nodes t h) else []
 
+-- the acknowledgement of the ban of p on n, where it became due between an earlier moment and a later one
+abbrev pub ack_from : ℕ → TaskId → List Event → List Event → List Message
+ack_from n p earlier later = if ack_is_due n p later && not (ack_is_due n p earlier) then Ack p n ∷ [] else []
+
+-- that of the ban of a task's parent on the task's node
+abbrev pub ack_over : Option TaskId → ℕ → List Event → List Event → List Message
+ack_over None n earlier later = []
+ack_over (Some p) n earlier later = ack_from n p earlier later
+
 -- the messages that were sent and not delivered, in the order of their sending
 abbrev pub in_flight : List Event → List Message
 in_flight [] = []
 in_flight (Ask p k n r ∷ h) = in_flight h ++ Request p k n r ∷ []
 in_flight (Put t p k ∷ h) = without (is_request p k) (in_flight h)
 in_flight (Reject n p k ∷ h) = without (is_request p k) (in_flight h) ++ Answer p k (Rejected n) ∷ []
-in_flight (Refuse t c ∷ h) = in_flight h ++ answer_from (parent_of t h) (ask_of t h) (Cancelled t c no_counts) ++ unbans_from t (Refuse t c ∷ h)
+in_flight (Refuse t c ∷ h) = in_flight h ++ answer_from (parent_of t h) (ask_of t h) (Cancelled t c no_counts) ++ unbans_from t (Refuse t c ∷ h) ++ ack_over (parent_of t h) t.node h (Refuse t c ∷ h)
 in_flight (Mark t c ∷ h) = in_flight h ++ map (Ban t c) (unanswered_nodes t h)
 in_flight (BanPut n p c ∷ h) = without (is_ban n p) (in_flight h)
-in_flight (Listed n p ∷ h) = in_flight h ++ Ack p n ∷ []
-in_flight (Acked p n ∷ h) = without (is_ack n p) (in_flight h) ++ unbans_from p (Acked p n ∷ h)
+in_flight (Listed n p ∷ h) = in_flight h ++ ack_from n p h (Listed n p ∷ h)
+in_flight (Acked p n ∷ h) = without (is_ack n p) (in_flight h) ++ unbans_from p (Acked p n ∷ h) ++ ack_over (parent_of p h) p.node h (Acked p n ∷ h)
 in_flight (BanGone n p ∷ h) = without (is_unban n p) (in_flight h)
 in_flight (Answered p k ∷ h) = without (is_answer p k) (in_flight h)
-in_flight (End t r ∷ h) = in_flight h ++ answer_from (parent_of t h) (ask_of t h) r ++ unbans_from t (End t r ∷ h)
+in_flight (End t r ∷ h) = in_flight h ++ answer_from (parent_of t h) (ask_of t h) r ++ unbans_from t (End t r ∷ h) ++ ack_over (parent_of t h) t.node h (End t r ∷ h)
 in_flight (_ ∷ h) = in_flight h
 
 -- how many messages of that kind are in flight

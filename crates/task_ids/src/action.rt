@@ -2,7 +2,7 @@ ghost use Rattle.std.specs.Prelude.{◌≡◌};
 ghost use Rattle.task_ids.specs.Action.{action_text};
 
 /// What a task does. The names are Elasticsearch's action names, and have no wire meaning here.
-#[derive(Clone, Copy, PartialEq, Eq)]
+#[derive(Clone, Copy, PartialEq, Eq, PartialOrd, Ord)]
 pub enum Action {
     Search,
     Query,

@@ -1,7 +1,7 @@
 -- What the messages in flight say.
-use Rattle.std.proofs.Common.{◌≡◌, ◌≤◌, ◌<◌, ℕ, Bool, true, false, cond, List, [], ◌∷◌, ◌++◌, map, Option, Some, None, refl, sym, ◌∙◌, arith}
+use Rattle.std.proofs.Common.{◌≡◌, ◌≤◌, ◌<◌, ℕ, Bool, true, false, cond, not, ◌&&◌, List, [], ◌∷◌, ◌++◌, map, Option, Some, None, refl, sym, ◌∙◌, arith}
 use Rattle.std.specs.Prelude.{is_some, ◌==◌}
-use Rattle.std.specs.List.{AllByRecursion, list_any, list_all}
+use Rattle.std.specs.List.{AllByRecursion, list_any}
 use Rattle.task_ids.specs.declared.task_id.TaskId.{TaskId}
 use Rattle.task_ids.specs.declared.cluster.Cluster.{Cluster}
 use Rattle.task_events.specs.declared.reply.Reply.{Reply}
@@ -12,8 +12,8 @@ use Rattle.task_events.specs.declared.event.Event.TheVariants.{Ask, Put, Reject,
 use Rattle.task_events.specs.Same.{same_task}
 use Rattle.task_events.specs.Tasks.{no_counts, is_live, has_ended, reply_of, child_of, parent_of, ask_of}
 use Rattle.task_events.specs.Asks.{last_ask, node_of_ask, request_of_ask, rejection_of, answer_of, unanswered_nodes}
-use Rattle.task_events.specs.Bans.{mark_of, banned_nodes, is_listed, is_acked, bans_are_placed, unbans_are_sent}
-use Rattle.task_events.specs.Messages.{Message, is_request, is_answer, is_ban, is_ack, is_unban, without, answer_from, unbans_from, in_flight, number_in_flight}
+use Rattle.task_events.specs.Bans.{mark_of, banned_nodes, bans_are_placed, unbans_are_sent, ack_is_due}
+use Rattle.task_events.specs.Messages.{Message, is_request, is_answer, is_ban, is_ack, is_unban, without, answer_from, unbans_from, ack_from, ack_over, in_flight, number_in_flight}
 use Rattle.task_events.specs.Messages.Message.{Request, Answer, Ban, Ack, Unban}
 use Rattle.task_events.specs.Allowed.{Allowed}
 use Rattle.task_events.specs.Lawful.{Lawful}
@@ -23,17 +23,15 @@ use Rattle.task_laws.proofs.Numbers.{both}
 use Rattle.task_laws.proofs.Counts.{requests, is_child_of}
 use Rattle.task_laws.proofs.InFlight.{requests_in_flight}
 use Rattle.task_laws.proofs.Asks.{AskFacts, ask_facts}
+use Rattle.task_laws.proofs.Still.{still_ended, still_placed}
+use Rattle.task_laws.proofs.Stops.{StopFacts, stop_facts}
+use Rattle.task_laws.proofs.Bans.{BanFacts, ban_facts, still_due}
 
 pub record AnswerFacts (h : List Event) : Type 0 where
   pub node_asked : (p : TaskId) (k n : ℕ) → node_of_ask p k h ≡ Some n → k ≤ last_ask p h
   pub rejected_asked : (p : TaskId) (k n : ℕ) → rejection_of p k h ≡ Some n → k ≤ last_ask p h
   pub rejected_put : (p : TaskId) (k n : ℕ) → rejection_of p k h ≡ Some n → (requests p k h ≡ 0) × (child_of p k h ≡ None)
   pub reply_ended : (t : TaskId) (r : Reply) → reply_of t h ≡ Some r → has_ended t h ≡ true
-
--- a test that passes where another does passes for all where the other does
-all_grow : (f g : ℕ → Bool) → ((n : ℕ) → f n ≡ true → g n ≡ true) → (ns : List ℕ) → list_all f ns ≡ true → list_all g ns ≡ true
-all_grow f g each [] e = refl
-all_grow f g each (n ∷ ns) e = let rest = all_grow f g each ns in grind (arith, each n, rest)
 
 -- what is said of each message stays when one is delivered, and when more are sent
 each_either : (P : Message → Type 0) (b : Bool) (xs ys : List Message) → AllByRecursion P xs → AllByRecursion P ys → AllByRecursion P (cond b xs ys)
@@ -129,29 +127,10 @@ module _ (cluster : Cluster) where
   still_banned (Mark q d) h a p c n m e = grind (arith, same_tests)
   still_banned _ h a p c n m e = e
 
-  still_listed : (e : Event) (h : List Event) (p : TaskId) (n : ℕ) → is_listed n p h ≡ true → is_listed n p (e ∷ h) ≡ true
-  still_listed (Listed m q) h p n e = grind (arith, same_tests)
-  still_listed _ h p n e = e
-
-  still_acked : (e : Event) (h : List Event) (p : TaskId) (n : ℕ) → is_acked n p h ≡ true → is_acked n p (e ∷ h) ≡ true
-  still_acked (Acked q m) h p n e = grind (arith, same_tests)
-  still_acked _ h p n e = e
-
-  still_ended : (e : Event) (h : List Event) (p : TaskId) → has_ended p h ≡ true → has_ended p (e ∷ h) ≡ true
-  still_ended (Refuse q c) h p e = grind (arith, same_tests)
-  still_ended (End q r) h p e = grind (arith, same_tests)
-  still_ended _ h p e = e
-
-  still_sent : (e : Event) (h : List Event) → Allowed cluster e h → AskFacts h → (p : TaskId) → unbans_are_sent p h ≡ true → unbans_are_sent p (e ∷ h) ≡ true
-  still_sent (Mark q d) h a f p e = grind (arith, same_tests, f.live_or_ended q)
-  still_sent (Acked q m) h a f p e =
-      let parts = both (has_ended p h) (bans_are_placed p h) e in
-      let placed = both (is_some (mark_of p h)) _ parts.1 in
-      let acked = all_grow (λ n. is_acked n p h) (λ n. is_acked n p (Acked q m ∷ h)) (still_acked (Acked q m) h p) (banned_nodes p h) placed.1 in
-      rw (parts.0, placed.0, acked)
-  still_sent (Refuse q c) h a f p e = let parts = both (has_ended p h) (bans_are_placed p h) e in let ended = still_ended (Refuse q c) h p parts.0 in rw (ended, parts.1)
-  still_sent (End q r) h a f p e = let parts = both (has_ended p h) (bans_are_placed p h) e in let ended = still_ended (End q r) h p parts.0 in rw (ended, parts.1)
-  still_sent _ h a f p e = e
+  still_sent : (e : Event) (h : List Event) → Allowed cluster e h → (p : TaskId) → unbans_are_sent p h ≡ true → unbans_are_sent p (e ∷ h) ≡ true
+  still_sent e h a p s =
+      let parts = both (has_ended p h) (bans_are_placed p h) s in
+      rw (still_ended e h p parts.0) (still_placed cluster e h a p parts.1)
 
   sent_marked : (p : TaskId) (h : List Event) → unbans_are_sent p h ≡ true → is_some (mark_of p h) ≡ true
   sent_marked p h e = let parts = both (has_ended p h) (bans_are_placed p h) e in let placed = both (is_some (mark_of p h)) _ parts.1 in placed.0
@@ -160,12 +139,12 @@ module _ (cluster : Cluster) where
   still_banned_sent e h a p n None m s b = absurd (cc)
   still_banned_sent e h a p n (Some c) m s b = still_banned e h a p c n m b
 
-  still_told : (e : Event) (h : List Event) → Allowed cluster e h → AskFacts h → AnswerFacts h → (m : Message) → IsTold m h → IsTold m (e ∷ h)
-  still_told e h a f g (Request p k n r) t = still_request e h a g p k n r t
-  still_told e h a f g (Answer p k r) t = still_answer e h a f g p k r t
-  still_told e h a f g (Ban p c n) t = (still_marked e h a p c t.0, still_banned e h a p c n t.0 t.1)
-  still_told e h a f g (Ack p n) t = still_listed e h p n t
-  still_told e h a f g (Unban p n) t = (still_sent e h a f p t.0, still_banned_sent e h a p n (mark_of p h) refl (sent_marked p h t.0) t.1)
+  still_told : (e : Event) (h : List Event) → Allowed cluster e h → AskFacts h → StopFacts h → BanFacts h → AnswerFacts h → (m : Message) → IsTold m h → IsTold m (e ∷ h)
+  still_told e h a f s b g (Request p k n r) t = still_request e h a g p k n r t
+  still_told e h a f s b g (Answer p k r) t = still_answer e h a f g p k r t
+  still_told e h a f s b g (Ban p c n) t = (still_marked e h a p c t.0, still_banned e h a p c n t.0 t.1)
+  still_told e h a f s b g (Ack p n) t = still_due cluster e h a s b n p t
+  still_told e h a f s b g (Unban p n) t = (still_sent e h a p t.0, still_banned_sent e h a p n (mark_of p h) refl (sent_marked p h t.0) t.1)
 
   -- the answer of an ending child
   new_answer : (t : TaskId) (r : Reply) (h g : List Event) → AskFacts h → AnswerFacts h → is_live t h ≡ true → reply_of t g ≡ Some r → ((p : TaskId) (k : ℕ) → rejection_of p k g ≡ rejection_of p k h) → ((p : TaskId) (k : ℕ) → child_of p k g ≡ child_of p k h)
@@ -189,6 +168,15 @@ module _ (cluster : Cluster) where
       each_map (λ m. IsTold m h) (Unban t) (banned_nodes t h)
       (each_grow (λ n. list_any (λ m. n == m) (banned_nodes t h) ≡ true) (λ n. IsTold (Unban t n) h) (λ n i. (e, i)) (banned_nodes t h) (members (banned_nodes t h)))
 
+  -- the acknowledgement that is sent is due
+  new_ack : (p : TaskId) (n : ℕ) (h g : List Event) (b : Bool) → (ack_is_due n p g && not (ack_is_due n p h)) ≡ b → AllByRecursion (λ m. IsTold m g) (cond b (Ack p n ∷ []) [])
+  new_ack p n h g false e = tt
+  new_ack p n h g true e = ((both (ack_is_due n p g) _ e).0, tt)
+
+  new_over : (o : Option TaskId) (n : ℕ) (h g : List Event) → AllByRecursion (λ m. IsTold m g) (ack_over o n h g)
+  new_over None n h g = tt
+  new_over (Some p) n h g = new_ack p n h g (ack_is_due n p g && not (ack_is_due n p h)) refl
+
   -- the bans of a mark
   new_bans : (t : TaskId) (c : ℕ) (h : List Event) → AllByRecursion (λ m. IsTold m (Mark t c ∷ h)) (map (Ban t c) (unanswered_nodes t h))
   new_bans t c h =
@@ -204,8 +192,19 @@ module _ (cluster : Cluster) where
       banned_now : (n : ℕ) → list_any (λ m. n == m) (unanswered_nodes t h) ≡ true → is_banned n t (Mark t c ∷ h) ≡ true
       banned_now n i = rw same i
 
-  old_told : (e : Event) (h : List Event) → Allowed cluster e h → AskFacts h → AnswerFacts h → AllByRecursion (λ m. IsTold m h) (in_flight h) → AllByRecursion (λ m. IsTold m (e ∷ h)) (in_flight h)
-  old_told e h a f g all = each_grow (λ m. IsTold m h) (λ m. IsTold m (e ∷ h)) (still_told e h a f g) (in_flight h) all
+  old_told : (e : Event) (h : List Event) → Allowed cluster e h → AskFacts h → StopFacts h → BanFacts h → AnswerFacts h → AllByRecursion (λ m. IsTold m h) (in_flight h) → AllByRecursion (λ m. IsTold m (e ∷ h)) (in_flight h)
+  old_told e h a f s b g all = each_grow (λ m. IsTold m h) (λ m. IsTold m (e ∷ h)) (still_told e h a f s b g) (in_flight h) all
+
+  -- what an ending task sends: its answer, its unbans and the acknowledgement of the ban over it
+  ending : (t : TaskId) (h g : List Event) (r : Reply) → AllByRecursion (λ m. IsTold m g) (in_flight h) → AllByRecursion (λ m. IsTold m g) (answer_from (parent_of t h) (ask_of t h) r) →
+      AllByRecursion (λ m. IsTold m g) (in_flight h ++ answer_from (parent_of t h) (ask_of t h) r ++ unbans_from t g ++ ack_over (parent_of t h) t.node h g)
+  ending t h g r all answer =
+      let T = λ (m : Message). IsTold m g in
+      each_append T (in_flight h ++ answer_from (parent_of t h) (ask_of t h) r ++ unbans_from t g) (ack_over (parent_of t h) t.node h g)
+      (each_append T (in_flight h ++ answer_from (parent_of t h) (ask_of t h) r) (unbans_from t g)
+      (each_append T (in_flight h) (answer_from (parent_of t h) (ask_of t h) r) all answer)
+      (new_unbans t g (unbans_are_sent t g) refl))
+      (new_over (parent_of t h) t.node h g)
 
   keep_told : (e : Event) (h : List Event) → Allowed cluster e h → AskFacts h → AnswerFacts h → AllByRecursion (λ m. IsTold m (e ∷ h)) (in_flight h) → AllByRecursion (λ m. IsTold m (e ∷ h)) (in_flight (e ∷ h))
   keep_told (Ask p k n w) h a f g all = each_append (λ m. IsTold m (Ask p k n w ∷ h)) (in_flight h) (Request p k n w ∷ []) all ((grind (arith, same_tests), grind (arith, same_tests)), tt)
@@ -216,22 +215,21 @@ module _ (cluster : Cluster) where
   keep_told (Answered p k) h a f g all = each_without (λ m. IsTold m (Answered p k ∷ h)) (is_answer p k) (in_flight h) all
   keep_told (BanPut n p c) h a f g all = each_without (λ m. IsTold m (BanPut n p c ∷ h)) (is_ban n p) (in_flight h) all
   keep_told (BanGone n p) h a f g all = each_without (λ m. IsTold m (BanGone n p ∷ h)) (is_unban n p) (in_flight h) all
-  keep_told (Listed n p) h a f g all = each_append (λ m. IsTold m (Listed n p ∷ h)) (in_flight h) (Ack p n ∷ []) all (grind (arith, same_tests), tt)
+  keep_told (Listed n p) h a f g all = each_append (λ m. IsTold m (Listed n p ∷ h)) (in_flight h) (ack_from n p h (Listed n p ∷ h)) all (new_over (Some p) n h (Listed n p ∷ h))
   keep_told (Mark t c) h a f g all = each_append (λ m. IsTold m (Mark t c ∷ h)) (in_flight h) (map (Ban t c) (unanswered_nodes t h)) all (new_bans t c h)
   keep_told (Acked p n) h a f g all =
-      each_append (λ m. IsTold m (Acked p n ∷ h)) (without (is_ack n p) (in_flight h)) (unbans_from p (Acked p n ∷ h))
-      (each_without (λ m. IsTold m (Acked p n ∷ h)) (is_ack n p) (in_flight h) all)
-      (new_unbans p (Acked p n ∷ h) (unbans_are_sent p (Acked p n ∷ h)) refl)
+      let T = λ (m : Message). IsTold m (Acked p n ∷ h) in
+      each_append T (without (is_ack n p) (in_flight h) ++ unbans_from p (Acked p n ∷ h)) (ack_over (parent_of p h) p.node h (Acked p n ∷ h))
+      (each_append T (without (is_ack n p) (in_flight h)) (unbans_from p (Acked p n ∷ h))
+      (each_without T (is_ack n p) (in_flight h) all)
+      (new_unbans p (Acked p n ∷ h) (unbans_are_sent p (Acked p n ∷ h)) refl))
+      (new_over (parent_of p h) p.node h (Acked p n ∷ h))
   keep_told (Refuse t c) h a f g all =
-      each_append (λ m. IsTold m (Refuse t c ∷ h)) (in_flight h ++ answer_from (parent_of t h) (ask_of t h) (Cancelled t c no_counts)) (unbans_from t (Refuse t c ∷ h))
-      (each_append (λ m. IsTold m (Refuse t c ∷ h)) (in_flight h) (answer_from (parent_of t h) (ask_of t h) (Cancelled t c no_counts)) all
-      (new_answer t (Cancelled t c no_counts) h (Refuse t c ∷ h) f g a.live (grind (arith, same_tests)) (λ p k. refl) (λ p k. refl) (parent_of t h) refl))
-      (new_unbans t (Refuse t c ∷ h) (unbans_are_sent t (Refuse t c ∷ h)) refl)
+      ending t h (Refuse t c ∷ h) (Cancelled t c no_counts) all
+      (new_answer t (Cancelled t c no_counts) h (Refuse t c ∷ h) f g a.live (grind (arith, same_tests)) (λ p k. refl) (λ p k. refl) (parent_of t h) refl)
   keep_told (End t r) h a f g all =
-      each_append (λ m. IsTold m (End t r ∷ h)) (in_flight h ++ answer_from (parent_of t h) (ask_of t h) r) (unbans_from t (End t r ∷ h))
-      (each_append (λ m. IsTold m (End t r ∷ h)) (in_flight h) (answer_from (parent_of t h) (ask_of t h) r) all
-      (new_answer t r h (End t r ∷ h) f g a.goes_on.live (grind (arith, same_tests)) (λ p k. refl) (λ p k. refl) (parent_of t h) refl))
-      (new_unbans t (End t r ∷ h) (unbans_are_sent t (End t r ∷ h)) refl)
+      ending t h (End t r ∷ h) r all
+      (new_answer t r h (End t r ∷ h) f g a.goes_on.live (grind (arith, same_tests)) (λ p k. refl) (λ p k. refl) (parent_of t h) refl)
   keep_told _ h a f g all = all
 
   pub told : (h : List Event) → Lawful cluster h → AllByRecursion (λ m. IsTold m h) (in_flight h)
@@ -239,4 +237,6 @@ module _ (cluster : Cluster) where
   told (e ∷ h) l =
       let f = ask_facts cluster h l.1 in
       let g = answer_facts h l.1 in
-      keep_told e h l.0 f g (old_told e h l.0 f g (told h l.1))
+      let s = stop_facts cluster h l.1 in
+      let b = ban_facts cluster h l.1 in
+      keep_told e h l.0 f g (old_told e h l.0 f s b g (told h l.1))

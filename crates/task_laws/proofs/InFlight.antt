@@ -1,5 +1,5 @@
 -- The counts are those of the list of messages.
-use Rattle.std.proofs.Common.{◌≡◌, ◌+◌, ◌-◌, ℕ, Bool, true, false, cond, ◌&&◌, List, [], ◌∷◌, ◌++◌, map, Option, Some, None, refl, ◌∙◌, arith}
+use Rattle.std.proofs.Common.{◌≡◌, ◌+◌, ◌-◌, ℕ, Bool, true, false, cond, not, ◌&&◌, List, [], ◌∷◌, ◌++◌, map, Option, Some, None, refl, ◌∙◌, arith}
 use Rattle.std.specs.Prelude.{◌==◌}
 use Rattle.task_ids.specs.declared.task_id.TaskId.{TaskId}
 use Rattle.task_events.specs.declared.reply.Reply.{Reply}
@@ -10,11 +10,11 @@ use Rattle.task_events.specs.declared.event.Event.TheVariants.{Ask, Put, Reject,
 use Rattle.task_events.specs.Same.{same_task, same_pair}
 use Rattle.task_events.specs.Tasks.{no_counts, parent_of, ask_of}
 use Rattle.task_events.specs.Asks.{unanswered_nodes}
-use Rattle.task_events.specs.Bans.{banned_nodes, unbans_are_sent}
-use Rattle.task_events.specs.Messages.{Message, is_request, is_answer, is_ban, is_ack, is_unban, without, answer_from, unbans_from, in_flight, number_in_flight}
+use Rattle.task_events.specs.Bans.{banned_nodes, unbans_are_sent, ack_is_due}
+use Rattle.task_events.specs.Messages.{Message, is_request, is_answer, is_ban, is_ack, is_unban, without, answer_from, ack_from, ack_over, in_flight, number_in_flight}
 use Rattle.task_events.specs.Messages.Message.{Request, Answer, Ban, Ack, Unban}
 use Rattle.task_laws.proofs.Same.{same_tests}
-use Rattle.task_laws.proofs.Counts.{is_for, requests, answers, bans, acks, unbans}
+use Rattle.task_laws.proofs.Counts.{is_for, due_over, requests, answers, bans, acks, unbans}
 use Rattle.task_laws.proofs.Numbers.{number, number_is, number-append, number-without, number-none, number-nodes}
 
 -- A kind of message is one of the five, of one ask or of one task and node.
@@ -106,6 +106,29 @@ unbanned_by (of_unban n p) t false ns = grind arith
 unbanned_by a t true ns = number-none (test_of a) (Unban t) (λ n. refl) ns
 unbanned_by a t false ns = refl
 
+-- an acknowledgement that is due, by kind
+due_count : Kind → ℕ → TaskId → Bool → ℕ
+due_count (of_ack n p) m q b = cond (same_pair p n q m) (cond b 1 0) 0
+due_count _ m q b = 0
+
+due_by : (a : Kind) (m : ℕ) (q : TaskId) (b : Bool) → number (test_of a) (cond b (Ack q m ∷ []) []) ≡ due_count a m q b
+unfolding due_count
+due_by (of_ack n p) m q b = grind arith
+due_by a m q true = refl
+due_by a m q false = refl
+
+-- that of the ban over a task
+over_count : Kind → Option TaskId → ℕ → List Event → List Event → ℕ
+over_count (of_ack n p) o m h g = due_over n p o m h g
+over_count _ o m h g = 0
+
+over_by : (a : Kind) (o : Option TaskId) (m : ℕ) (h g : List Event) → number (test_of a) (ack_over o m h g) ≡ over_count a o m h g
+unfolding over_count due_count
+over_by (of_ack n p) None m h g = refl
+over_by (of_ack n p) (Some q) m h g = due_by (of_ack n p) m q (ack_is_due m q g && not (ack_is_due m q h))
+over_by a None m h g = refl
+over_by a (Some q) m h g = due_by a m q (ack_is_due m q g && not (ack_is_due m q h))
+
 -- each event changes the list as it changes the count
 at_ask : (a : Kind) (q : TaskId) (j n : ℕ) (w : AskedFor) (h : List Event) → number (test_of a) (in_flight h) ≡ count_of a h → number (test_of a) (in_flight (Ask q j n w ∷ h)) ≡ count_of a (Ask q j n w ∷ h)
 at_ask (of_request p k) q j n w h e = let x = number-append (is_request p k) (in_flight h) (Request q j n w ∷ []) in omega arith
@@ -133,36 +156,40 @@ at_ban_put (of_request p k) m q c h e = let x = left (of_request p k) (of_ban m 
 at_ban_put a m q c h e = let x = left a (of_ban m q) (in_flight h) in omega arith
 
 at_listed : (a : Kind) (m : ℕ) (q : TaskId) (h : List Event) → number (test_of a) (in_flight h) ≡ count_of a h → number (test_of a) (in_flight (Listed m q ∷ h)) ≡ count_of a (Listed m q ∷ h)
-at_listed (of_request p k) m q h e = let x = number-append (is_request p k) (in_flight h) (Ack q m ∷ []) in omega arith
-at_listed a m q h e = let x = number-append (test_of a) (in_flight h) (Ack q m ∷ []) in omega arith
+unfolding over_count
+at_listed (of_request p k) m q h e = let x = number-append (is_request p k) (in_flight h) (ack_from m q h (Listed m q ∷ h)) in let y = over_by (of_request p k) (Some q) m h (Listed m q ∷ h) in omega arith
+at_listed a m q h e = let x = number-append (test_of a) (in_flight h) (ack_from m q h (Listed m q ∷ h)) in let y = over_by a (Some q) m h (Listed m q ∷ h) in omega arith
 
 at_ban_gone : (a : Kind) (m : ℕ) (q : TaskId) (h : List Event) → number (test_of a) (in_flight h) ≡ count_of a h → number (test_of a) (in_flight (BanGone m q ∷ h)) ≡ count_of a (BanGone m q ∷ h)
 at_ban_gone (of_request p k) m q h e = let x = left (of_request p k) (of_unban m q) (in_flight h) in omega arith
 at_ban_gone a m q h e = let x = left a (of_unban m q) (in_flight h) in omega arith
 
+three : (a : Kind) (ms xs ys : List Message) (n m u : ℕ) → number (test_of a) ms ≡ n → number (test_of a) xs ≡ m → number (test_of a) ys ≡ u → number (test_of a) ((ms ++ xs) ++ ys) ≡ (n + m) + u
+three a ms xs ys n m u e f g = let x = number-append (test_of a) (ms ++ xs) ys in let y = number-append (test_of a) ms xs in omega arith
+
 at_acked : (a : Kind) (q : TaskId) (m : ℕ) (h : List Event) → number (test_of a) (in_flight h) ≡ count_of a h → number (test_of a) (in_flight (Acked q m ∷ h)) ≡ count_of a (Acked q m ∷ h)
-unfolding unban_count
+unfolding unban_count over_count
 at_acked (of_request p k) q m h e =
     let x = left (of_request p k) (of_ack m q) (in_flight h) in
-    let y = number-append (is_request p k) (without (is_ack m q) (in_flight h)) (unbans_from q (Acked q m ∷ h)) in
-    let z = unbanned_by (of_request p k) q (unbans_are_sent q (Acked q m ∷ h)) (banned_nodes q (Acked q m ∷ h)) in omega arith
+    let y = three (of_request p k) _ _ _ _ _ _ x (unbanned_by (of_request p k) q (unbans_are_sent q (Acked q m ∷ h)) (banned_nodes q (Acked q m ∷ h))) (over_by (of_request p k) (parent_of q h) q.node h (Acked q m ∷ h)) in
+    omega arith
 at_acked a q m h e =
     let x = left a (of_ack m q) (in_flight h) in
-    let y = number-append (test_of a) (without (is_ack m q) (in_flight h)) (unbans_from q (Acked q m ∷ h)) in
-    let z = unbanned_by a q (unbans_are_sent q (Acked q m ∷ h)) (banned_nodes q (Acked q m ∷ h)) in omega arith
+    let y = three a _ _ _ _ _ _ x (unbanned_by a q (unbans_are_sent q (Acked q m ∷ h)) (banned_nodes q (Acked q m ∷ h))) (over_by a (parent_of q h) q.node h (Acked q m ∷ h)) in
+    omega arith
 
-ending : (a : Kind) (ms xs ys : List Message) (n m u : ℕ) → number (test_of a) ms ≡ n → number (test_of a) xs ≡ m → number (test_of a) ys ≡ u → number (test_of a) ((ms ++ xs) ++ ys) ≡ (n + m) + u
-ending a ms xs ys n m u e f g = let x = number-append (test_of a) (ms ++ xs) ys in let y = number-append (test_of a) ms xs in omega arith
+ending : (a : Kind) (ms xs ys zs : List Message) (n m u v : ℕ) → number (test_of a) ms ≡ n → number (test_of a) xs ≡ m → number (test_of a) ys ≡ u → number (test_of a) zs ≡ v → number (test_of a) (((ms ++ xs) ++ ys) ++ zs) ≡ ((n + m) + u) + v
+ending a ms xs ys zs n m u v e f g i = let x = number-append (test_of a) ((ms ++ xs) ++ ys) zs in let y = three a ms xs ys n m u e f g in omega arith
 
 at_refuse : (a : Kind) (t : TaskId) (c : ℕ) (h : List Event) → number (test_of a) (in_flight h) ≡ count_of a h → number (test_of a) (in_flight (Refuse t c ∷ h)) ≡ count_of a (Refuse t c ∷ h)
-unfolding unban_count answer_count
-at_refuse (of_request p k) t c h e = let x = ending (of_request p k) _ _ _ _ _ _ e (answered_by (of_request p k) (parent_of t h) (ask_of t h) (Cancelled t c no_counts)) (unbanned_by (of_request p k) t (unbans_are_sent t (Refuse t c ∷ h)) (banned_nodes t (Refuse t c ∷ h))) in omega arith
-at_refuse a t c h e = let x = ending a _ _ _ _ _ _ e (answered_by a (parent_of t h) (ask_of t h) (Cancelled t c no_counts)) (unbanned_by a t (unbans_are_sent t (Refuse t c ∷ h)) (banned_nodes t (Refuse t c ∷ h))) in omega arith
+unfolding unban_count answer_count over_count
+at_refuse (of_request p k) t c h e = let x = ending (of_request p k) _ _ _ _ _ _ _ _ e (answered_by (of_request p k) (parent_of t h) (ask_of t h) (Cancelled t c no_counts)) (unbanned_by (of_request p k) t (unbans_are_sent t (Refuse t c ∷ h)) (banned_nodes t (Refuse t c ∷ h))) (over_by (of_request p k) (parent_of t h) t.node h (Refuse t c ∷ h)) in omega arith
+at_refuse a t c h e = let x = ending a _ _ _ _ _ _ _ _ e (answered_by a (parent_of t h) (ask_of t h) (Cancelled t c no_counts)) (unbanned_by a t (unbans_are_sent t (Refuse t c ∷ h)) (banned_nodes t (Refuse t c ∷ h))) (over_by a (parent_of t h) t.node h (Refuse t c ∷ h)) in omega arith
 
 at_end : (a : Kind) (t : TaskId) (r : Reply) (h : List Event) → number (test_of a) (in_flight h) ≡ count_of a h → number (test_of a) (in_flight (End t r ∷ h)) ≡ count_of a (End t r ∷ h)
-unfolding unban_count answer_count
-at_end (of_request p k) t r h e = let x = ending (of_request p k) _ _ _ _ _ _ e (answered_by (of_request p k) (parent_of t h) (ask_of t h) r) (unbanned_by (of_request p k) t (unbans_are_sent t (End t r ∷ h)) (banned_nodes t (End t r ∷ h))) in omega arith
-at_end a t r h e = let x = ending a _ _ _ _ _ _ e (answered_by a (parent_of t h) (ask_of t h) r) (unbanned_by a t (unbans_are_sent t (End t r ∷ h)) (banned_nodes t (End t r ∷ h))) in omega arith
+unfolding unban_count answer_count over_count
+at_end (of_request p k) t r h e = let x = ending (of_request p k) _ _ _ _ _ _ _ _ e (answered_by (of_request p k) (parent_of t h) (ask_of t h) r) (unbanned_by (of_request p k) t (unbans_are_sent t (End t r ∷ h)) (banned_nodes t (End t r ∷ h))) (over_by (of_request p k) (parent_of t h) t.node h (End t r ∷ h)) in omega arith
+at_end a t r h e = let x = ending a _ _ _ _ _ _ _ _ e (answered_by a (parent_of t h) (ask_of t h) r) (unbanned_by a t (unbans_are_sent t (End t r ∷ h)) (banned_nodes t (End t r ∷ h))) (over_by a (parent_of t h) t.node h (End t r ∷ h)) in omega arith
 
 at_start : (a : Kind) → number (test_of a) (in_flight []) ≡ count_of a []
 at_start (of_request p k) = refl

@@ -1,8 +1,11 @@
 pub mod Asks
 pub mod Bans
+pub mod CalledOff
 pub mod Commands
 pub mod Content
 pub mod Counts
+pub mod DeepExamples
+pub mod Dues
 pub mod Earlier
 pub mod Escapes
 pub mod Examples
@@ -17,7 +20,11 @@ pub mod Numbers
 pub mod Once
 pub mod Pending
 pub mod Places
+pub mod Quiet
 pub mod Reach
 pub mod Rest
 pub mod Same
+pub mod Still
+pub mod Stops
 pub mod Tree
+pub mod Trees

@@ -1,5 +1,5 @@
 -- How many elements of a list pass a test, counted from the front.
-use Rattle.std.proofs.Common.{◌≡◌, ◌+◌, ◌-◌, ◌≤◌, ◌<◌, ℕ, Bool, true, false, cond, ◌&&◌, List, [], ◌∷◌, ◌++◌, map, refl, ap, ◌∙◌, arith}
+use Rattle.std.proofs.Common.{◌≡◌, ◌+◌, ◌-◌, ◌≤◌, ◌<◌, ℕ, Bool, true, false, cond, not, ◌&&◌, List, [], ◌∷◌, ◌++◌, map, refl, ap, ◌∙◌, arith}
 use Rattle.std.specs.Prelude.{count_by, ◌==◌}
 use Rattle.std.specs.List.{list_any, list_all}
 use Rattle.std.proofs.lemmas.List.Sums.{sum_by-cons}
@@ -35,20 +35,41 @@ number-nodes test f false n each [] = refl
 number-nodes test f true n each (m ∷ ns) = let e = number-nodes test f true n each ns in grind (arith, each m)
 number-nodes test f false n each (m ∷ ns) = let e = number-nodes test f false n each ns in grind (arith, each m)
 
--- an element that all pass passes
-pub passes_of_all : (test : ℕ → Bool) (n : ℕ) (ns : List ℕ) → list_all test ns ≡ true → 0 < number (λ m. n == m) ns → test n ≡ true
-passes_of_all test n [] l i = absurd (omega arith)
-passes_of_all test n (m ∷ ns) l i = let rest = passes_of_all test n ns in grind (arith, nat_tests, rest)
+pub both : (a b : Bool) → (a && b) ≡ true → (a ≡ true) × (b ≡ true)
+both true b e = (refl, e)
+both false b e = absurd (cc)
 
-pub all_pass : (test : ℕ → Bool) (ns : List ℕ) → ((n : ℕ) → 0 < number (λ m. n == m) ns → test n ≡ true) → list_all test ns ≡ true
-all_pass test [] each = refl
-all_pass test (m ∷ ns) each = let rest = all_pass test ns (λ n i. each n (omega arith)) in grind (arith, nat_tests, each m)
+-- an element of those that all pass passes
+pub passes_of_all : {X : Type 0} (same : X → X → Bool) → ((x y : X) → same x y ≡ true → x ≡ y) → (test : X → Bool) (x : X) (xs : List X) → list_all test xs ≡ true → 0 < number (same x) xs → test x ≡ true
+passes_of_all same tells test x [] l i = absurd (omega arith)
+passes_of_all same tells test x (y ∷ ys) l i =
+    let parts = both (test y) (list_all test ys) l in
+    first_or_later (same x y) (tells x y) i (λ j. passes_of_all same tells test x ys parts.1 j) parts.0
+  where
+    first_or_later : (b : Bool) → (b ≡ true → x ≡ y) → 0 < cond b 1 0 + number (same x) ys → (0 < number (same x) ys → test x ≡ true) → test y ≡ true → test x ≡ true
+    first_or_later true is k later e = rw (is refl) e
+    first_or_later false is k later e = later (omega arith)
+
+pub all_pass : {X : Type 0} (same : X → X → Bool) → ((x : X) → same x x ≡ true) → (test : X → Bool) (xs : List X) → ((x : X) → 0 < number (same x) xs → test x ≡ true) → list_all test xs ≡ true
+all_pass same itself test [] each = refl
+all_pass same itself test (y ∷ ys) each =
+    let rest = all_pass same itself test ys (λ x i. each x (omega arith)) in
+    let is = itself y in
+    let here : test y ≡ true = each y (rw is (omega arith)) in
+    rw (here, rest)
+
+pub same_number : (n m : ℕ) → (n == m) ≡ true → n ≡ m
+same_number n m e = grind (arith, nat_tests)
+
+pub number_itself : (n : ℕ) → (n == n) ≡ true
+number_itself n = grind (arith, nat_tests)
 
 -- an element that is counted at most once is counted as often as it is in the list
 pub in_list : (n : ℕ) (ns : List ℕ) → number (λ m. n == m) ns ≤ 1 → number (λ m. n == m) ns ≡ cond (list_any (λ m. n == m) ns) 1 0
 in_list n [] l = refl
 in_list n (m ∷ ns) l = let rest = in_list n ns (omega arith) in grind (arith, nat_tests, rest)
 
-pub both : (a b : Bool) → (a && b) ≡ true → (a ≡ true) × (b ≡ true)
-both true b e = (refl, e)
-both false b e = absurd (cc)
+-- where no element fails all pass
+pub all_as_number : {X : Type 0} (test : X → Bool) (xs : List X) → list_all test xs ≡ (number (λ x. not (test x)) xs == 0)
+all_as_number test [] = refl
+all_as_number test (x ∷ xs) = let rest = all_as_number test xs in grind (arith, nat_tests)

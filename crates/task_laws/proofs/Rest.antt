@@ -26,14 +26,14 @@ birth t (Root c u ∷ h) = cond (same_task t u) (suc (length h)) (birth t h)
 birth t (Put u p k ∷ h) = cond (same_task t u) (suc (length h)) (birth t h)
 birth t (_ ∷ h) = birth t h
 
-birth-le : (t : TaskId) (h : List Event) → birth t h ≤ length h
+pub birth-le : (t : TaskId) (h : List Event) → birth t h ≤ length h
 birth-le t [] = omega arith
 birth-le t (Root c u ∷ h) = grind (arith, same_tests, birth-le t h)
 birth-le t (Put u p k ∷ h) = grind (arith, same_tests, birth-le t h)
 birth-le t (_ ∷ h) = let r = birth-le t h in omega arith
 
 -- a child is born after its parent
-child_after : (cluster : Cluster) (h : List Event) → Lawful cluster h → (t p : TaskId) → parent_of t h ≡ Some p → birth p h < birth t h
+pub child_after : (cluster : Cluster) (h : List Event) → Lawful cluster h → (t p : TaskId) → parent_of t h ≡ Some p → birth p h < birth t h
 child_after cluster [] l t p e = absurd (cc)
 child_after cluster (Root c u ∷ h) l t p e =
     let f = ask_facts cluster h l.1 in

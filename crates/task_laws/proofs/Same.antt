@@ -28,3 +28,9 @@ pub ruleset same_tests = (same_task_tells, same_pair_tells, nat_tests)
 
 pub same_pair_refl : (t : TaskId) (k : ℕ) → same_pair t k t k ≡ true
 same_pair_refl t k = grind (arith, same_tests)
+
+pub same_task_is : (t u : TaskId) → same_task t u ≡ true → t ≡ u
+same_task_is t u e = grind (arith, same_tests)
+
+pub same_task_refl : (t : TaskId) → same_task t t ≡ true
+same_task_refl t = grind (arith, same_tests)

@@ -1,1 +1,2 @@
+pub mod DeepExample
 pub mod Example

@@ -1,11 +1,14 @@
 //! The laws of cancellation, over every lawful history.
 #![tactic(auto)]
 
-ghost use Rattle.std.specs.Prelude.{◌≡◌, ◌∷◌, ◌++◌, List, Some, None, true, false, ℕ};
+ghost use Rattle.std.specs.Prelude.{◌≡◌, ◌∷◌, ◌++◌, List, [], Some, None, true, false, ℕ};
 ghost use Rattle.task_events.specs.declared.event.Event.{Event};
+ghost use Rattle.task_laws.specs.DeepExample.{deep_example, until_deep_listed};
 ghost use Rattle.task_laws.specs.Example.{IsId, example};
 ghost use Rattle.task_events.specs.Lawful.{Lawful};
-ghost use Rattle.task_events.specs.Laws.{AnswersCancelsOnce, CancelsEarlyChildren, CancelsWithCause, CommandsActInOrder, DeliversAnyMessage, DrainsAll, EventsHaveCauses, LeavesNoBan, LetsNoChildEscape, ListsLiveTasks, MarksNamedTasks, MessagesTellThePast, OnceInFlight, OnePlace, OneStage, ReachesEveryChild, RefusesLateChildren, RestsOnLeaves, StandsInCluster, StepsFirst, WaitsForDescendants, WritesInTurns};
+ghost use Rattle.task_events.specs.Laws.{AnswersCancelsOnce, CancelsEarlyChildren, CancelsWithCause, CommandsActInOrder, DeliversAnyMessage, DrainsAll, EventsHaveCauses, LeavesNoBan, LetsNoChildEscape, ListsLiveTasks, MarksNamedTasks, MessagesTellThePast, OnceInFlight, OnePlace, OneStage, PlacesBans, ReachesEveryChild, RefusesLateChildren, RestsOnLeaves, StandsInCluster, StartsNothingLater, StepsFirst, StopsPlacedTrees, WaitsForDescendants, WritesInTurns, awaits_children};
+ghost use Rattle.task_events.specs.Messages.{in_flight};
+ghost use Rattle.task_events.specs.Messages.Message.{Ack};
 ghost use Rattle.task_events.specs.Tasks.{parent_of, descends};
 ghost use Rattle.task_events.specs.Cancels.{is_answered_done, is_named};
 ghost use Rattle.task_events.specs.Bans.{ban_put, late_ban};
@@ -25,7 +28,8 @@ pub fn one_place()
 {}
 
 /// At each moment of a lawful history the ban of each marked task on each of its banned nodes is in exactly
-/// one of six stages, and no other ban stands.
+/// one of seven stages, and no other ban stands. Its acknowledgement is sent exactly where the listing has ended and
+/// each child that was listed has ended or has its own bans placed.
 pub fn one_stage()
     ensures { (cluster : Cluster) (h : List Event) → Lawful cluster h → OneStage h }
 {}
@@ -38,19 +42,29 @@ pub fn late_children()
         → parent_of t h ≡ Some p → ban_put t.node p h ≡ None }
 {}
 
-/// Once its messages are handled, an ended task has no ban. So where nothing is live, in flight or listed, no ban
-/// stands, and the bans of each marked task are placed.
+/// Once its messages are handled, an ended task has no ban. Where nothing is in flight and no listing is open, the bans
+/// of each marked task are placed, so that no listing awaits a child for ever. And where besides nothing is live, no ban
+/// stands.
 pub fn drained_bans()
     ensures ended { (cluster : Cluster) (h : List Event) → Lawful cluster h → LeavesNoBan h }
+    ensures placed { (cluster : Cluster) (h : List Event) → Lawful cluster h → PlacesBans h }
     ensures all { (cluster : Cluster) (h : List Event) → Lawful cluster h → DrainsAll h }
 {}
 
-/// A running earlier child is cancelled: a listing ends, and its acknowledgement is sent, only when every child
-/// of the banned task on the node is ended or marked, and a cancellation is answered only after that. From then on
-/// each live child of that task there is marked, or was put late and is to be refused.
+/// A running earlier child is cancelled: a listing ends only when every child of the banned task on the node is ended
+/// or marked, the ban is acknowledged only when each of them has ended or has its own bans placed, and a cancellation
+/// is answered only when the whole trees of its tasks have stopped. From the end of a listing on each live child of
+/// that task there is marked, or was put late and is to be refused; and a tree whose root's bans are placed stays
+/// stopped.
 pub fn early_children()
     ensures listed { (cluster : Cluster) → CancelsEarlyChildren cluster }
+    ensures trees { (cluster : Cluster) (h : List Event) → Lawful cluster h → StopsPlacedTrees h }
     ensures later { (cluster : Cluster) (h : List Event) → Lawful cluster h → LetsNoChildEscape h }
+{}
+
+/// After the answer of a cancellation, whether it waits or not, nothing of its tasks' trees passes, asks or works.
+pub fn stopped_trees()
+    ensures { (cluster : Cluster) → StartsNothingLater cluster }
 {}
 
 /// A cancellation that waits is answered only when none of its tasks and none of their descendants is live, and
@@ -77,7 +91,8 @@ pub fn once_in_flight()
 {}
 
 /// What a message in flight says is determined by what has happened: a request's node by its ask, an answer's
-/// reply by the ask's child or its rejection, a ban's number by its task's mark.
+/// reply by the ask's child or its rejection, a ban's number by its task's mark. An acknowledgement in flight says that
+/// its listing has ended and each child that was listed has ended or has its own bans placed.
 pub fn message_contents()
     ensures { (cluster : Cluster) (h : List Event) → Lawful cluster h → MessagesTellThePast h }
 {}
@@ -128,4 +143,19 @@ pub fn example_is_lawful(cluster: Cluster, root: TaskId, early: TaskId, late: Ta
     requires late { IsId late 2 2 }
     ensures lawful { Lawful cluster (example root early late) }
     ensures late { late_ban late (example root early late) ≡ Some 2 }
+{}
+
+/// Nor are they where a cancellation goes deep: the listing of the root's ban awaits the child, and only when the
+/// child's own ban is acknowledged the acknowledgement of the root's is sent. The cancellation does not wait, and is
+/// answered after that.
+pub fn deep_example_is_lawful(cluster: Cluster, root: TaskId, child: TaskId, grandchild: TaskId)
+    requires nodes { cluster.nodes ≡ 3 }
+    requires slots { cluster.slots ≡ 2 }
+    requires root { IsId root 1 1 }
+    requires child { IsId child 2 1 }
+    requires grandchild { IsId grandchild 3 1 }
+    ensures lawful { Lawful cluster (deep_example root child grandchild) }
+    ensures awaits { awaits_children 2 root (until_deep_listed root child grandchild) ≡ true }
+    ensures before { in_flight (until_deep_listed root child grandchild) ≡ Ack child 3 ∷ [] }
+    ensures after { in_flight (Event.Acked child 3 ∷ until_deep_listed root child grandchild) ≡ Ack root 2 ∷ [] }
 {}

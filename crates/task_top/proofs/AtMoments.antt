@@ -1,15 +1,14 @@
 -- What is known of a past of a run is known of each earlier moment of it.
-use Rattle.std.proofs.Common.{◌≡◌, List, [], ◌∷◌, ◌++◌, refl, sym, subst, ◌∙◌, inl}
+use Rattle.std.proofs.Common.{◌≡◌, List, [], ◌++◌, refl, sym, subst, ◌∙◌, inl}
 use Rattle.task_ids.specs.declared.cluster.Cluster.{Cluster}
 use Rattle.task_ids.specs.declared.corpus.Corpus.{Corpus}
 use Rattle.task_events.specs.declared.event.Event.{Event}
-use Rattle.task_events.specs.declared.event.Event.TheVariants.{Root, Pass, Ask, End}
 use Rattle.task_events.specs.Lawful.{Lawful}
-use Rattle.task_events.specs.Requests.{Scripted}
 use Rattle.script_lang.specs.declared.command.Script.{Script}
 use Rattle.command_roots.specs.Roots.{scripted}
 use Rattle.world_moves.specs.Owning.{OneAtATime}
 use Rattle.world_moves.specs.Plain.{AnswersPlainly}
+use Rattle.world_moves.proofs.Parts.{earlier_plain, earlier_alone}
 use Rattle.world_steps.specs.Scripts.{IsRun, IsRunSoFar}
 use Rattle.task_top.specs.declared.kept.Kept.{Kept}
 use Rattle.task_top.specs.declared.status.Status.{Status}
@@ -23,20 +22,6 @@ pub record IsPast (cluster : Cluster) (corpus : Corpus) (script : Script) (h : L
   pub plain : AnswersPlainly cluster corpus script h
   pub alone : OneAtATime (scripted script) h
 
--- ---- what was so of one event more
-
-plain_sooner : (cluster : Cluster) (corpus : Corpus) (script : Script) (later h : List Event) → AnswersPlainly cluster corpus script (later ++ h) → AnswersPlainly cluster corpus script h
-plain_sooner cluster corpus script [] h plain = plain
-plain_sooner cluster corpus script (End t reply ∷ later) h plain = plain_sooner cluster corpus script later h plain.1
-plain_sooner cluster corpus script (_ ∷ later) h plain = plain_sooner cluster corpus script later h plain
-
-alone_sooner : (said : Scripted) (later h : List Event) → OneAtATime said (later ++ h) → OneAtATime said h
-alone_sooner said [] h alone = alone
-alone_sooner said (Root k t ∷ later) h alone = alone_sooner said later h alone.1
-alone_sooner said (Pass t ∷ later) h alone = alone_sooner said later h alone.1
-alone_sooner said (Ask p k n r ∷ later) h alone = alone_sooner said later h alone.1
-alone_sooner said (_ ∷ later) h alone = alone_sooner said later h alone
-
 module _ (cluster : Cluster) where
   -- ---- a run
 
@@ -46,8 +31,8 @@ module _ (cluster : Cluster) where
     sooner corpus script later h past = record {
       ran = earlier_run cluster corpus script later h past.ran;
       lawful = earlier_lawful cluster later h past.lawful;
-      plain = plain_sooner cluster corpus script later h past.plain;
-      alone = alone_sooner (scripted script) later h past.alone;
+      plain = earlier_plain cluster corpus script later h past.plain;
+      alone = earlier_alone (scripted script) later h past.alone;
     }
 
     -- what was read ran so far at each moment

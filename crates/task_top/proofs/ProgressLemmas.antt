@@ -2,7 +2,7 @@
 use Rattle.std.proofs.Common.{◌≡◌, ℕ, ◌+◌, ◌≤◌, Bool, true, false, cond, ◌||◌, List, [], ◌∷◌, ◌++◌, length, length-append, slice_get, Option, Some, None, Result, Ok, Err, OnOk, OnErr, IfErr, inl, inr, refl, sym, ap, ◌∙◌, subst, add-one, ⊎_elim, arith}
 use Rattle.std.specs.List.{list_any}
 use Rattle.std.proofs.lemmas.Bool.{cases_lt, lt-ltb, le-ltb}
-use Rattle.std.proofs.lemmas.Option.{slice_get_within}
+use Rattle.std.proofs.lemmas.Option.{slice_get_within, same_Some}
 use Rattle.search_phase.proofs.Requests.{slice_get-append_left, slice_get-append_right}
 use Rattle.task_ids.specs.declared.cluster.Cluster.{Cluster}
 use Rattle.task_events.specs.declared.event.Event.{Event}
@@ -55,9 +55,6 @@ module _ (k : ℕ) (old new : List Event) (turn : IsTurn k old new) where
 
 -- ---- what is noted
 
-some_is : (x y : Command) → Some x ≡ Some y → x ≡ y
-some_is x y e = cc
-
 module _ (cluster : Cluster) (script : Script) (k n : ℕ) (found : List (Option Note)) (old new : List Event) (notes : NotesAll cluster script old n found) (begun_so_many : begun old ≡ n) (turn : IsTurn k old new) where
   -- what was noted still holds
   pub noted_still : NotesAll cluster script new n found
@@ -68,7 +65,7 @@ module _ (cluster : Cluster) (script : Script) (k n : ℕ) (found : List (Option
     this_one i command e at =
         let last : i ≡ 0 + n = omega arith in
         let begins : i + 1 ≡ begun old + 1 = omega arith in
-        let same : next ≡ command = some_is next command (sym next_is ∙ ap (slice_get script.commands) (sym e) ∙ at) in
+        let same : next ≡ command = same_Some next command (sym next_is ∙ ap (slice_get script.commands) (sym e) ∙ at) in
         let past : old ≡ history_before (i + 1) new = sym (before_stays k old new turn (i + 1) (omega arith) ∙ ap (λ m. history_before m old) begins ∙ before_next old) in
         ap (slice_get (found ++ noted ∷ [])) last ∙ slice_get-append_right 0 n found (noted ∷ []) many
         ∙ ap Some (is ∙ ap (λ c. note_of cluster script c old) same ∙ ap (note_of cluster script command) past)

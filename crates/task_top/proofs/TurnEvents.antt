@@ -1,5 +1,6 @@
 -- The events of a command are those of its turn.
 use Rattle.std.proofs.Common.{◌≡◌, ◌≢◌, ◌≤◌, ◌<◌, ℕ, zero, suc, ◌+◌, Bool, true, false, cond, List, [], ◌∷◌, ◌++◌, reverse, length, Some, refl, sym, ap, subst, ◌∙◌, append_assoc, append-nil, add-one, arith, ⊎_elim}
+use Rattle.std.proofs.lemmas.Option.{same_Some}
 use mathlib.Core.List.{reverse-cons}
 use Rattle.std.specs.Prelude.{◌==◌}
 use Rattle.std.specs.List.{list_any}
@@ -90,9 +91,6 @@ module _ (cluster : Cluster) (corpus : Corpus) (script : Script) (k : ℕ) (comm
       let all : length done.after ≡ length done.turn.0 + length (Begin k ∷ done.before) = ap length done.turn.1 ∙ length-append done.turn.0 (Begin k ∷ done.before) in
       omega (arith, nothing, all, longer)
 
-some_is : (x y : Command) → Some x ≡ Some y → x ≡ y
-some_is x y e = cc
-
 module _ (cluster : Cluster) (corpus : Corpus) (script : Script) where
   -- as many commands have begun as have run
   pub begun_in_run : (n : ℕ) (h : List Event) → HasRun cluster corpus script n h → begun h ≡ n
@@ -124,7 +122,7 @@ module _ (cluster : Cluster) (corpus : Corpus) (script : Script) where
         after = h;
         later = [];
         stands = refl;
-        does = subst (λ c. Does cluster corpus script (suc n) c (Begin (suc n) ∷ before) h) (some_is there command (sym at ∙ is)) does;
+        does = subst (λ c. Does cluster corpus script (suc n) c (Begin (suc n) ∷ before) h) (same_Some there command (sym at ∙ is)) does;
         turn = turn;
         past = before_stays (suc n) before h turn (suc n) (omega arith) ∙ ap (λ m. history_before m before) next ∙ before_next before;
         told = turn_events (suc n) before h turn (suc n) next;

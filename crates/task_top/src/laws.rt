@@ -26,7 +26,8 @@ ghost use Rattle.task_top.specs.Reading.{max_input, Reads, Refuses, IsRead, IsRe
 ghost use Rattle.task_top.specs.Unharmed.{AnswersWholly};
 
 use task_laws::{
-    causes, drained_bans, early_children, late_children, one_place, one_stage, waiting,
+    causes, drained_bans, early_children, late_children, one_place, one_stage, stopped_trees,
+    waiting,
 };
 use write_laws::{copies_all_rows, counts_its_writes, keeps_to_its_rate};
 
@@ -90,6 +91,7 @@ pub(crate) fn all_laws()
     one_stage();
     late_children();
     early_children();
+    stopped_trees();
     waiting();
     drained_bans();
     causes();

@@ -117,7 +117,7 @@ pub fn sim_top<S: Source, K: Sink>(
         Err(ScriptError::Bad { line, cause }) => {
             (Status::Refused(line, cause), Kept::nothing(alloc))
         }
-        Err(ScriptError::Memory) => (Status::Memory, Kept::nothing(alloc)),
+        Err(ScriptError::Memory { .. }) => (Status::Memory, Kept::nothing(alloc)),
     }
 }
 

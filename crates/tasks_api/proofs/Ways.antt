@@ -3,13 +3,14 @@
 use Rattle.std.proofs.Common.{◌≡◌, ℕ, zero, suc, ◌+◌, ◌≤◌, Bool, true, false, not, ◌||◌, List, [], ◌∷◌, map, filter, length, Option, None, Some, cond, ◌⊎◌, inl, inr, ⊎_elim, refl, sym, ap, subst, ◌∙◌, arith}
 use Rattle.std.specs.Cmp.{IsEquivalence}
 use Rattle.std.specs.List.{list_any, AllByRecursion, IsDistinct}
-use Rattle.std.proofs.lemmas.Bool.{cases_Bool, or_cases}
+use Rattle.std.proofs.lemmas.Bool.{cases_Bool, or_cases, or_right}
 use Rattle.std.proofs.lemmas.List.{length-map}
 use Rattle.std.proofs.lemmas.Map.Made.{length-le_from_is_member}
 use Rattle.serde_json.specs.Data.{Data, object, Members, no_members, put}
 use Rattle.task_ids.specs.TaskId.{task_id_text}
 use Rattle.task_ids.specs.declared.task_id.TaskId.{TaskId}
 use Rattle.task_ids.specs.declared.task_info.TaskInfo.{TaskInfo}
+use Rattle.task_ids.proofs.Patterns.{or_false}
 use Rattle.task_ids.proofs.SameId.{same_id-from_test, test-from_same_id}
 use Rattle.tasks_api.specs.Filters.{is_task, is_child_of}
 use Rattle.tasks_api.specs.Objects.{with_each}
@@ -57,14 +58,6 @@ one_row (row ∷ rows) a b once (inr later) (inl here) same =
     let other = apart rows row.id a once.0 later in
     let wrong : false ≡ true = sym other ∙ ap (λ (r : TaskInfo). is_task r.id a.id) (sym here) ∙ turned a.id b.id same in absurd (cc)
 one_row (row ∷ rows) a b once (inr later) (inr also) same = one_row rows a b once.1 later also same
-
-or_false : (a : Bool) → (a || false) ≡ true → a ≡ true
-or_false true h = refl
-or_false false h = h
-
-or_right : (a b : Bool) → b ≡ true → (a || b) ≡ true
-or_right true b h = refl
-or_right false b h = h
 
 some_in : (test : TaskInfo → Bool) (rows : List TaskInfo) (row : TaskInfo) → IsIn row rows → test row ≡ true → list_any test rows ≡ true
 some_in test [] row within h = absurd within

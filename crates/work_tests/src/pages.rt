@@ -11,7 +11,7 @@ use search_phase::{
 use shard_docs::Shard;
 use shared_value::Shared;
 use std::alloc::Global;
-use task_events::{Reply, Request};
+use task_events::{AnsweredRequest, Reply, Request};
 use task_ids::TaskId;
 
 /// The documents of three shards, with an id and a source a line.
@@ -115,8 +115,8 @@ fn reply(alloc: Global, shards: &[Shard], request: &Request) -> Option<Reply> {
     }
 }
 
-/// Asks for what comes next, under this number, and takes the answer, if there is something to ask for.
-fn step(alloc: Global, root: &mut SearchRoot, shards: &[Shard], number: u32) -> Option<()>
+/// Asks for what comes next, under this number, if there is something to ask for.
+fn ask_next(root: &mut SearchRoot, number: u32) -> Option<Request>
     requires { is_above number root.old.asked ≡ true }
     ensures { is_above (number + 1) root.new.asked ≡ true }
 {
@@ -124,6 +124,15 @@ fn step(alloc: Global, root: &mut SearchRoot, shards: &[Shard], number: u32) -> 
         return None;
     };
     root.asked(number);
+    Some(request)
+}
+
+/// Asks for what comes next, under this number, and takes the answer, if there is something to ask for.
+fn step(alloc: Global, root: &mut SearchRoot, shards: &[Shard], number: u32) -> Option<()>
+    requires { is_above number root.old.asked ≡ true }
+    ensures { is_above (number + 1) root.new.asked ≡ true }
+{
+    let request = ask_next(root, number)?;
     let reply = reply(alloc, shards, &request)?;
     if !root.takes(number, &reply) {
         return None;
@@ -166,4 +175,22 @@ fn a_page_shows_the_rows_after_the_cursor(rt: HostRuntime) {
             .is_some_and(|key| key.shard == 2 && key.place == 0)
     );
     assert!(rt; page.context == Some(TaskId { node: 1, number: 1 }));
+}
+
+/// Whether the first two asks of the page each await their own request, and a third awaits none.
+fn tells_asks_apart(alloc: Global) -> Option<bool> {
+    let shards = shards(alloc)?;
+    let context = context(alloc, shards.as_slice())?;
+    let task = TaskId { node: 1, number: 2 };
+    let mut root = SearchRoot::new(alloc, task, context.ask.get(), 3, Some(&context)).ok()?;
+    let first = AnsweredRequest::of(&ask_next(&mut root, 1)?).ok()?;
+    let second = AnsweredRequest::of(&ask_next(&mut root, 2)?).ok()?;
+    let own = root.asks_for(1, &first) && root.asks_for(2, &second);
+    let other = root.asks_for(1, &second) || root.asks_for(2, &first);
+    Some(own && !other && !root.asks_for(3, &first))
+}
+
+#[test]
+fn an_ask_awaits_its_own_request(rt: HostRuntime) {
+    assert!(rt; tells_asks_apart(rt.alloc()) == Some(true));
 }

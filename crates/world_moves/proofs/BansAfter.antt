@@ -40,6 +40,8 @@ use Rattle.world_moves.proofs.FlightAfter.{all_stay}
 use Rattle.world_moves.proofs.KeptTasks.{kept_same, is_at_task}
 use Rattle.world_moves.proofs.NodeTablesSame.{listed_same}
 use Rattle.world_moves.proofs.OpenListings.{is_at_listing}
+use Rattle.world_moves.proofs.QuietListings.{quiet_listings}
+use Rattle.world_moves.proofs.WaitsAfter.{waits_stay}
 use Rattle.world_moves.specs.Good.{so_far}
 
 -- ---- tasks and messages
@@ -123,6 +125,7 @@ module _ (cluster : Cluster) (h : List Event) (tables : List Table) (roots : ℕ
       roots_are = c.roots_are;
       bans_are = set_at (λ place o. HasBansAt cluster place h o) (λ place o. HasBansAt cluster place (BanPut n p k ∷ h) o) bans (n - 1) b (insert b p k) here c.bans_are (put_there k) (λ place apart. put_elsewhere k place apart _);
       cores_are = c.cores_are;
+      waits_are = λ place. waits_stay place h (BanPut n p k ∷ h) _ (quiet_listings (BanPut n p k) h refl) (c.waits_are place);
       listings_are = λ l. changed l ∙ ap (λ x. cond x true (contains listing_cmp listings l)) (is_at_listing (record { node = n; parent = p }) l) ∙ ap (cond (same_pair l.parent l.node p n) true) (c.listings_are l);
     }
 
@@ -132,5 +135,6 @@ module _ (cluster : Cluster) (h : List Event) (tables : List Table) (roots : ℕ
       roots_are = c.roots_are;
       bans_are = set_at (λ place o. HasBansAt cluster place h o) (λ place o. HasBansAt cluster place (BanGone n p ∷ h) o) bans (n - 1) b (finite.remove b p) here c.bans_are gone_there (λ place apart. gone_elsewhere place apart _);
       cores_are = c.cores_are;
+      waits_are = λ place. waits_stay place h (BanGone n p ∷ h) _ (quiet_listings (BanGone n p) h refl) (c.waits_are place);
       listings_are = c.listings_are;
     }

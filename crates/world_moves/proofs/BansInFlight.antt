@@ -1,5 +1,5 @@
 -- What is so of a message about bans that reaches its node.
-use Rattle.std.proofs.Common.{◌≡◌, ◌≤◌, ◌==◌, ℕ, Bool, true, false, not, List, [], ◌∷◌, Option, Some, None, filter, refl, sym, ap, subst, ◌∙◌, arith}
+use Rattle.std.proofs.Common.{◌≡◌, ◌≤◌, ◌<◌, ◌==◌, ℕ, Bool, true, false, not, List, [], ◌∷◌, Option, Some, None, filter, refl, sym, ap, subst, ◌∙◌, arith}
 use Rattle.std.specs.Prelude.{slice_get, is_some}
 use Rattle.std.specs.List.{list_any}
 use Rattle.task_ids.specs.declared.task_id.TaskId.{TaskId}
@@ -17,8 +17,9 @@ use Rattle.task_events.specs.Laws.{IsTold, IsDeliveredAt, is_banned}
 use Rattle.task_events.specs.Messages.{in_flight, is_ban, is_ack, is_unban}
 use Rattle.task_events.specs.Messages.Message.{Ban, Ack, Unban}
 use Rattle.task_laws.proofs.Asks.{AskFacts, ask_facts}
-use Rattle.task_laws.proofs.Bans.{BanFacts, ban_facts}
+use Rattle.task_laws.proofs.Bans.{BanFacts, ban_facts, before_acked}
 use Rattle.task_laws.proofs.Content.{told}
+use Rattle.task_laws.proofs.Counts.{banned}
 use Rattle.task_laws.proofs.InFlight.{bans_in_flight, acks_in_flight}
 use Rattle.task_laws.proofs.Numbers.{in_list}
 use Rattle.task_laws.proofs.Once.{once_each}
@@ -124,11 +125,14 @@ module _ (cluster : Cluster) (corpus : Corpus) (script : Script) (h : List Event
     ack_taken = at_place (is_ack n p) h nth (Ack p n) ((once_each h asks facts).ack n p) ack_here (same_pair_refl p n)
 
     -- its node is banned, and has not acknowledged
+    not_yet : (is_acked n p h ≡ false) × (0 < banned n p h)
+    not_yet = before_acked n p h facts (let away = ack_taken.0 in grind (arith, acks_in_flight n p h))
+
     pub ack_new : is_acked n p h ≡ false
-    ack_new = let away = ack_taken.0 in grind (arith, acks_in_flight n p h, facts.course n p, facts.once n p)
+    ack_new = not_yet.0
 
     pub ack_banned : is_banned n p h ≡ true
-    ack_banned = let away = ack_taken.0 in grind (arith, acks_in_flight n p h, facts.course n p, facts.once n p, in_list n (banned_nodes p h) (facts.once n p))
+    ack_banned = let some = not_yet.1 in grind (arith, some, in_list n (banned_nodes p h) (facts.once n p))
 
   module _ (p : TaskId) (n : ℕ) (here : slice_get flight nth ≡ Some (sent.Notice (notices.Unban p n))) where
     pub unban_here : slice_get (in_flight h) nth ≡ Some (Unban p n)

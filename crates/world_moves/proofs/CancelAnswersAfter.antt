@@ -42,6 +42,8 @@ use Rattle.world_moves.proofs.FlightAfter.{all_stay}
 use Rattle.world_moves.proofs.NodeTablesSame.{listed_same}
 use Rattle.world_moves.proofs.NamedCancels.{is_in, named_in, named_waits, named_found, named_differ, in_filter, filter_differ}
 use Rattle.world_moves.proofs.TasksNamed.{through_with}
+use Rattle.world_moves.proofs.QuietListings.{quiet_listings}
+use Rattle.world_moves.proofs.WaitsAfter.{waits_stay}
 
 -- the cancels that are answered: they named the task, are due, and are not answered yet
 pub in_due : (t : TaskId) (h : List Event) (c : ℕ) → is_in c (due_for t h) ≡ ((is_due h c && not (is_answered c h)) && is_named c t h)
@@ -124,10 +126,10 @@ module _ (cluster : Cluster) (t : TaskId) (h : List Event) where
       kept (λ past. Cancelling cluster (λ u. waiting_for u past) past tables roots bans cores listings) (λ d past. noted_placed d past) (λ d past. noted_done d past) t h c
     where
       noted_placed : (d : ℕ) (past : List Event) → Cancelling cluster (λ u. waiting_for u past) past tables roots bans cores listings → Cancelling cluster (λ u. waiting_for u (AnswerPlaced d ∷ past)) (AnswerPlaced d ∷ past) tables roots bans cores listings
-      noted_placed d past n = record { rows_are = n.rows_are; roots_are = n.roots_are; bans_are = n.bans_are; cores_are = n.cores_are; listings_are = n.listings_are }
+      noted_placed d past n = record { rows_are = n.rows_are; roots_are = n.roots_are; bans_are = n.bans_are; cores_are = n.cores_are; waits_are = λ place. waits_stay place past (AnswerPlaced d ∷ past) _ (quiet_listings (AnswerPlaced d) past refl) (n.waits_are place); listings_are = n.listings_are }
 
       noted_done : (d : ℕ) (past : List Event) → Cancelling cluster (λ u. waiting_for u past) past tables roots bans cores listings → Cancelling cluster (λ u. waiting_for u (AnswerDone d ∷ past)) (AnswerDone d ∷ past) tables roots bans cores listings
-      noted_done d past n = record { rows_are = n.rows_are; roots_are = n.roots_are; bans_are = n.bans_are; cores_are = n.cores_are; listings_are = n.listings_are }
+      noted_done d past n = record { rows_are = n.rows_are; roots_are = n.roots_are; bans_are = n.bans_are; cores_are = n.cores_are; waits_are = λ place. waits_stay place past (AnswerDone d ∷ past) _ (quiet_listings (AnswerDone d) past refl) (n.waits_are place); listings_are = n.listings_are }
 
   pub answers_described : (script : Script) (tables : List Table) (flight : List Sent) (now : ℕ) → Describing script h tables flight now → Describing script (with_answers t h) tables flight now
   answers_described script tables flight now d = kept (λ past. Describing script past tables flight now) (λ c past x. placed c past x) (λ c past x. done c past x) t h d

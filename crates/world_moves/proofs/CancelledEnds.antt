@@ -18,10 +18,10 @@ use Rattle.task_events.specs.Allowed.{cancellation_in}
 use Rattle.task_events.specs.Asks.{is_unanswered, last_ask}
 use Rattle.task_events.specs.Bans.{mark_of}
 use Rattle.task_events.specs.Lawful.{AwaitsNoMark, Lawful}
-use Rattle.task_events.specs.Messages.{unbans_from}
+use Rattle.task_events.specs.Messages.{unbans_from, ack_over}
 use Rattle.task_events.specs.Contexts.{page_of}
 use Rattle.task_events.specs.Requests.{request_of}
-use Rattle.task_events.specs.Tasks.{is_live, no_counts}
+use Rattle.task_events.specs.Tasks.{is_live, parent_of, no_counts}
 use Rattle.task_laws.proofs.Asks.{ask_facts}
 use Rattle.task_laws.proofs.Pending.{is_pending}
 use Rattle.script_lang.specs.declared.command.Script.{Script}
@@ -46,7 +46,7 @@ use Rattle.corpus_shards.specs.declared.Shards.{Shards}
 use Rattle.world_moves.proofs.CountsKept.{none_below, counts_below}
 use Rattle.world_moves.proofs.AllKinds.{good_cancelled}
 use Rattle.world_moves.proofs.NoneAwaited.{none_from}
-use Rattle.world_moves.proofs.CancelsAfterLeave.{Leaves, mark_stays}
+use Rattle.world_moves.proofs.CancelsAfterLeave.{Leaves, mark_stays, none_acked}
 use Rattle.world_moves.proofs.TasksAfterLeave.{IsLeave, ends, refuses, nothing_open, after_leave, no_unbans}
 use Rattle.world_moves.proofs.AsksCounted.{awaited_at}
 
@@ -145,18 +145,24 @@ module _ (cluster : Cluster) (corpus : Corpus) (script : Script) (h : List Event
   pub leaver_open : still_open r.track ≡ 0
   leaver_open = nothing_open cluster corpus script h tasks tables flight ties t (leaver_lives (counted cluster corpus (scripted script) t h) t h e m) r here (leaver_awaits_none (counted cluster corpus (scripted script) t h) t h cluster ties.lawful e m)
 
-  pub after_cancelled : AwaitsNoMark h → (table : Table) (receipt : ReceiptParts) (after : TaskId → Option Running) (unbans : List Sent) → slice_get tables (t.node - 1) ≡ Some table → receipt ≡ sealed r.track r.ticket.token
-      → after t ≡ None → ((q : TaskId) → same_task t q ≡ false → after q ≡ tasks q) → map (message_of (e ∷ h)) unbans ≡ map Some (unbans_from t (e ∷ h))
-      → Ties cluster corpus script (e ∷ h) after (slice_set tables (t.node - 1) (without_task table t.number)) (flight ++ told_parent receipt (length h) ++ unbans)
+  pub after_cancelled : AwaitsNoMark h → (table : Table) (receipt : ReceiptParts) (after : TaskId → Option Running) (more : List Sent) → slice_get tables (t.node - 1) ≡ Some table → receipt ≡ sealed r.track r.ticket.token
+      → after t ≡ None → ((q : TaskId) → same_task t q ≡ false → after q ≡ tasks q) → map (message_of (e ∷ h)) more ≡ map Some (unbans_from t (e ∷ h) ++ ack_over (parent_of t h) t.node h (e ∷ h))
+      → Ties cluster corpus script (e ∷ h) after (slice_set tables (t.node - 1) (without_task table t.number)) (flight ++ told_parent receipt (length h) ++ more)
   after_cancelled awaits =
       after_leave cluster corpus script h tasks tables flight ties t (leaver_lives (counted cluster corpus (scripted script) t h) t h e m) r here _ e (is_leave (counted cluster corpus (scripted script) t h) t h cluster ties.lawful (so_far corpus script h) e m)
       (left_lawful (counted cluster corpus (scripted script) t h) t h cluster ties.lawful awaits e m) (left_plain cluster corpus script t h e m ties.plain)
       (λ p parent q asked. good_cancelled cluster (so_far corpus script h) t (number_of (counted cluster corpus (scripted script) t h) t h e m) (told_counts (counted cluster corpus (scripted script) t h) t h e m) q (low_counts e m q (child_request cluster (scripted script) t p h ties.lawful parent ∙ asked)))
 
-  -- where it is not marked there are no unbans
+  -- where it is not marked there are no unbans, and no acknowledgement falls due
   pub after_unmarked : AwaitsNoMark h → mark_of t h ≡ None → (table : Table) (receipt : ReceiptParts) (after : TaskId → Option Running) → slice_get tables (t.node - 1) ≡ Some table → receipt ≡ sealed r.track r.ticket.token
       → after t ≡ None → ((q : TaskId) → same_task t q ≡ false → after q ≡ tasks q)
       → Ties cluster corpus script (e ∷ h) after (slice_set tables (t.node - 1) (without_task table t.number)) (flight ++ told_parent receipt (length h))
   after_unmarked awaits none table receipt after its_table sealed_is gone others =
       subst (λ queue. Ties cluster corpus script (e ∷ h) after (slice_set tables (t.node - 1) (without_task table t.number)) queue) (append-nil (flight ++ told_parent receipt (length h)))
-      (after_cancelled awaits table receipt after [] its_table sealed_is gone others (sym (ap (map Some) (no_unbans t (e ∷ h) (mark_stays t h e (leaves_so (counted cluster corpus (scripted script) t h) t h e m) t ∙ none)))))
+      (after_cancelled awaits table receipt after [] its_table sealed_is gone others (sym (ap (map Some) (λ i. no_unbans t (e ∷ h) (mark_stays t h e leaves t ∙ none) i ++ none_acked t h e leaves cluster lawful none i))))
+    where
+      leaves : Leaves t e
+      leaves = leaves_so (counted cluster corpus (scripted script) t h) t h e m
+
+      lawful : Lawful cluster (e ∷ h)
+      lawful = left_lawful (counted cluster corpus (scripted script) t h) t h cluster ties.lawful awaits e m

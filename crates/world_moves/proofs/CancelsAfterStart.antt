@@ -27,6 +27,7 @@ use Rattle.task_events.specs.Lawful.{Lawful}
 use Rattle.task_laws.proofs.Numbers.{number}
 use Rattle.task_laws.proofs.Living.{living_facts}
 use Rattle.task_laws.proofs.Same.{same_tests}
+use Rattle.task_laws.proofs.Stops.{stop_facts}
 use Rattle.node_parts.specs.declared.listing.Listing.{Listing}
 use Rattle.command_roots.specs.Roots.{root_of}
 use Rattle.world_moves.specs.Cancelling.{Cancelling, HasRows, IsRowOf}
@@ -35,6 +36,7 @@ use Rattle.world_moves.proofs.AtPlace.{set_at}
 use Rattle.world_moves.proofs.Tables.{IsPutOn, table_of, put_takes}
 use Rattle.world_moves.proofs.UnbornTasks.{unborn}
 use Rattle.world_moves.proofs.CancelsUntouched.{noted_with}
+use Rattle.world_moves.proofs.QuietListings.{put_listings, quiet_listings}
 
 -- what passes no test
 one_fails : {X : Type 0} (test : X → Bool) (b : Bool) (x : X) (xs : List X) → test x ≡ b → cond b 1 0 + number test xs ≡ 0 → (number test xs ≡ 0 → All (λ y. test y ≡ false) xs) → All (λ y. test y ≡ false) (x ∷ xs)
@@ -114,14 +116,14 @@ module _ (cluster : Cluster) (h : List Event) (tables : List Table) (listed : (p
   module _ (waiting : TaskId → List ℕ) (roots : ℕ → Option TaskId) (bans : List (FinMap task_id_cmp ℕ)) (cores : List Cancellations) (listings : BTreeSet Listing)
       (known : Cancelling cluster waiting h tables roots bans cores listings) where
     pub noted_put : (p : TaskId) (k : ℕ) → task.parent ≡ Some p → Cancelling cluster waiting (Put t p k ∷ h) after roots bans cores listings
-    noted_put p k is = noted_with cluster waiting h tables roots bans cores listings known (Put t p k) after roots refl (put_rows (Some p) (Put t p k) starts is known.rows_are) known.roots_are
+    noted_put p k is = noted_with cluster waiting h tables roots bans cores listings known (Put t p k) after roots refl (put_listings t p k h (stop_facts cluster h lawful) (no_parent cluster t h lawful is_new)) (put_rows (Some p) (Put t p k) starts is known.rows_are) known.roots_are
       where
         starts : IsStartFor t (Some p) (Put t p k) h
         starts = record { own = grind (arith, same_tests); others = λ u differs. grind (arith, same_tests); marks = λ u. refl }
 
     pub noted_root : (command : ℕ) (started : ℕ → Option TaskId) → task.parent ≡ None → ((k : ℕ) → started k ≡ cond (is_at (nat_cmp command) k) (Some t) (roots k))
         → Cancelling cluster waiting (Root command t ∷ h) after started bans cores listings
-    noted_root command started is changed = noted_with cluster waiting h tables roots bans cores listings known (Root command t) after started refl (put_rows None (Root command t) starts is known.rows_are) roots_are
+    noted_root command started is changed = noted_with cluster waiting h tables roots bans cores listings known (Root command t) after started refl (quiet_listings (Root command t) h refl) (put_rows None (Root command t) starts is known.rows_are) roots_are
       where
         starts : IsStartFor t None (Root command t) h
         starts = record { own = no_parent cluster t h lawful is_new; others = λ u differs. refl; marks = λ u. refl }

@@ -16,6 +16,9 @@ use Rattle.node_parts.specs.declared.listing.Listing.{Listing}
 use Rattle.command_roots.specs.Roots.{root_of}
 use Rattle.world_moves.specs.Listings.{is_open}
 use Rattle.world_moves.specs.Cancelling.{Cancelling, HasRows, HasBansAt}
+use Rattle.world_moves.proofs.OneStops.{ListingsStay}
+use Rattle.world_moves.proofs.QuietListings.{lists, quiet_listings}
+use Rattle.world_moves.proofs.WaitsAfter.{waits_stay}
 use Rattle.world_moves.proofs.CancelFrame.{about_cancellation, NamesAlike, entry_frame, cores_kept}
 
 -- the event marks or names a task, is of a ban, or ends a task
@@ -65,19 +68,30 @@ no_root : (e : Event) (h : List Event) (k : ℕ) → starts e ≡ false → root
 no_root (Root c t) h k b = absurd (cc)
 no_root _ h k b = refl
 
+-- it lists nothing and stops nothing
+lists_none : (e : Event) → cancels e ≡ false → starts e ≡ false → lists e ≡ false
+lists_none (Put t p k) a b = absurd (cc)
+lists_none (Refuse t c) a b = absurd (cc)
+lists_none (Mark t c) a b = absurd (cc)
+lists_none (Listed n p) a b = absurd (cc)
+lists_none (Acked p n) a b = absurd (cc)
+lists_none (End t r) a b = absurd (cc)
+lists_none _ a b = refl
+
 module _ (cluster : Cluster) (waiting : TaskId → List ℕ) (h : List Event) (tables : List Table) (roots : ℕ → Option TaskId) (bans : List (FinMap task_id_cmp ℕ)) (cores : List Cancellations) (listings : BTreeSet Listing)
     (known : Cancelling cluster waiting h tables roots bans cores listings) where
   -- where the rows and the roots are as they should be after such an event
-  pub noted_with : (e : Event) (after : List Table) (started : ℕ → Option TaskId) → cancels e ≡ false → ((place : ℕ) → HasRows (e ∷ h) (slice_get after place)) → ((k : ℕ) → started k ≡ root_of k (e ∷ h))
+  pub noted_with : (e : Event) (after : List Table) (started : ℕ → Option TaskId) → cancels e ≡ false → ListingsStay h (e ∷ h) → ((place : ℕ) → HasRows (e ∷ h) (slice_get after place)) → ((k : ℕ) → started k ≡ root_of k (e ∷ h))
       → Cancelling cluster waiting (e ∷ h) after started bans cores listings
-  noted_with e after started a rows starts_of = record {
+  noted_with e after started a stay rows starts_of = record {
     rows_are = rows;
     roots_are = starts_of;
     bans_are = λ place. bans_stay cluster e h a place _ (known.bans_are place);
     cores_are = λ place. cores_kept cluster waiting waiting h (e ∷ h)
         (λ u o. let none = uninvolved (waiting u) e h a in entry_frame (waiting u) u h e o (ap (λ o. option_map_or (same_task u) o false) none.0) none.1) place _ (known.cores_are place);
+    waits_are = λ place. waits_stay place h (e ∷ h) _ stay (known.waits_are place);
     listings_are = λ l. known.listings_are l ∙ sym (opens_nothing e h l a);
   }
 
   pub noted : (e : Event) → cancels e ≡ false → starts e ≡ false → Cancelling cluster waiting (e ∷ h) tables roots bans cores listings
-  noted e a b = noted_with e tables roots a (λ place. rows_stay e h a b _ (known.rows_are place)) (λ k. known.roots_are k ∙ sym (no_root e h k b))
+  noted e a b = noted_with e tables roots a (quiet_listings e h (lists_none e a b)) (λ place. rows_stay e h a b _ (known.rows_are place)) (λ k. known.roots_are k ∙ sym (no_root e h k b))

@@ -1,5 +1,5 @@
 -- The cores after the cancellation of one task has gone on.
-use Rattle.std.proofs.Common.{◌≡◌, ◌≢◌, ◌⊎◌, ◌<◌, ◌≤◌, ◌-◌, ◌+◌, ℕ, true, false, cond, List, [], ◌∷◌, length, Option, Some, None, refl, sym, ap, subst, ◌∙◌, inl, inr, arith}
+use Rattle.std.proofs.Common.{◌≡◌, ◌≢◌, ◌⊎◌, ◌<◌, ◌≤◌, ◌-◌, ◌+◌, ℕ, Bool, true, false, cond, List, [], ◌∷◌, length, Option, Some, None, refl, sym, ap, subst, ◌∙◌, inl, inr, arith}
 use Rattle.std.specs.Prelude.{slice_get, slice_set, is_some}
 use Rattle.std.specs.FinMap.{FinMap, get, get-insert, get-remove}
 use Rattle.std.proofs.lemmas.Option.{slice_get_within}
@@ -8,7 +8,8 @@ use Rattle.task_ids.specs.declared.cluster.Cluster.{Cluster}
 use Rattle.task_ids.specs.TaskIdOrder.{task_id_cmp}
 use Rattle.task_ids.proofs.TaskIdKeys.{ids_total}
 use Rattle.cancel_core.specs.Cancellation.{Cancellation}
-use Rattle.cancel_core.specs.Cancellations.{Cancellations, changed, with_entry}
+use Rattle.cancel_core.specs.Cancellations.{Cancellations, changed}
+use Rattle.cancel_core.specs.Listings.{without_wait, left_by}
 use Rattle.task_events.specs.declared.event.Event.{Event}
 use Rattle.task_events.specs.declared.event.Event.TheVariants.{Mark}
 use Rattle.task_events.specs.Same.{same_task}
@@ -34,6 +35,15 @@ marked_in cluster t (_ ∷ h) l m = marked_in cluster t h l.1 m
 changed_at : (entries : FinMap task_id_cmp Cancellation) (t u : TaskId) (x : Option Cancellation) → get (changed entries t x) u ≡ cond (same_task u t) x (get entries u)
 changed_at entries t u None = get-remove ids_total entries t u ∙ ap (λ b. cond b None (get entries u)) (is_at_task u t)
 changed_at entries t u (Some c) = get-insert ids_total entries t c u ∙ ap (λ b. cond b (Some c) (get entries u)) (is_at_task u t)
+
+-- a core's entries stay where a task leaves its listing
+pub entries_left : (core : Cancellations) (t : TaskId) (stopped : Bool) → (left_by core t stopped).entries ≡ core.entries
+entries_left core t false = refl
+entries_left core t true = by_wait (get core.waits t)
+  where
+    by_wait : (o : Option TaskId) → (without_wait core t o).entries ≡ core.entries
+    by_wait None = refl
+    by_wait (Some p) = refl
 
 module _ (cluster : Cluster) (waiting : TaskId → List ℕ) (h : List Event) (cores : List Cancellations) (are : (place : ℕ) → HasCoreAt cluster waiting place h (slice_get cores place)) (t : TaskId) (high : t.node ≤ cluster.nodes) where
   low : 1 ≤ t.node
@@ -62,11 +72,11 @@ module _ (cluster : Cluster) (waiting : TaskId → List ℕ) (h : List Event) (c
         by_entry (Some c) e has = (c, e, has.1)
 
     -- the task's own cancellation has gone on with an event, and the others stay
-    pub cores_after : (later : TaskId → List ℕ) (past : List Event) (x : Option Cancellation) → IsEntryOf (later t) t past x
+    pub cores_after : (after : Cancellations) (later : TaskId → List ℕ) (past : List Event) (x : Option Cancellation) → after.entries ≡ changed core.entries t x → IsEntryOf (later t) t past x
         → ((u : TaskId) → same_task t u ≡ false → (o : Option Cancellation) → IsEntryOf (waiting u) u h o → IsEntryOf (later u) u past o)
-        → (place : ℕ) → HasCoreAt cluster later place past (slice_get (slice_set cores (t.node - 1) (with_entry core t x)) place)
-    cores_after later past x this others =
-        set_at (λ place o. HasCoreAt cluster waiting place h o) (λ place o. HasCoreAt cluster later place past o) cores (t.node - 1) core (with_entry core t x) here are there (λ place apart. elsewhere place apart (slice_get cores place))
+        → (place : ℕ) → HasCoreAt cluster later place past (slice_get (slice_set cores (t.node - 1) after) place)
+    cores_after after later past x entries this others =
+        set_at (λ place o. HasCoreAt cluster waiting place h o) (λ place o. HasCoreAt cluster later place past o) cores (t.node - 1) core after here are there (λ place apart. elsewhere place apart (slice_get cores place))
       where
         at_task : (u : TaskId) → u.node ≡ (t.node - 1) + 1 → ((same_task t u ≡ true) × (t ≡ u)) ⊎ ((same_task t u ≡ false) × (t ≢ u)) → IsEntryOf (later u) u past (get (changed core.entries t x) u)
         at_task u on (inl (is_one, same)) =
@@ -76,8 +86,8 @@ module _ (cluster : Cluster) (waiting : TaskId → List ℕ) (h : List Event) (c
             let turned : same_task u t ≡ false = grind (arith, same_tests) in
             subst (IsEntryOf (later u) u past) (sym (changed_at core.entries t u x ∙ ap (λ b. cond b x (get core.entries u)) turned)) (others u differs (get core.entries u) ((rw here at (are (t.node - 1))) u on))
 
-        there : HasCoreAt cluster later (t.node - 1) past (Some (with_entry core t x))
-        there u on = at_task u on (same_task_tells t u)
+        there : HasCoreAt cluster later (t.node - 1) past (Some after)
+        there u on = subst (λ known. IsEntryOf (later u) u past (get known u)) (sym entries) (at_task u on (same_task_tells t u))
 
         elsewhere : (place : ℕ) → place ≢ t.node - 1 → (o : Option Cancellations) → HasCoreAt cluster waiting place h o → HasCoreAt cluster later place past o
         elsewhere place apart None has = has

@@ -14,26 +14,30 @@ use Rattle.cancel_core.specs.declared.act.Act.{Act}
 use Rattle.cancel_core.specs.Acts.{due_acts}
 use Rattle.cancel_core.specs.Cancellation.{Cancellation, opened, with_receipt}
 use Rattle.cancel_core.specs.Cancellations.{Cancellations, has_entry, entry_of}
+use Rattle.cancel_core.specs.Listings.{leaving_acts}
 use Rattle.task_events.specs.declared.event.Event.{Event}
 use Rattle.task_events.specs.Bans.{mark_of, bans_are_placed}
-use Rattle.task_events.specs.Messages.{unbans_from}
+use Rattle.task_events.specs.Messages.{unbans_from, ack_over}
 use Rattle.task_events.specs.Lawful.{Lawful}
-use Rattle.task_events.specs.Tasks.{has_ended, is_live}
+use Rattle.task_events.specs.Tasks.{has_ended, is_live, parent_of}
 use Rattle.task_laws.proofs.Asks.{ask_facts}
 use Rattle.task_laws.proofs.Reach.{reach_facts}
+use Rattle.task_laws.proofs.Stops.{stop_facts}
 use Rattle.script_lang.specs.declared.command.Script.{Script}
 use Rattle.node_parts.specs.declared.listing.Listing.{Listing}
 use Rattle.world_moves.specs.Acts.{messages_in, offered_in, left_after, answers_of, answers_in}
 use Rattle.world_moves.specs.Cancels.{waiting_for, answer_to, with_answers}
 use Rattle.world_moves.specs.Left.{HasLeft}
-use Rattle.world_moves.specs.Cancelling.{Cancelling, IsEntryOf, IsCancellationOf}
+use Rattle.world_moves.specs.Cancelling.{Cancelling, IsEntryOf, IsCancellationOf, KnowsListings}
 use Rattle.world_moves.specs.Flights.{message_of}
 use Rattle.world_moves.specs.Moves.{IsPartOf}
 use Rattle.world_moves.specs.Plain.{AnswersPlainly}
+use Rattle.world_moves.proofs.AcksSent.{acts_say, offers_no_more}
 use Rattle.world_moves.proofs.CancelAnswersAfter.{kept}
 use Rattle.world_moves.proofs.CountsAfter.{let_go, answers_then, counts_then}
 use Rattle.world_moves.proofs.DueActs.{due_answered, due_sent}
-use Rattle.world_moves.proofs.CancelsAfterLeave.{Leaves, leaves_at, known_ended, core_there, entry_there, nobody_waits}
+use Rattle.world_moves.proofs.CancelsAfterLeave.{Leaves, leaves_at, leave_stops, stopped_now, known_ended, core_there, entry_there, nobody_waits}
+use Rattle.world_moves.proofs.WaitsAfter.{acks_due, core_knows}
 use Rattle.world_moves.specs.Owning.{OneAtATime}
 use Rattle.task_events.specs.Requests.{Scripted}
 
@@ -65,6 +69,10 @@ module _ (cluster : Cluster) (h : List Event) (tables : List Table) (roots : ℕ
       let there = core_there t h cluster tables roots bans cores listings noted ((reach_facts cluster h lawful).live_in t live) in
       there.1 ∙ ap Some (sym (read ∙ get_or_from_slice_get cores (t.node - 1) there.0 core there.1))
 
+  -- it knows which listings wait
+  pub listings_there : KnowsListings t.node h core
+  listings_there = core_knows t.node t.node_in_range.0 h cores core core_is noted.waits_are
+
   entry : IsEntryOf (waiting_for t h) t h (get core.entries t)
   entry = entry_there t h cluster tables roots bans cores listings core core_is noted
 
@@ -85,9 +93,10 @@ module _ (cluster : Cluster) (h : List Event) (tables : List Table) (roots : ℕ
   pub nobody_there : has_entry core t ≡ false → waiting_for t h ≡ []
   nobody_there none = nobody_waits t h (unmarked_there none) (waiting_for t h) (get core.entries t) entry
 
-module _ (cluster : Cluster) (t : TaskId) (e : Event) (h : List Event) (leaves : Leaves t e) (lawful : Lawful cluster h) (left : ℕ → ℕ) (has : HasLeft None h left) (x : Cancellation) (receipt : ReceiptParts) (known : IsCancellationOf (waiting_for t h) t h x) (acts : List Act) (are : acts ≡ due_acts t (with_receipt x receipt)) where
+module _ (cluster : Cluster) (t : TaskId) (e : Event) (h : List Event) (leaves : Leaves t e) (lawful : Lawful cluster h) (left : ℕ → ℕ) (has : HasLeft None h left) (x : Cancellation) (receipt : ReceiptParts) (known : IsCancellationOf (waiting_for t h) t h x) (core : Cancellations) (acts : List Act)
+    (are : acts ≡ due_acts t (with_receipt x receipt) ++ leaving_acts core t true) where
   offered : offered_in acts ≡ map (answer_to (e ∷ h)) (let_go t e h)
-  offered = ap offered_in are ∙ due_answered (waiting_for t h) t (e ∷ h) (with_receipt x receipt) (known_ended t h e leaves x receipt known)
+  offered = ap offered_in are ∙ offers_no_more core t true (due_acts t (with_receipt x receipt)) ∙ due_answered (waiting_for t h) t (e ∷ h) (with_receipt x receipt) (known_ended t h e leaves x receipt known)
 
   pub answered_then : answers_in acts left ++ (e ∷ h) ≡ with_answers t (e ∷ h)
   answered_then = ap (λ es. answers_of es left ++ (e ∷ h)) offered ∙ answers_then cluster t e h lawful (leaves_at t h e leaves) left has
@@ -95,8 +104,11 @@ module _ (cluster : Cluster) (t : TaskId) (e : Event) (h : List Event) (leaves :
   pub counted_then : (after : ℕ → ℕ) → ((c : ℕ) → after c ≡ left_after (offered_in acts) left c) → HasLeft None (with_answers t (e ∷ h)) after
   counted_then after is = counts_then cluster t e h lawful (leaves_at t h e leaves) left has after (λ c. is c ∙ ap (λ es. left_after es left c) offered)
 
-  pub sent_then : (node : ℕ) → map (message_of (e ∷ h)) (messages_in node acts) ≡ map Some (unbans_from t (e ∷ h))
-  sent_then node = ap (λ xs. map (message_of (e ∷ h)) (messages_in node xs)) are ∙ due_sent (waiting_for t h) t (e ∷ h) (with_receipt x receipt) (known_ended t h e leaves x receipt known) node (e ∷ h)
+  pub sent_then : Lawful cluster (e ∷ h) → KnowsListings t.node h core → map (message_of (e ∷ h)) (messages_in t.node acts) ≡ map Some (unbans_from t (e ∷ h) ++ ack_over (parent_of t h) t.node h (e ∷ h))
+  sent_then then knows = ap (λ xs. map (message_of (e ∷ h)) (messages_in t.node xs)) are
+      ∙ acts_say (e ∷ h) t.node (due_acts t (with_receipt x receipt)) (leaving_acts core t true) (unbans_from t (e ∷ h)) (ack_over (parent_of t h) t.node h (e ∷ h))
+      (due_sent (waiting_for t h) t (e ∷ h) (with_receipt x receipt) (known_ended t h e leaves x receipt known) t.node (e ∷ h))
+      (ap (λ b. map (message_of (e ∷ h)) (messages_in t.node (leaving_acts core t b))) (sym (stopped_now t h e leaves)) ∙ acks_due t h (e ∷ h) (stop_facts cluster h lawful) (leave_stops t h e leaves cluster then) core knows (e ∷ h))
 
   pub part_then : (past new : List Event) → past ≡ e ∷ h → IsPartOf past new (answers_in acts left ++ past) → IsPartOf (e ∷ h) new (with_answers t (e ∷ h))
   part_then past new is part = subst (λ whole. IsPartOf (e ∷ h) new whole) answered_then (subst (λ p. IsPartOf p new (answers_in acts left ++ p)) is part)

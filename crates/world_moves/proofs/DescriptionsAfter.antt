@@ -18,7 +18,7 @@ use Rattle.task_events.specs.declared.event.Event.TheVariants.{Begin, Root, Put,
 use Rattle.task_events.specs.Clock.{clock}
 use Rattle.world_moves.specs.declared.flight.Sent.{Sent}
 use Rattle.world_moves.specs.declared.flight.Sent.TheVariants as sent
-use Rattle.world_moves.specs.Acts.{messages_in}
+use Rattle.world_moves.specs.Acts.{messages_in, messages_of}
 use Rattle.world_moves.specs.Flights.{told_to, told_parent}
 use Rattle.task_events.specs.Cancels.{last_command}
 use Rattle.world_moves.specs.Describing.{longest_tick, Describing, IsDescribed, DescribesAll, Carries}
@@ -147,6 +147,10 @@ acts_carry script h node (act ∷ acts) = by_notice (notice_of node act) refl (a
     by_notice : (o : Option Notice) → notice_of node act ≡ o → AllByRecursion (Carries script h) (messages_in node acts) → AllByRecursion (Carries script h) (messages_in node (act ∷ acts))
     by_notice None e rest = rw e rest
     by_notice (Some n) e rest = rw e (tt, rest)
+
+pub act_carries : (script : Script) (h : List Event) (node : ℕ) (act : Option Act) → AllByRecursion (Carries script h) (messages_of node act)
+act_carries script h node None = tt
+act_carries script h node (Some act) = acts_carry script h node (act ∷ [])
 
 -- ---- rows
 

@@ -7,9 +7,10 @@ use Rattle.task_ids.specs.declared.task_id.TaskId.{TaskId}
 use Rattle.child_track.specs.Token.{ReceiptParts}
 use Rattle.cancel_core.specs.Acts.{due_acts, placed_answers, answer_act, unban_acts}
 use Rattle.cancel_core.specs.Cancellation.{Cancellation, rest_of, is_nil, is_placed}
+use Rattle.cancel_core.specs.Listings.{is_stopped}
 use Rattle.task_events.specs.declared.event.Event.{Event}
 use Rattle.task_events.specs.declared.event.Event.TheVariants.{AnswerPlaced, AnswerDone}
-use Rattle.task_events.specs.Bans.{banned_nodes, is_acked, bans_are_placed}
+use Rattle.task_events.specs.Bans.{banned_nodes, is_acked, bans_are_placed, is_stopped as has_stopped}
 use Rattle.task_events.specs.Messages.{unbans_from}
 use Rattle.task_events.specs.Messages.Message.{Unban}
 use Rattle.task_events.specs.Tasks.{has_ended}
@@ -110,6 +111,16 @@ module _ (ks : List ℕ) (t : TaskId) (h : List Event) (c : Cancellation) (known
   -- the core knows whether the bans are placed
   pub knows_placed : is_placed c ≡ bans_are_placed t h
   knows_placed = rw (known.0, known.2) (none_left (λ n. is_acked n t h) (banned_nodes t h))
+
+  -- and whether the task has stopped
+  pub knows_stopped : is_stopped c ≡ has_stopped t h
+  knows_stopped = (λ i. knows_placed i || known.4 i) ∙ either_way (bans_are_placed t h) (has_ended t h)
+    where
+      either_way : (a b : Bool) → (a || b) ≡ (b || a)
+      either_way true true = refl
+      either_way true false = refl
+      either_way false true = refl
+      either_way false false = refl
 
   acts_answer : (placed : Bool) (o : Option ReceiptParts) (ended : Bool) → is_placed c ≡ placed → bans_are_placed t h ≡ placed → c.receipt ≡ o → is_some o ≡ ended → has_ended t h ≡ ended
       → filter_map answer_in (due_acts t c) ≡ map (answer_to h) (filter (λ k. bans_are_placed t h && (not (waits_for_end k h) || has_ended t h)) ks)

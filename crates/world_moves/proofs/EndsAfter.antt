@@ -23,6 +23,7 @@ use Rattle.task_events.specs.Messages.Message.{Answer}
 use Rattle.task_events.specs.Requests.{request_of}
 use Rattle.task_events.specs.Steps.{counted}
 use Rattle.task_events.specs.Tasks.{is_live, is_new, parent_of, ask_of}
+use Rattle.task_laws.proofs.Dues.{unmarked_end}
 use Rattle.script_lang.specs.declared.command.Script.{Script}
 use Rattle.world_moves.specs.declared.flight.Sent.{Sent}
 use Rattle.node_parts.specs.declared.running.Running.{Running}
@@ -79,4 +80,4 @@ module _ (cluster : Cluster) (corpus : Corpus) (script : Script) (h : List Event
   after_finish awaits table receipt after its_table sealed_is gone others =
       subst (λ queue. Ties cluster corpus script (End t reply ∷ h) after (slice_set tables (t.node - 1) (without_task table t.number)) queue) (append-nil (flight ++ told_parent receipt (length h)))
       (after_leave cluster corpus script h tasks tables flight ties t live r here reply (End t reply) (ends cluster (so_far corpus script h) t h reply) (allowed, ties.lawful, awaits) (replies, ties.plain) answer_good
-      table receipt after [] its_table sealed_is gone others (sym (ap (map Some) (no_unbans t (End t reply ∷ h) unmarked))))
+      table receipt after [] its_table sealed_is gone others (sym (ap (map Some) (λ i. no_unbans t (End t reply ∷ h) unmarked i ++ unmarked_end cluster t reply h (allowed, ties.lawful, awaits) unmarked i))))

@@ -1,4 +1,5 @@
 pub mod AcksAfter
+pub mod AcksSent
 pub mod AllKinds
 pub mod AnswersAfter
 pub mod AnswersOf
@@ -20,6 +21,7 @@ pub mod CancelledEnds
 pub mod CancelsAfterLeave
 pub mod CancelsAfterStart
 pub mod CancelsUntouched
+pub mod ChildRows
 pub mod Children
 pub mod ClockTies
 pub mod ContextTables
@@ -58,8 +60,10 @@ pub mod NodeTablesSame
 pub mod NodesAsked
 pub mod NoneAwaited
 pub mod NoteParts
+pub mod Noted
 pub mod Numbered
 pub mod OneChange
+pub mod OneStops
 pub mod OpenListings
 pub mod OpensAbove
 pub mod Outcomes
@@ -86,6 +90,7 @@ pub mod PurgedTies
 pub mod QueryLaws
 pub mod QuietCounts
 pub mod QuietEvents
+pub mod QuietListings
 pub mod ReadInTime
 pub mod ReadsAbove
 pub mod ReadsAfter
@@ -108,5 +113,8 @@ pub mod TasksNamed
 pub mod TurnTies
 pub mod TurnsAfter
 pub mod UnbornTasks
+pub mod WaitsAfter
+pub mod WaitsListed
+pub mod WhoStops
 pub mod WriteOrNot
 pub mod WritesAfter

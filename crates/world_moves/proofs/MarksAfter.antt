@@ -41,6 +41,7 @@ use Rattle.task_laws.proofs.Bans.{ban_facts}
 use Rattle.task_laws.proofs.Numbers.{number}
 use Rattle.task_laws.proofs.Reach.{reach_facts}
 use Rattle.task_laws.proofs.Same.{same_fields, same_task_tells, same_tests}
+use Rattle.task_laws.proofs.Stops.{stop_facts}
 use Rattle.world_moves.specs.declared.flight.Sent.{Sent}
 use Rattle.node_parts.specs.declared.listing.Listing.{Listing}
 use Rattle.node_parts.specs.declared.running.Running.{Running}
@@ -63,6 +64,9 @@ use Rattle.world_moves.proofs.FactsAfter.{at_mark}
 use Rattle.world_moves.proofs.FlightAfter.{all_stay}
 use Rattle.world_moves.proofs.KeptTasks.{kept_after}
 use Rattle.world_moves.proofs.LiveRows.{rows_live, live_counted}
+use Rattle.world_moves.proofs.OneStops.{ListingsStay, listings_stay}
+use Rattle.world_moves.proofs.WaitsAfter.{waits_set}
+use Rattle.world_moves.proofs.WhoStops.{mark_stops, none_there}
 use Rattle.world_moves.proofs.StepsAfter.{kept_running}
 use Rattle.world_moves.specs.Good.{so_far}
 
@@ -324,10 +328,18 @@ module _ (cluster : Cluster) (t : TaskId) (c : ℕ) (h : List Event) (lawful : L
         (rows_marked (t.node - 1) table node_place (subst (Fits (t.node - 1)) its_table (listed (t.node - 1), known.rows_are (t.node - 1)))) (λ place apart fits. rows_elsewhere place (slice_get tables place) apart fits);
     roots_are = known.roots_are;
     bans_are = λ place. same_bans place (slice_get bans place) (known.bans_are place);
-    cores_are = cores_after cluster (waiting_but t h) h cores known.cores_are t ((reach_facts cluster h lawful.1).live_in t lawful.0.live) core its_core (λ u. waiting_for u (Mark t c ∷ h)) (Mark t c ∷ h) (Some (begun c (unanswered_nodes t h) waiter)) (own_entry waiter e k) other_entry;
+    cores_are = cores_after cluster (waiting_but t h) h cores known.cores_are t ((reach_facts cluster h lawful.1).live_in t lawful.0.live) core its_core (with_entry core t (Some (begun c (unanswered_nodes t h) waiter))) (λ u. waiting_for u (Mark t c ∷ h)) (Mark t c ∷ h)
+        (Some (begun c (unanswered_nodes t h) waiter)) refl (own_entry waiter e k) other_entry;
+    waits_are = waits_set h (Mark t c ∷ h) none_left cores (t.node - 1) core its_core known.waits_are (with_entry core t (Some (begun c (unanswered_nodes t h) waiter))) refl refl;
     listings_are = known.listings_are;
   }
     where
+      -- the task is in no list, for it was not marked
+      none_left : ListingsStay h (Mark t c ∷ h)
+      none_left =
+          let facts = stop_facts cluster h lawful.1 in
+          listings_stay t h (Mark t c ∷ h) facts (mark_stops cluster t h facts lawful.0.live lawful.0.unmarked c lawful.0) (none_there cluster t h facts lawful.0.live lawful.0.unmarked (Mark t c ∷ h))
+
       same_bans : (place : ℕ) (o : Option (FinMap task_id_cmp ℕ)) → HasBansAt cluster place h o → HasBansAt cluster place (Mark t c ∷ h) o
       same_bans place None i = i
       same_bans place (Some own) i = i

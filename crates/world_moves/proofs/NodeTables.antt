@@ -56,6 +56,7 @@ left_out cluster t h tables roots bans cores listings unmarked high known = reco
   roots_are = known.roots_are;
   bans_are = known.bans_are;
   cores_are = λ place. cores_kept cluster (λ u. waiting_for u h) (waiting_but t h) h h (λ u o i. subst (λ ws. IsEntryOf ws u h o) (same u) i) place (slice_get cores place) (known.cores_are place);
+  waits_are = known.waits_are;
   listings_are = known.listings_are;
 }
   where

@@ -3,10 +3,17 @@ use Rattle.std.proofs.Common.{◌≡◌, ◌<◌, ℕ, ◌+◌, ◌++◌, ◌∷
 use Rattle.std.specs.Prelude.{drop}
 use Rattle.std.proofs.lemmas.List.{take-append-drop}
 use Rattle.std.proofs.lemmas.List.{take_more}
+use Rattle.std.specs.Option.{option_map_or}
+use Rattle.task_ids.specs.declared.task_id.TaskId.{TaskId}
+use Rattle.task_ids.specs.declared.cluster.Cluster.{Cluster}
+use Rattle.task_ids.specs.declared.corpus.Corpus.{Corpus}
 use Rattle.task_events.specs.declared.event.Event.{Event}
+use Rattle.task_events.specs.declared.event.Event.TheVariants.{Work}
 use Rattle.task_events.specs.declared.history.TheConstants.{MAX_EVENTS}
 use Rattle.task_events.specs.declared.request.WriteNote.{WriteNote}
-use Rattle.task_events.specs.Written.{write_of, with_notes}
+use Rattle.task_events.specs.Requests.{Scripted, request_of}
+use Rattle.task_events.specs.Steps.{after_turn, turns_of}
+use Rattle.task_events.specs.Written.{corpus_at, turn_notes, write_of, with_notes}
 use Rattle.world_moves.specs.Moves.{IsPartOf, IsCutShort}
 
 -- the writes come after what was there
@@ -27,6 +34,19 @@ pub none_fits : (e : Event) (notes : List WriteNote) (h new : List Event) → le
 none_fits e notes h new full same =
     let rest = grown_by notes (e ∷ h) in
     (ap length same ∙ full, e, (rest.0, e ∷ [], rest.1 ∙ ap (λ past. rest.0 ++ e ∷ past) (sym same), ap (λ past. e ∷ past) same))
+
+-- so of a turn nothing has come yet
+module _ (cluster : Cluster) (corpus : Corpus) (said : Scripted) (t : TaskId) (h : List Event) where
+  -- what it writes
+  abbrev notes_then : List WriteNote
+  notes_then = option_map_or (λ request. turn_notes cluster (corpus_at corpus said h) request (turns_of t h)) (request_of said t h) []
+
+  pub turn_unbegun : IsPartOf h h (after_turn cluster corpus said t h)
+  turn_unbegun = none_yet (Work t) notes_then h h refl
+
+  -- and where the history is full it does not begin
+  pub turn_misses : length h ≡ MAX_EVENTS → IsCutShort (λ past. IsPartOf h past (after_turn cluster corpus said t h)) h
+  turn_misses full = none_fits (Work t) notes_then h h full refl
 
 -- some writes, and then some more
 split_notes : (some more : List WriteNote) (g : List Event) → with_notes (some ++ more) g ≡ with_notes more (with_notes some g)

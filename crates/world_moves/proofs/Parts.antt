@@ -15,12 +15,12 @@ use Rattle.world_moves.specs.Owning.{OneAtATime}
 use Rattle.world_moves.specs.Plain.{AnswersPlainly}
 
 -- what was so at a later moment was so before
-earlier_plain : (cluster : Cluster) (corpus : Corpus) (script : Script) (later h : List Event) → AnswersPlainly cluster corpus script (later ++ h) → AnswersPlainly cluster corpus script h
+pub earlier_plain : (cluster : Cluster) (corpus : Corpus) (script : Script) (later h : List Event) → AnswersPlainly cluster corpus script (later ++ h) → AnswersPlainly cluster corpus script h
 earlier_plain cluster corpus script [] h p = p
 earlier_plain cluster corpus script (End t reply ∷ later) h p = earlier_plain cluster corpus script later h p.1
 earlier_plain cluster corpus script (_ ∷ later) h p = earlier_plain cluster corpus script later h p
 
-earlier_alone : (said : Scripted) (later h : List Event) → OneAtATime said (later ++ h) → OneAtATime said h
+pub earlier_alone : (said : Scripted) (later h : List Event) → OneAtATime said (later ++ h) → OneAtATime said h
 earlier_alone said [] h a = a
 earlier_alone said (Root k t ∷ later) h a = earlier_alone said later h a.1
 earlier_alone said (Pass t ∷ later) h a = earlier_alone said later h a.1

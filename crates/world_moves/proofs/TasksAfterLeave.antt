@@ -1,5 +1,5 @@
 -- The tables fit the past after a task has left.
-use Rattle.std.proofs.Common.{◌≡◌, ℕ, ◌-◌, ◌≤◌, Bool, true, false, not, cond, List, [], ◌∷◌, ◌++◌, length, map, filter, get_or, Option, Some, None, refl, sym, ap, subst, ◌∙◌, arith}
+use Rattle.std.proofs.Common.{◌≡◌, ℕ, ◌-◌, ◌≤◌, Bool, true, false, not, cond, List, [], ◌∷◌, ◌++◌, length, map, filter, get_or, Option, Some, None, refl, sym, ap, subst, ◌∙◌, arith, append_assoc}
 use Rattle.std.specs.Prelude.{slice_get, slice_set, is_some, count_by, option_map, Any, ◌&&◌}
 use Rattle.std.specs.List.{AllByRecursion}
 use Rattle.std.proofs.lemmas.List.{map-append}
@@ -16,7 +16,7 @@ use Rattle.task_events.specs.declared.event.Event.{Event}
 use Rattle.task_events.specs.declared.event.Event.TheVariants.{Refuse, End}
 use Rattle.task_events.specs.Same.{same_task}
 use Rattle.task_events.specs.Lawful.{Lawful}
-use Rattle.task_events.specs.Messages.{Message, in_flight, answer_from, unbans_from}
+use Rattle.task_events.specs.Messages.{Message, in_flight, answer_from, unbans_from, ack_over}
 use Rattle.task_events.specs.Messages.Message.{Answer, Unban}
 use Rattle.task_events.specs.Bans.{mark_of, banned_nodes, unbans_are_sent}
 use Rattle.task_events.specs.Tasks.{is_live, has_ended, parent_of, ask_of, live_tasks, last_number, no_counts}
@@ -31,6 +31,7 @@ use Rattle.world_moves.specs.Flights.{message_of, told_parent, reply_in}
 use Rattle.world_moves.specs.Plain.{AnswersPlainly}
 use Rattle.command_roots.specs.Roots.{scripted}
 use Rattle.world_moves.specs.Ties.{Ties, RunsAt, IsGood}
+use Rattle.world_moves.proofs.AcksSent.{over_good}
 use Rattle.world_moves.proofs.LiveRows.{row_of_task}
 use Rattle.world_moves.proofs.NoneAwaited.{none_counted}
 use Rattle.world_moves.proofs.EndsListed.{end_listed}
@@ -51,7 +52,7 @@ pub record IsLeave (cluster : Cluster) (corpus : Corpus) (t : TaskId) (reply : R
   pub ended : is_live t (e ∷ h) ≡ false
   pub asked_same : (p : TaskId) (k : ℕ) → request_of_ask p k (e ∷ h) ≡ request_of_ask p k h
   pub says : reply_in e ≡ Some reply
-  pub sends : in_flight (e ∷ h) ≡ in_flight h ++ answer_from (parent_of t h) (ask_of t h) reply ++ unbans_from t (e ∷ h)
+  pub sends : in_flight (e ∷ h) ≡ in_flight h ++ answer_from (parent_of t h) (ask_of t h) reply ++ unbans_from t (e ∷ h) ++ ack_over (parent_of t h) t.node h (e ∷ h)
   pub left : live_tasks (e ∷ h) ≡ filter (λ u. not (same_task t u)) (live_tasks h)
   pub last : (n : ℕ) → last_number n (e ∷ h) ≡ last_number n h
   pub as_good : (m : Message) → IsGood cluster corpus h m → IsGood cluster corpus (e ∷ h) m
@@ -69,7 +70,7 @@ module _ (cluster : Cluster) (corpus : Corpus) (t : TaskId) (h : List Event) whe
 only : (x y : Table) → Some x ≡ Some y → x ≡ y
 only x y e = cc
 
--- ---- the answer to the task that asked, and the unbans
+-- ---- the answer to the task that asked, the unbans, and the acknowledgement of the ban of its parent
 
 answer_at : (e : Event) (h : List Event) (reply : Reply) → reply_in e ≡ Some reply → (o : Option TaskId) (k : ℕ) (track : Track) (receipt : ReceiptParts) → receipt ≡ sealed track (option_map (λ p. record { parent = p; ask = k }) o)
     → map (message_of (e ∷ h)) (told_parent receipt (length h)) ≡ map Some (answer_from o k reply)
@@ -129,22 +130,26 @@ module _ (cluster : Cluster) (corpus : Corpus) (script : Script) (h : List Event
         let same : its.0 ≡ table = only its.0 table (sym its.1 ∙ e) in
         subst (λ x. IsLive x r.ticket.id) same (subst (λ u. Any (λ row. row.id ≡ u) its.0.live) (sym runs.id) (row_of_task cluster t.node h its.0 ties.lawful its.2 t refl live))
 
-    -- its row goes, the task that asked for it is told, and its unbans are sent
+    -- what it sends beside the answer
+    abbrev pub sent_with : Event → List Message
+    sent_with e = unbans_from t (e ∷ h) ++ ack_over (parent_of t h) t.node h (e ∷ h)
+
+    -- its row goes, the task that asked for it is told, and its unbans are sent, and the acknowledgement that falls due
     pub after_leave : (reply : Reply) (e : Event) → IsLeave cluster (so_far corpus script h) t reply e h → Lawful cluster (e ∷ h) → AnswersPlainly cluster corpus script (e ∷ h)
         → ((p : TaskId) → parent_of t h ≡ Some p → IsGood cluster (so_far corpus script h) h (Answer p (ask_of t h) reply))
-        → (table : Table) (receipt : ReceiptParts) (after : TaskId → Option Running) (unbans : List Sent) → slice_get tables (t.node - 1) ≡ Some table → receipt ≡ sealed r.track r.ticket.token
-        → after t ≡ None → ((q : TaskId) → same_task t q ≡ false → after q ≡ tasks q) → map (message_of (e ∷ h)) unbans ≡ map Some (unbans_from t (e ∷ h))
-        → Ties cluster corpus script (e ∷ h) after (slice_set tables (t.node - 1) (without_task table t.number)) (flight ++ told_parent receipt (length h) ++ unbans)
-    after_leave reply e leaves lawful plain good table receipt after unbans its_table sealed_is gone others unbans_are = record {
+        → (table : Table) (receipt : ReceiptParts) (after : TaskId → Option Running) (more : List Sent) → slice_get tables (t.node - 1) ≡ Some table → receipt ≡ sealed r.track r.ticket.token
+        → after t ≡ None → ((q : TaskId) → same_task t q ≡ false → after q ≡ tasks q) → map (message_of (e ∷ h)) more ≡ map Some (sent_with e)
+        → Ties cluster corpus script (e ∷ h) after (slice_set tables (t.node - 1) (without_task table t.number)) (flight ++ told_parent receipt (length h) ++ more)
+    after_leave reply e leaves lawful plain good table receipt after more its_table sealed_is gone others more_are = record {
       within = λ p k r asked. subst (λ now. IsWithin cluster now r) (sym (lines_same (scripted script) corpus e h leaves.no_write)) (ties.within p k r (sym (leaves.asked_same p k) ∙ asked));
       lawful = lawful;
       kept = kept_after cluster corpus (scripted script) t e h tasks after leaves.of_task leaves.no_write ties.kept (rw gone leaves.ended) others;
       listed = end_listed t cluster e h leaves.left leaves.last tables table ties.listed t.node_in_range.0 its_table;
-      sent = map-append said (flight ++ told) unbans ∙ ap (λ ms. ms ++ map said unbans) told_too ∙ ap (λ ms. map Some (in_flight h ++ answer) ++ ms) unbans_are
-          ∙ sym (map-append Some (in_flight h ++ answer) (unbans_from t (e ∷ h))) ∙ ap (map Some) (sym leaves.sends);
+      sent = map-append said (flight ++ told) more ∙ ap (λ ms. ms ++ map said more) told_too ∙ ap (λ ms. map Some (in_flight h ++ answer) ++ ms) more_are
+          ∙ sym (map-append Some (in_flight h ++ answer) (sent_with e)) ∙ ap (map Some) (sym (append_assoc (in_flight h ++ answer) (unbans_from t (e ∷ h)) ack)) ∙ ap (map Some) (sym leaves.sends);
       good = subst (λ now. AllByRecursion (IsGood cluster now (e ∷ h)) (in_flight (e ∷ h))) (sym (lines_same (scripted script) corpus e h leaves.no_write))
           (subst (λ ms. AllByRecursion (IsGood cluster (so_far corpus script h) (e ∷ h)) ms) (sym leaves.sends)
-          (all_good_after cluster (so_far corpus script h) e h leaves.as_good (in_flight h ++ answer ++ unbans_from t (e ∷ h)) all_good));
+          (all_good_after cluster (so_far corpus script h) e h leaves.as_good (in_flight h ++ answer ++ unbans_from t (e ∷ h) ++ ack) all_good));
       plain = plain;
     }
       where
@@ -157,6 +162,9 @@ module _ (cluster : Cluster) (corpus : Corpus) (script : Script) (h : List Event
         answer : List Message
         answer = answer_from (parent_of t h) (ask_of t h) reply
 
+        ack : List Message
+        ack = ack_over (parent_of t h) t.node h (e ∷ h)
+
         told_too : map said (flight ++ told) ≡ map Some (in_flight h ++ answer)
         told_too = map-append said flight told ∙ ap (λ ms. ms ++ map said told) (all_stay e h flight (in_flight h) ties.sent)
             ∙ ap (λ ms. map Some (in_flight h) ++ ms) (answer_at e h reply leaves.says (parent_of t h) (ask_of t h) r.track receipt (sealed_is ∙ ap (sealed r.track) runs.token))
@@ -165,7 +173,9 @@ module _ (cluster : Cluster) (corpus : Corpus) (script : Script) (h : List Event
         now : Corpus
         now = so_far corpus script h
 
-        all_good : AllByRecursion (IsGood cluster now h) (in_flight h ++ answer ++ unbans_from t (e ∷ h))
-        all_good = all_joined (IsGood cluster now h) (in_flight h ++ answer) (unbans_from t (e ∷ h))
+        all_good : AllByRecursion (IsGood cluster now h) (in_flight h ++ answer ++ unbans_from t (e ∷ h) ++ ack)
+        all_good = all_joined (IsGood cluster now h) (in_flight h ++ answer ++ unbans_from t (e ∷ h)) ack
+            (all_joined (IsGood cluster now h) (in_flight h ++ answer) (unbans_from t (e ∷ h))
             (all_joined (IsGood cluster now h) (in_flight h) answer ties.good (answer_good cluster now h (parent_of t h) (ask_of t h) reply good))
-            (unbans_good cluster now h t (e ∷ h) (unbans_are_sent t (e ∷ h)) refl)
+            (unbans_good cluster now h t (e ∷ h) (unbans_are_sent t (e ∷ h)) refl))
+            (over_good cluster now h (parent_of t h) t.node h (e ∷ h))

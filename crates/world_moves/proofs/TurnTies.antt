@@ -42,13 +42,11 @@ use Rattle.world_moves.specs.Cancels.{waiting_for}
 use Rattle.world_moves.specs.Describing.{Describing}
 use Rattle.world_moves.specs.Good.{own_writes, so_far}
 use Rattle.world_moves.specs.Left.{HasLeft, left_in}
-use Rattle.world_moves.specs.Moves.{IsPartOf}
 use Rattle.world_moves.specs.Paging.{Paging}
 use Rattle.world_moves.specs.Ties.{IsTied, task_at, turned_in}
 use Rattle.world_moves.proofs.KindLaws.{is_on}
 use Rattle.world_moves.proofs.CancelsUntouched.{noted}
 use Rattle.world_moves.proofs.DescriptionsAfter.{quiet}
-use Rattle.world_moves.proofs.NoteParts.{none_yet}
 use Rattle.world_moves.proofs.PagesAfter.{quiet_pages}
 use Rattle.world_moves.proofs.QuietCounts.{still_counts}
 use Rattle.world_moves.proofs.ReadsAfter.{notes_reads, reads_after}
@@ -70,10 +68,6 @@ module _ (s : State) (tied : IsTied s) (t : TaskId) (r : Running) (live : is_liv
 
   pub past_is : turned_in s t ≡ with_notes (work_notes r.work own) (worked t ∷ s.history)
   past_is = turns.past_is s.cluster s.corpus.now s.script.now s.history (task_at s.tasks) s.tables.items s.flight tied.ties t s.clock r live passed unmarked here
-
-  -- nothing of it has come yet
-  pub nothing_yet : IsPartOf s.history s.history (turned_in s t)
-  nothing_yet = subst (IsPartOf s.history s.history) (sym past_is) (none_yet (worked t) (work_notes r.work own) s.history s.history refl)
 
   -- it is the turn over a shard, as it was found: from where the task reads it, it shows what was written
   module _ (index : List ℕ) (number : ℕ) (place : place_of r.work ≡ Some (index, number)) (old new : Shards) (has : HasWritten (so_far s.corpus.now s.script.now s.history) s.cluster.shards tied.oldest old) where

@@ -16,6 +16,11 @@ message_in node act = option_map Notice (notice_of node act)
 abbrev pub messages_in : ℕ → List Act → List Sent
 messages_in node acts = filter_map (message_in node) acts
 
+-- that of an act, where there is one
+abbrev pub messages_of : ℕ → Option Act → List Sent
+messages_of node None = []
+messages_of node (Some act) = messages_in node (act ∷ [])
+
 -- the answer that a core gives for its task: it comes where the cancel waits at no other
 abbrev pub answer_in : Act → Option Event
 answer_in (acts.AnswerPlaced cancel task) = Some (AnswerPlaced cancel)

@@ -1,5 +1,5 @@
 -- What the world's tables of bans and cancellations say of the past.
-use Rattle.std.specs.Prelude.{◌≡◌, ℕ, ◌+◌, ◌≤◌, true, false, Bool, ◌&&◌, not, List, [], ◌∷◌, Option, Some, None, is_some, option_map, map, filter, slice_get, All, ⊤, if◌then◌else◌}
+use Rattle.std.specs.Prelude.{◌≡◌, ℕ, ◌+◌, ◌≤◌, true, false, Bool, ◌&&◌, not, nat_lt, List, [], ◌∷◌, Option, Some, None, is_some, option_map, map, filter, slice_get, All, ⊤, if◌then◌else◌}
 use Rattle.std.specs.BTreeSet.{BTreeSet, contains}
 use Rattle.std.specs.FinMap.{FinMap, get}
 use Rattle.task_ids.specs.declared.task_id.TaskId.{TaskId}
@@ -17,7 +17,7 @@ use Rattle.task_events.specs.Bans.{mark_of, banned_nodes, is_acked, bans_are_pla
 use Rattle.node_parts.specs.declared.listing.Listing.{Listing}
 use Rattle.command_roots.specs.Roots.{root_of}
 use Rattle.world_moves.specs.Cancels.{waiting_for, waits_for_end}
-use Rattle.world_moves.specs.Listings.{listing_cmp, is_open}
+use Rattle.world_moves.specs.Listings.{listing_cmp, is_open, unstopped, listing_over}
 
 -- a row tells the parent of its task, and its mark
 abbrev pub IsRowOf : List Event → TaskInfo → Type 0
@@ -82,12 +82,26 @@ abbrev pub HasCoreAt : Cluster → (TaskId → List ℕ) → ℕ → List Event 
 HasCoreAt cluster waiting place h None = cluster.nodes ≤ place
 HasCoreAt cluster waiting place h (Some core) = (t : TaskId) → t.node ≡ place + 1 → IsEntryOf (waiting t) t h (get core.entries t)
 
+-- a number, and none for 0
+abbrev pub if_any : ℕ → Option ℕ
+if_any n = if nat_lt 0 n then Some n else None
+
+-- A core knows for which tasks of its node a listing waits, and for how many each listing there does.
+pub record KnowsListings (node : ℕ) (h : List Event) (core : Cancellations) : Type 0 where
+  pub waits : (t : TaskId) → t.node ≡ node → get core.waits t ≡ listing_over t h
+  pub numbers : (p : TaskId) → get core.listings p ≡ if_any (unstopped node p h)
+
+abbrev pub HasListingsAt : ℕ → List Event → Option Cancellations → Type 0
+HasListingsAt place h None = ⊤
+HasListingsAt place h (Some core) = KnowsListings (place + 1) h core
+
 -- The tables, where these cancels wait for the cancellation of each task.
 pub record Cancelling (cluster : Cluster) (waiting : TaskId → List ℕ) (h : List Event) (tables : List Table) (roots : ℕ → Option TaskId) (bans : List (FinMap task_id_cmp ℕ)) (cores : List Cancellations) (listings : BTreeSet Listing) : Type 0 where
   pub rows_are : (place : ℕ) → HasRows h (slice_get tables place)
   pub roots_are : (k : ℕ) → roots k ≡ root_of k h
   pub bans_are : (place : ℕ) → HasBansAt cluster place h (slice_get bans place)
   pub cores_are : (place : ℕ) → HasCoreAt cluster waiting place h (slice_get cores place)
+  pub waits_are : (place : ℕ) → HasListingsAt place h (slice_get cores place)
   pub listings_are : (l : Listing) → contains listing_cmp listings l ≡ is_open l h
 
 -- those that wait for a task, and none for one that is to be left out

@@ -1,6 +1,6 @@
 //! A live task asks for a child.
 
-ghost use Rattle.std.specs.Prelude.{◌≡◌, ◌∷◌, ◌+◌, ◌≤◌, true, false, length, Err, None, OnOk, OnErr};
+ghost use Rattle.std.specs.Prelude.{◌≡◌, ◌≢◌, ◌∷◌, ◌+◌, ◌≤◌, true, false, length, Err, None, OnOk, OnErr};
 ghost use Rattle.task_events.specs.declared.history.TheConstants.{MAX_EVENTS};
 ghost use Rattle.task_events.specs.Asks.{last_ask};
 ghost use Rattle.task_events.specs.Kinds.{node_for};
@@ -14,13 +14,13 @@ use crate::flight::Sent;
 use crate::sending::send;
 use crate::state::State;
 use node_parts::kinds::node_for;
-use task_events::{Event, Request, Stop};
+use task_events::{Event, MAX_EVENTS, Request, Stop};
 use task_ids::TaskId;
 
 /// A task asks for what its plan says: the request goes on its way to the node of its shard.
 ///
-/// It fails where the history is full (`HistoryFull`, at 4,000,000 events) or memory runs out (`Memory`); then nothing
-/// was appended.
+/// It fails where the history is full (`HistoryFull`, at 4,000,000 events), which takes no memory to find, or else where memory runs out
+/// (`Memory`); then nothing was appended.
 pub fn ask(state: &mut State<'_>, task: TaskId, request: Request) -> Result<(), Stop>
     requires tied { IsTied state.old }
     requires live { is_live task state.old.history ≡ true }
@@ -35,7 +35,12 @@ pub fn ask(state: &mut State<'_>, task: TaskId, request: Request) -> Result<(), 
     ensures full { result ≡ Err Stop.HistoryFull → length state.old.history ≡ MAX_EVENTS }
     ensures numbers { result ≡ Err Stop.NumbersSpent → ⊥ }
     ensures room { OnOk result (length state.new.history ≤ MAX_EVENTS) }
+    ensures memory { result ≡ Err Stop.Memory → length state.old.history ≢ MAX_EVENTS }
 {
+    if state.history.len() == MAX_EVENTS {
+        drop(request);
+        return Err(Stop::HistoryFull);
+    }
     let to = node_for(task, &request, &state.cluster);
     let at = state.history.len();
     let Some(running) = state.tasks.get_mut(&task) else {

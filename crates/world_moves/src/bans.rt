@@ -54,8 +54,9 @@ fn deliver_ban(
     )
 }
 
-/// An acknowledgement reaches the node of its task. The answers follow that come due with it, and where the task has ended
-/// and this was the last one, its unbans are sent.
+/// An acknowledgement reaches the node of its task. The answers follow that come due with it. Where this was the last one, the unbans
+/// of the task are sent if it has ended, and else the ban of its parent is acknowledged if of the listed children the task was the last
+/// to stop.
 ///
 /// Where it fails, it may have come.
 fn deliver_ack(state: &mut State<'_>, nth: usize, parent: TaskId, node: u32) -> Result<(), Stop>

@@ -1,6 +1,6 @@
 //! The end of a live task.
 
-ghost use Rattle.std.specs.Prelude.{◌≡◌, ◌∷◌, ◌++◌, ◌≤◌, true, false, length, [], Err, None, Some, IsSome, IsSomeAnd, IfErr, OnOk, OnErr};
+ghost use Rattle.std.specs.Prelude.{◌≡◌, ◌≢◌, ◌∷◌, ◌++◌, ◌≤◌, true, false, length, [], Err, None, Some, IsSome, IsSomeAnd, IfErr, OnOk, OnErr};
 ghost use Rattle.child_track.specs.Track.{unanswered, sealed};
 ghost use Rattle.task_table.specs.Table.{IsLive, without_task};
 ghost use Rattle.task_events.specs.declared.history.TheConstants.{MAX_EVENTS};
@@ -30,7 +30,7 @@ use node_parts::contexts::{cursor_of, opened_by, used_by};
 use node_parts::running::Running;
 use scroll_table::ScrollTable;
 use std::alloc::Global;
-use task_events::{Do, Event, Reply, Stop};
+use task_events::{Do, Event, MAX_EVENTS, Reply, Stop};
 use task_ids::{Boxed, TaskId};
 use task_table::TaskTable;
 use task_work::Work;
@@ -112,8 +112,8 @@ fn note_leave(contexts: &mut Vec<ScrollTable>, running: &Boxed<Running>, task: T
 
 /// A task that has passed and whose work ends next ends with its reply. The task that asked for it is told.
 ///
-/// It fails where the history is full (`HistoryFull`, at 4,000,000 events) or memory runs out (`Memory`); then nothing
-/// was appended.
+/// It fails where the history is full (`HistoryFull`, at 4,000,000 events), which takes no memory to find, or else where memory runs out
+/// (`Memory`); then nothing was appended.
 pub fn finish(state: &mut State<'_>, task: TaskId, reply: Reply) -> Result<(), Stop>
     requires tied { IsTied state.old }
     requires live { is_live task state.old.history ≡ true }
@@ -127,7 +127,12 @@ pub fn finish(state: &mut State<'_>, task: TaskId, reply: Reply) -> Result<(), S
     ensures err { OnErr result (state.new.history ≡ state.old.history) }
     ensures full { result ≡ Err Stop.HistoryFull → length state.old.history ≡ MAX_EVENTS }
     ensures numbers { result ≡ Err Stop.NumbersSpent → ⊥ }
+    ensures memory { result ≡ Err Stop.Memory → length state.old.history ≢ MAX_EVENTS }
 {
+    if state.history.len() == MAX_EVENTS {
+        drop(reply);
+        return Err(Stop::HistoryFull);
+    }
     let Some(running) = state.tasks.remove(&task) else {
         unreachable!()
     };
@@ -159,7 +164,8 @@ pub fn finish(state: &mut State<'_>, task: TaskId, reply: Reply) -> Result<(), S
 }
 
 /// A cancelled task ends, or a child is refused, with this event. The task that asked for it is told. Where a cancellation of
-/// it is under way, the answers follow that come due, and its unbans are sent if its bans are placed.
+/// it is under way, the answers follow that come due, its unbans are sent if its bans are placed, and the ban of its parent is
+/// acknowledged if of the listed children it was the last to stop.
 ///
 /// Where it fails, the event may have come.
 fn leave(state: &mut State<'_>, task: TaskId, event: Event) -> Result<(), Stop>
@@ -208,7 +214,7 @@ fn leave(state: &mut State<'_>, task: TaskId, event: Event) -> Result<(), Stop>
 /// A child that has not passed is refused with the number of the ban of its parent on its node.
 ///
 /// It fails where the history is full (`HistoryFull`, at 4,000,000 events) or memory runs out (`Memory`); the first of
-/// its events may stand then.
+/// its events may stand then. A history that is full from the start is found before memory is asked for.
 pub fn refuse(state: &mut State<'_>, task: TaskId, cancel: u32) -> Result<(), Stop>
     requires tied { IsTied state.old }
     requires refused { RefuseAllowed task cancel state.old.history }
@@ -220,14 +226,18 @@ pub fn refuse(state: &mut State<'_>, task: TaskId, cancel: u32) -> Result<(), St
     ensures laws { OnErr result (KeepsLaws state.new) }
     ensures full { result ≡ Err Stop.HistoryFull → IsCutShort (λ past. IsPartOf state.old.history past (with_due (Event.Refuse task cancel) state.old.history)) state.new.history }
     ensures numbers { result ≡ Err Stop.NumbersSpent → ⊥ }
+    ensures memory { result ≡ Err Stop.Memory → length state.old.history ≢ MAX_EVENTS }
 {
+    if state.history.len() == MAX_EVENTS {
+        return Err(Stop::HistoryFull);
+    }
     leave(state, task, Event::Refuse { task, cancel })
 }
 
 /// A marked task whose asks are all answered ends as cancelled, with the number of its mark.
 ///
 /// It fails where the history is full (`HistoryFull`, at 4,000,000 events) or memory runs out (`Memory`); the first of
-/// its events may stand then.
+/// its events may stand then. A history that is full from the start is found before memory is asked for.
 pub fn finish_cancelled(state: &mut State<'_>, task: TaskId, cancel: u32) -> Result<(), Stop>
     requires tied { IsTied state.old }
     requires live { is_live task state.old.history ≡ true }
@@ -242,7 +252,11 @@ pub fn finish_cancelled(state: &mut State<'_>, task: TaskId, cancel: u32) -> Res
     ensures laws { OnErr result (KeepsLaws state.new) }
     ensures full { result ≡ Err Stop.HistoryFull → IsCutShort (λ past. IsPartOf state.old.history past (with_due (Event.End task (Cancelled task cancel (counts_in state.old task))) state.old.history)) state.new.history }
     ensures numbers { result ≡ Err Stop.NumbersSpent → ⊥ }
+    ensures memory { result ≡ Err Stop.Memory → length state.old.history ≢ MAX_EVENTS }
 {
+    if state.history.len() == MAX_EVENTS {
+        return Err(Stop::HistoryFull);
+    }
     let Some(running) = state.tasks.get(&task) else {
         unreachable!()
     };

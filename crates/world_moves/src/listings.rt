@@ -10,13 +10,11 @@ ghost use Rattle.world_moves.specs.Moves.{IsPartly, StopsMove};
 ghost use Rattle.world_moves.specs.Ties.{IsTied, Keeps, KeepsLaws};
 
 use crate::append::append;
-use crate::flight::Sent;
 use crate::marks::mark;
-use crate::sending::send;
+use crate::performing::send_if_any;
+use crate::rows::children_in;
 use crate::state::State;
-use cancel_core::Act;
 use node_parts::listing::Listing;
-use node_parts::notice::Notice;
 use task_events::{Event, MAX_EVENTS, Stop};
 use task_ids::TaskId;
 
@@ -50,7 +48,11 @@ fn next_child(state: &State<'_>, listing: Listing) -> Option<(TaskId, u32)>
     Some((task, cancel))
 }
 
-/// An open listing ends in which every child is marked: the ban is acknowledged.
+/// An open listing ends in which every child is marked. The ban is acknowledged now where each of the children is stopped: it has
+/// ended, or its own bans are placed. Else the core of the node waits for the others.
+///
+/// It fails where the history is full (`HistoryFull`, at 4,000,000 events), which takes no memory to find, or else where memory runs out
+/// (`Memory`); then nothing was appended.
 fn end_listing(state: &mut State<'_>, listing: Listing) -> Result<(), Stop>
     requires tied { IsTied state.old }
     requires opened { is_open listing state.old.history ≡ true }
@@ -67,26 +69,20 @@ fn end_listing(state: &mut State<'_>, listing: Listing) -> Result<(), Stop>
     if state.history.len() == MAX_EVENTS {
         return Err(Stop::HistoryFull);
     }
+    let Listing { node, parent } = listing;
+    let place = node as usize - 1;
+    let Ok(children) = children_in(state.alloc, &state.tables[place], parent) else {
+        return Err(Stop::Memory);
+    };
+    let Ok(ack) = state.cores[place].ban_listed(parent, children.as_slice()) else {
+        return Err(Stop::Memory);
+    };
     let _was_open = state.listings.remove(&listing);
-    let act = state.cores[listing.node as usize - 1].ban_listed(listing.parent);
-    let Act::SendAck { to: _, parent } = act else {
-        unreachable!()
-    };
-    let ack = Notice::Ack {
-        parent,
-        from: listing.node,
-    };
-    match send(&mut state.flight, Sent::Notice(ack)) {
+    match send_if_any(&mut state.flight, node, ack) {
         Ok(()) => {}
         Err(stop) => return Err(stop),
     }
-    append(
-        &mut state.history,
-        Event::Listed {
-            node: listing.node,
-            parent,
-        },
-    )
+    append(&mut state.history, Event::Listed { node, parent })
 }
 
 /// An open listing makes its next step.

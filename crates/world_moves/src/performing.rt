@@ -3,7 +3,7 @@
 ghost use Rattle.std.specs.Prelude.{◌≡◌, ◌∷◌, [], ◌++◌, ◌==◌, ◌≤◌, ℕ, length, Err, Some, option_map, if◌then◌else◌, OnOk, OnErr, IfErr};
 ghost use Rattle.task_events.specs.declared.history.TheConstants.{MAX_EVENTS};
 ghost use Rattle.task_events.specs.declared.event.Event.{Event};
-ghost use Rattle.world_moves.specs.Acts.{messages_in, answer_in, offered_in, cancel_of, left_after, answers_in};
+ghost use Rattle.world_moves.specs.Acts.{messages_in, messages_of, answer_in, offered_in, cancel_of, left_after, answers_in};
 ghost use Rattle.world_moves.specs.Left.{left_in};
 ghost use Rattle.world_moves.specs.Moves.{IsPartOf, IsCutShort};
 
@@ -23,6 +23,17 @@ fn send_one(flight: &mut Flight, node: u32, act: &Act) -> Result<(), Stop>
 {
     match Notice::of_act(act, node) {
         Some(notice) => send(flight, Sent::Notice(notice)),
+        None => Ok(()),
+    }
+}
+
+/// Sends what an act of a node sends, where there is one. It fails only for want of memory (`Memory`).
+pub fn send_if_any(flight: &mut Flight, node: u32, act: Option<Act>) -> Result<(), Stop>
+    ensures sent { OnOk result (flight.new ≡ flight.old ++ messages_of node act) }
+    ensures memory { IfErr result (λ stop. stop ≡ Stop.Memory) }
+{
+    match act {
+        Some(act) => send_one(flight, node, &act),
         None => Ok(()),
     }
 }

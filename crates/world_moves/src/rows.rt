@@ -1,10 +1,12 @@
-//! The live tasks as a task list shows them.
+//! The live tasks as a task list shows them, and those of one parent.
 
 ghost use Rattle.std.specs.Prelude.{◌≡◌, ◌++◌, map, IfOk, IfErr, OnOk};
 ghost use Rattle.std.specs.List.{flat_map};
 ghost use Rattle.command_roots.specs.Roots.{rows_of};
+ghost use Rattle.tasks_api.specs.Filters.{is_child_of};
 ghost use Rattle.tasks_api.specs.Lists.{shown};
 ghost use Rattle.world_moves.specs.Cancels.{targets};
+ghost use Rattle.world_moves.specs.Listings.{children_among};
 ghost use Rattle.world_moves.specs.Ties.{IsTied};
 
 use crate::state::State;
@@ -58,6 +60,44 @@ fn add_live_ids(
     let (first, rest) = table.live();
     add_ids(found, first, wanted)?;
     add_ids(found, rest, wanted)
+}
+
+/// Whether a row is that of a child of the task.
+fn is_child(row: &TaskInfo, task: TaskId) -> bool
+    ensures { result ≡ is_child_of task row.now.parent }
+{
+    row.parent.is_some_and(|parent| parent == task)
+}
+
+/// Adds the ids of those of some rows that are of children of a task.
+fn add_children(
+    found: &mut Vec<TaskId>,
+    rows: &[TaskInfo],
+    parent: TaskId,
+) -> Result<(), AllocError>
+    ensures { OnOk result (found.new.items ≡ found.old.items ++ children_among parent rows.now) }
+{
+    for row in rows {
+        if is_child(row, parent) {
+            found.push(row.id)?;
+        }
+    }
+    Ok(())
+}
+
+/// The live children of a task in the table of a node, by ascending number. It fails only for want of memory.
+pub fn children_in(
+    alloc: Global,
+    table: &TaskTable,
+    parent: TaskId,
+) -> Result<Vec<TaskId>, AllocError>
+    ensures { IfOk result (λ ids. ids.items ≡ children_among parent table.now.live) }
+{
+    let (first, rest) = table.live();
+    let mut found = Vec::new(alloc);
+    add_children(&mut found, first, parent)?;
+    add_children(&mut found, rest, parent)?;
+    Ok(found)
 }
 
 /// The rows of all tables that a filter lets through, copied.

@@ -1,6 +1,6 @@
 //! A turn of work of a live task.
 
-ghost use Rattle.std.specs.Prelude.{◌≡◌, ◌∷◌, ◌≤◌, true, false, length, Err, None, IfOk, IfErr, OnOk, OnErr};
+ghost use Rattle.std.specs.Prelude.{◌≡◌, ◌≢◌, ◌∷◌, ◌≤◌, true, false, length, Err, None, IfOk, IfErr, OnOk, OnErr};
 ghost use Rattle.task_events.specs.declared.history.TheConstants.{MAX_EVENTS};
 ghost use Rattle.task_events.specs.Bans.{mark_of};
 ghost use Rattle.task_events.specs.Tasks.{is_live, is_new};
@@ -15,7 +15,7 @@ use crate::state::State;
 use corpus_shards::Shards;
 use shared_value::Shared;
 use std::alloc::AllocError;
-use task_events::{Do, Event, History, Outcome, Stop, WriteNote};
+use task_events::{Do, Event, History, MAX_EVENTS, Outcome, Stop, WriteNote};
 use task_ids::{TaskId, Text};
 
 /// The event of a write that is noted. It takes no memory, and fails only where a text of it has too many owners (`Memory`).
@@ -76,7 +76,7 @@ fn note_dead(
 /// index that has no shards yet gets them.
 ///
 /// It fails where the history is full (`HistoryFull`, at 4,000,000 events) or memory runs out (`Memory`); the first of
-/// its events may stand then.
+/// its events may stand then. A history that is full from the start is found before memory is asked for.
 pub fn turn(state: &mut State<'_>, task: TaskId) -> Result<(), Stop>
     requires tied { IsTied state.old }
     requires live { is_live task state.old.history ≡ true }
@@ -91,7 +91,11 @@ pub fn turn(state: &mut State<'_>, task: TaskId) -> Result<(), Stop>
     ensures laws { OnErr result (KeepsLaws state.new) }
     ensures full { result ≡ Err Stop.HistoryFull → IsCutShort (λ past. IsPartOf state.old.history past (turned_in state.old task)) state.new.history }
     ensures numbers { result ≡ Err Stop.NumbersSpent → ⊥ }
+    ensures memory { result ≡ Err Stop.Memory → length state.old.history ≢ MAX_EVENTS }
 {
+    if state.history.len() == MAX_EVENTS {
+        return Err(Stop::HistoryFull);
+    }
     let Some(running) = state.tasks.get_mut(&task) else {
         unreachable!()
     };

@@ -3,7 +3,7 @@ use Rattle.std.proofs.Common.{◌≡◌, ◌≢◌, ◌⊎◌, ◌≤◌, ℕ, B
 use Rattle.std.specs.Prelude.{◌==◌}
 use Rattle.std.specs.BTreeMap.{is_at}
 use Rattle.std.specs.BTreeSet.{BTreeSet, contains, btree_set_len, IsLowerBound}
-use Rattle.std.specs.Cmp.{IsTotalOrder, eq_by_cmp_equiv}
+use Rattle.std.specs.Cmp.{Equal-is, IsTotalOrder, eq_by_cmp_equiv}
 use Rattle.std.specs.List.{list_any}
 use Rattle.std.specs.Ordering.{nat_cmp, ordering_then, is_eq, is_gt}
 use Rattle.std.specs.declared.cmp.Ordering.{Ordering}
@@ -31,11 +31,6 @@ exact_alarms a b h =
 alarms_total : IsTotalOrder alarm_cmp
 alarms_total = then_total (on_total (λ a. a.moment) nat_cmp_total) (on_total (λ a. a.task) ids_total)
 
-is_equal : (o : Ordering) → is_eq o ≡ true → o ≡ Equal
-is_equal Less e = absurd (cc)
-is_equal Equal e = refl
-is_equal Greater e = absurd (cc)
-
 -- one alarm: the same moment, and the same task
 abbrev same_alarm : Alarm → Alarm → Bool
 same_alarm a b = (a.moment == b.moment) && same_task a.task b.task
@@ -55,7 +50,7 @@ is_at_alarm a b = by_case (is_at (alarm_cmp a) b) refl (same_alarm a b) refl
     by_case : (x : Bool) → is_at (alarm_cmp a) b ≡ x → (y : Bool) → same_alarm a b ≡ y → is_at (alarm_cmp a) b ≡ same_alarm a b
     by_case x e true same = subst (λ c. is_at (alarm_cmp a) c ≡ true) (one_alarm a b same) ((eq_by_cmp_equiv alarms_total).refl a) ∙ sym same
     by_case false e false differs = e ∙ sym differs
-    by_case true e false differs = absurd (let x = sym differs ∙ subst (λ c. same_alarm a c ≡ true) (exact_alarms a b (is_equal (alarm_cmp a b) e)) (itself a) in cc)
+    by_case true e false differs = absurd (let x = sym differs ∙ subst (λ c. same_alarm a c ≡ true) (exact_alarms a b ((Equal-is (alarm_cmp a b)).0 e)) (itself a) in cc)
 
 -- one alarm is taken out, or put in where its task has none
 module _ (old new : TaskId → Option ℕ) (was is : Alarm → Bool) (alarm : Alarm) (are : (a : Alarm) → was a ≡ is_number a.moment (old a.task)) where

@@ -7,7 +7,7 @@ use Rattle.std.proofs.lemmas.List.{drop-drop}
 use Rattle.std.proofs.Math.Seq.{take-add}
 use native.Mathlib.Nat.{suc-mul, zero-mul}
 use Rattle.world_steps.specs.PagesFollow.{cuts}
-use Rattle.world_steps.proofs.CursorCuts.{last_or-append, last_or_other}
+use Rattle.search_phase.proofs.CursorCuts.{last_or-append, last_or_other}
 
 pub cuts_next : {X : Type 0} (size n : ℕ) (xs : List X) → cuts size (suc n) xs ≡ cuts size n xs ++ take size (drop (n * size) xs) ∷ []
 cuts_next {X} size zero xs = ap (λ m. take size (drop m xs) ∷ []) (sym (zero-mul size))

@@ -20,7 +20,7 @@ use Rattle.node_parts.specs.declared.running.Running.{Running}
 use Rattle.world_moves.specs.Ties.{Ties, IsTableAt}
 use Rattle.node_parts.specs.declared.listing.Listing.{Listing}
 use Rattle.world_moves.specs.Cancels.{waiting_for}
-use Rattle.world_moves.specs.Cancelling.{Cancelling, IsEntryOf, IsRowOf, HasRows, HasBansAt, HasCoreAt}
+use Rattle.world_moves.specs.Cancelling.{Cancelling, IsEntryOf, IsRowOf, HasRows, HasBansAt, HasCoreAt, HasListingsAt}
 use Rattle.world_moves.specs.Describing.{Describing, DescribesAll, IsDescribed}
 use Rattle.world_moves.specs.Left.{HasLeft}
 use Rattle.world_moves.specs.Owning.{Owning}
@@ -73,6 +73,7 @@ module _ (cluster : Cluster) where
     roots_are = roots_none;
     bans_are = each_node (λ p o. HasBansAt cluster p [] o) (λ p. empty) bans bans_are (λ p q. get-empty task_id_cmp q) (λ p l. l);
     cores_are = each_node (λ p o. HasCoreAt cluster (λ t. waiting_for t []) p [] o) (λ p. no_cancellations (p + 1)) cores cores_are (λ p t at. subst (IsEntryOf (waiting_for t []) t []) (sym (get-empty task_id_cmp t)) (refl, refl)) (λ p l. l);
+    waits_are = each_node (λ p o. HasListingsAt p [] o) (λ p. no_cancellations (p + 1)) cores cores_are (λ p. record { waits = λ t on. get-empty task_id_cmp t; numbers = λ q. get-empty task_id_cmp q }) (λ p l. tt);
     listings_are = none;
   }
 

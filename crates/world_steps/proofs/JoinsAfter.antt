@@ -35,6 +35,8 @@ use Rattle.world_moves.proofs.CancelFrame.{waiters_same}
 use Rattle.world_moves.proofs.CoresAfter.{marked_in, core_on, its_entry, cores_after}
 use Rattle.world_moves.proofs.DueActs.{knows_placed}
 use Rattle.world_moves.proofs.NamedCancels.{is_in, named_in, in_filter, named_acted}
+use Rattle.world_moves.proofs.QuietListings.{quiet_listings}
+use Rattle.world_moves.proofs.WaitsAfter.{waits_set}
 use Rattle.world_steps.specs.Naming.{IsNaming}
 use Rattle.world_steps.proofs.NamedAfter.{alike, noted_with, others_stay, waits_as_told, waits_more}
 
@@ -152,5 +154,6 @@ module _ (cluster : Cluster) (h : List Event) (c : ℕ) (t : TaskId) (wait : Boo
         → Cancelling cluster (λ u. waiting_for u (Cancel c t wait ∷ h)) (Cancel c t wait ∷ h) tables roots bans (slice_set cores (t.node - 1) (with_entry core t (Some (joined_by e waiter)))) listings
     join_noted e known tables roots bans cores listings cancels core on =
         noted_with cluster h c t wait naming l awaits live fresh (λ u. waiting_for u (Cancel c t wait ∷ h)) tables roots bans cores _ listings cancels
-        (cores_after cluster (λ u. waiting_for u h) h cores cancels.cores_are t join_high core on (λ u. waiting_for u (Cancel c t wait ∷ h)) (Cancel c t wait ∷ h) (Some (joined_by e waiter))
+        (cores_after cluster (λ u. waiting_for u h) h cores cancels.cores_are t join_high core on (with_entry core t (Some (joined_by e waiter))) (λ u. waiting_for u (Cancel c t wait ∷ h)) (Cancel c t wait ∷ h) (Some (joined_by e waiter)) refl
         (joined_entry e known marked) (others_stay cluster h c t wait naming l awaits live fresh))
+        (waits_set h (Cancel c t wait ∷ h) (quiet_listings (Cancel c t wait) h refl) cores (t.node - 1) core on cancels.waits_are (with_entry core t (Some (joined_by e waiter))) refl refl)

@@ -4,7 +4,6 @@ pub mod AllShown
 pub mod BansOver
 pub mod Chosen
 pub mod Commanded
-pub mod CursorCuts
 pub mod Cutting
 pub mod Determined
 pub mod Empty
@@ -16,14 +15,11 @@ pub mod Fitting
 pub mod FromFirst
 pub mod HadBefore
 pub mod JoinsAfter
-pub mod KeysApart
-pub mod ListedHits
 pub mod ListingKeys
 pub mod NamedAfter
 pub mod NamesAll
 pub mod NamesOne
 pub mod NamingEnds
-pub mod NextCut
 pub mod NextDue
 pub mod NoneDue
 pub mod PagesInOrder
@@ -39,6 +35,7 @@ pub mod ShardsAnswered
 pub mod Shuffled
 pub mod Soon
 pub mod Stances
+pub mod StepsBegin
 pub mod TargetsLive
 pub mod Timely
 pub mod Turning

@@ -29,7 +29,7 @@ use Rattle.world_moves.specs.declared.flight.Sent.{Sent}
 use Rattle.node_parts.specs.declared.listing.Listing.{Listing}
 use Rattle.node_parts.specs.declared.running.Running.{Running}
 use Rattle.world_moves.specs.Cancels.{waiting_for, waits_for_end, named_by, tasks_named, is_answered, is_through, left_of, with_cancel}
-use Rattle.world_moves.specs.Cancelling.{Cancelling, HasCoreAt, HasRows, HasBansAt, IsEntryOf, is_under_way, waiting_but}
+use Rattle.world_moves.specs.Cancelling.{Cancelling, HasCoreAt, HasListingsAt, HasRows, HasBansAt, IsEntryOf, is_under_way, waiting_but}
 use Rattle.world_moves.specs.Left.{HasLeft}
 use Rattle.command_roots.specs.Roots.{scripted}
 use Rattle.world_moves.specs.Ties.{Ties}
@@ -40,6 +40,8 @@ use Rattle.world_moves.proofs.NodeTablesSame.{listed_same}
 use Rattle.world_moves.proofs.NamedCancels.{is_in, named_in, named_waits, in_filter, filter_same}
 use Rattle.world_moves.proofs.NodeTables.{no_entry}
 use Rattle.world_moves.proofs.TasksNamed.{task_in}
+use Rattle.world_moves.proofs.QuietListings.{quiet_listings}
+use Rattle.world_moves.proofs.WaitsAfter.{waits_stay}
 use Rattle.world_steps.specs.Naming.{IsNaming}
 
 -- filters that agree on the tasks of a list
@@ -140,12 +142,14 @@ module _ (cluster : Cluster) (h : List Event) (c : ℕ) (t : TaskId) (wait : Boo
   -- the other tables say what they said
   pub noted_with : (waiting : TaskId → List ℕ) (tables : List Table) (roots : ℕ → Option TaskId) (bans : List (FinMap task_id_cmp ℕ)) (cores after : List Cancellations) (listings : BTreeSet Listing)
       → Cancelling cluster (λ u. waiting_for u h) h tables roots bans cores listings → ((place : ℕ) → HasCoreAt cluster waiting place (Cancel c t wait ∷ h) (slice_get after place))
+      → ((place : ℕ) → HasListingsAt place (Cancel c t wait ∷ h) (slice_get after place))
       → Cancelling cluster waiting (Cancel c t wait ∷ h) tables roots bans after listings
-  noted_with waiting tables roots bans cores after listings known cores_are = record {
+  noted_with waiting tables roots bans cores after listings known cores_are waits_are = record {
     rows_are = λ place. of_rows (slice_get tables place) (known.rows_are place);
     roots_are = known.roots_are;
     bans_are = λ place. of_bans place (slice_get bans place) (known.bans_are place);
     cores_are = cores_are;
+    waits_are = waits_are;
     listings_are = known.listings_are;
   }
 
@@ -216,6 +220,7 @@ module _ (cluster : Cluster) (h : List Event) (c : ℕ) (t : TaskId) (wait : Boo
     cancels_after_cancel tables roots bans cores listings known =
         noted_with (waiting_but t (Cancel c t wait ∷ h)) tables roots bans cores cores listings known
         (λ place. cores_kept cluster (λ u. waiting_for u h) (waiting_but t (Cancel c t wait ∷ h)) h (Cancel c t wait ∷ h) (λ u o i. by_task u o i (same_task_tells t u)) place (slice_get cores place) (known.cores_are place))
+        (λ place. waits_stay place h (Cancel c t wait ∷ h) (slice_get cores place) (quiet_listings (Cancel c t wait) h refl) (known.waits_are place))
       where
         by_task : (u : TaskId) (o : Option Cancellation) → IsEntryOf (waiting_for u h) u h o → ((same_task t u ≡ true) × (t ≡ u)) ⊎ ((same_task t u ≡ false) × (t ≢ u)) → IsEntryOf (waiting_but t (Cancel c t wait ∷ h) u) u (Cancel c t wait ∷ h) o
         by_task u o i (inl (is_one, same)) =

@@ -51,8 +51,8 @@ use Rattle.world_steps.proofs.AllShown.{all_cut}
 use Rattle.world_steps.proofs.FromFirst.{context_shown}
 use Rattle.world_steps.proofs.ReadBefore.{counts_within}
 use Rattle.world_steps.proofs.Cutting.{cuts_push, last_next, rows_next}
-use Rattle.world_steps.proofs.KeysApart.{AreDifferent}
-use Rattle.world_steps.proofs.NextCut.{good_parts, shows_cut}
+use Rattle.search_phase.proofs.KeysApart.{AreDifferent}
+use Rattle.search_phase.proofs.NextCut.{good_parts, shows_cut}
 use Rattle.world_steps.proofs.ShardsAnswered.{shards_of, search_different, page_answers}
 use Rattle.world_steps.proofs.UsedAlone.{IsInUse, all_in_use, is_one, same_itself}
 

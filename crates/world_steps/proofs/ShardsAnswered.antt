@@ -17,8 +17,8 @@ use Rattle.task_events.specs.Readings.{shard_read}
 use Rattle.task_events.specs.ShardOutcomes.{found_in, count_found, fetch_failed, shard_failed}
 use Rattle.search_phase.proofs.Lookups.{IsIn, IsIn-filter, list_any-in, list_any-map}
 use Rattle.search_phase.proofs.Sorting.{by_test}
-use Rattle.world_steps.proofs.CursorCuts.{all-weaker}
-use Rattle.world_steps.proofs.KeysApart.{AreDifferent}
+use Rattle.search_phase.proofs.CursorCuts.{all-weaker}
+use Rattle.search_phase.proofs.KeysApart.{AreDifferent}
 
 abbrev pub shards_of : List ShardCount → List ℕ
 shards_of counts = map (λ (at : ShardVersion). at.0) (map read_at counts)

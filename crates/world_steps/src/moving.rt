@@ -3,7 +3,7 @@
 ghost use Rattle.std.specs.Prelude.{◌≡◌, ◌≢◌, ◌<◌, ◌≤◌, ◌↔◌, length, true, false, Ok, Err, OnOk, OnErr, IfOk, IfErr};
 ghost use Rattle.task_events.specs.declared.history.TheConstants.{MAX_EVENTS};
 ghost use Rattle.world_moves.specs.Listings.{ListSteps, AnswersListing};
-ghost use Rattle.world_moves.specs.Moves.{Delivers, DeliveryLacksNumber, IsPartly, StopsDelivery, StopsMove};
+ghost use Rattle.world_moves.specs.Moves.{Delivers, DeliveryLacksNumber, IsCutShort, IsPartly, StopsDelivery, StopsMove};
 ghost use Rattle.world_steps.specs.Runs.{Steps, AnswersStep, FirstMoves, HasRoom, IsSettled, Settles, PartlySettles, StopsFirst, StopsSettling};
 ghost use Rattle.world_moves.specs.Ties.{IsTied, Keeps, KeepsLaws};
 ghost use Rattle.world_steps.specs.World.{HasReady};
@@ -11,7 +11,7 @@ ghost use Rattle.world_steps.specs.World.{HasReady};
 use crate::acting::{Stepped, act};
 use crate::ready::{Ready, refresh};
 use node_parts::listing::Listing;
-use task_events::Stop;
+use task_events::{MAX_EVENTS, Stop};
 use task_ids::TaskId;
 use world_moves::answers::deliver_answer;
 use world_moves::bans::deliver_notice;
@@ -83,6 +83,25 @@ pub(crate) fn deliver_and_refresh(
     }
 }
 
+/// What a step of a task answers where the history is full, which takes no memory to find: nothing happens, since the task waits or is
+/// not live, or its next event finds no room.
+fn step_at_full(state: &State<'_>, ready: &Ready, task: TaskId) -> Result<Stepped, Stop>
+    requires tied { IsTied state.now }
+    requires known { HasReady state.now ready.now }
+    requires full { length state.now.history ≡ MAX_EVENTS }
+    ensures stepped { IfOk result (λ stepped. AnswersStep state.now.cluster state.now.corpus.now state.now.script.now task state.now.history stepped state.now.history) }
+    ensures room { IfOk result (λ stepped. HasRoom stepped state.now.history) }
+    ensures full { IfErr result (λ stop. (stop ≡ Stop.HistoryFull) × IsCutShort (IsPartly (Steps state.now.cluster state.now.corpus.now state.now.script.now task) state.now.history) state.now.history) }
+{
+    if ready.tasks.contains(&task) {
+        return Err(Stop::HistoryFull);
+    }
+    match state.tasks.get(&task) {
+        Some(_) => Ok(Stepped::Waiting),
+        None => Ok(Stepped::NotRunning),
+    }
+}
+
 /// A task makes its next step, and it is noted whether it waits after that.
 pub(crate) fn step_and_refresh(
     state: &mut State<'_>,
@@ -99,7 +118,14 @@ pub(crate) fn step_and_refresh(
     ensures part { OnErr result (IsPartly (Steps state.old.cluster state.old.corpus.now state.old.script.now task) state.old.history state.new.history) }
     ensures laws { KeepsLaws state.new }
     ensures stop { IfErr result (λ stop. StopsMove (Steps state.old.cluster state.old.corpus.now state.old.script.now task) state.old.history state.new.history stop) }
+    ensures memory { result ≡ Err Stop.Memory → length state.old.history ≢ MAX_EVENTS }
 {
+    if state.history.len() == MAX_EVENTS {
+        return match step_at_full(state, ready, task) {
+            Ok(stepped) => Ok(stepped),
+            Err(stop) => Err(stop),
+        };
+    }
     let before = state.history.len();
     let stepped = match act(state, task) {
         Ok(stepped) => stepped,

@@ -1,4 +1,5 @@
-ghost use Rattle.std.specs.Prelude.{◌≡◌, ◌≤◌, ◌<◌, ◌^◌, ◌+◌, ◌||◌, option_and_then, List, [], ◌∷◌, ◌++◌, length, Ok, Err, Some, None, OnOk, OnErr, IfOk, IfErr, IfSome, ℕ};
+ghost use Rattle.std.specs.Prelude.{◌≡◌, ◌≢◌, ◌≤◌, ◌<◌, ◌^◌, ◌+◌, ◌||◌, option_and_then, List, [], ◌∷◌, ◌++◌, length, Ok, Err, Some, None, OnOk, OnErr, IfOk, IfErr, IfSome, ℕ};
+ghost use Rattle.task_events.specs.declared.history.TheConstants.{MAX_EVENTS};
 ghost use Rattle.std.specs.List.{list_any};
 ghost use Rattle.std.specs.Str.{bytes_eq};
 ghost use Rattle.task_ids.specs.declared.corpus.Corpus.{Corpus};
@@ -463,6 +464,7 @@ impl<'a> World<'a> {
         ensures stop { IfErr result (λ stop. self.new.stopped ≡ Some stop) }
         ensures stopped { IfSome self.old.stopped (λ stop. (result ≡ Err stop) × (self.new.past ≡ self.old.past)) }
         ensures cause { IfErr result (λ stop. self.old.stopped ≡ None → StopsMove (Steps self.old.cluster self.old.corpus self.old.script task) self.old.past self.new.past stop) }
+        ensures memory { self.old.stopped ≡ None → result ≡ Err Stop.Memory → length self.old.past ≢ MAX_EVENTS }
         ensures keeps { self.new ≡ record self.old { past = self.new.past; stopped = self.new.stopped } }
     {
         if let Some(stop) = self.stopped {

@@ -1,9 +1,6 @@
-use Rattle.std.proofs.Common.{◌≡◌}
-use Rattle.race_board.specs.Seats.{control_view, IsControlOf}
+-- What was listed stays marked.
+use Rattle.std.proofs.Common.{ℕ, ◌<◌, slice_index}
 use Rattle.board_races.proofs.control.take_masks.Given as goal
 
 abbrev pub invariant-loop-k : goal.invariant-loop-k
-invariant-loop-k l = record {
-  fits : IsControlOf l.board l.control;
-  marked : (control_view l.control).marked ≡ (control_view l.fn.control).marked;
-}
+invariant-loop-k g l = (k : ℕ) → k < l.count → g.C.ControlBoard.marked l.control (slice_index l.listed k)

@@ -1,9 +1,6 @@
 use Rattle.serde_json.specs.View.{view}
-use Rattle.shard_docs.specs.Json.{json_of}
-use Rattle.shard_docs.proofs.ActionLemmas.{found_on_line}
 use Rattle.shard_docs.proofs.TextLines.{text_of_json}
 use Rattle.shard_docs.proofs.json_line.source_of_line.Goals as goal
 
 pub returns-in-Err-Memory-clause-memory : goal.returns-in-Err-Memory-clause-memory
-returns-in-Err-Memory-clause-memory c =
-    text_of_json c.args.line.now (view c.in_ok-value.value) (found_on_line c.args.number (json_of c.args.line.now) (view c.in_ok-value.value) c.in_ok-value.ensures.value)
+returns-in-Err-Memory-clause-memory c = text_of_json c.args.line.now (view c.in_ok-value.value) c.in_ok-value.ensures.value

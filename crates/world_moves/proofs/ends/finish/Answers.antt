@@ -111,7 +111,7 @@ returns-clause-tied c =
           (c.in-Ok-tell_parent.ensures.ok ∙ ap (λ at. s.flight ++ told_parent c.end_in-receipt.result at) c.len-at.ensures)
           ended;
       cancels =
-          rw (happened, row) (noted_unmarked c.args.task s.history (End c.args.task c.args.reply) refl c.requires.unmarked s.cluster c.requires.tied.ties.lawful s.tables.items _ s.bans.items s.cores.items s.listings
+          rw (happened, row) (noted_unmarked c.args.task s.history (End c.args.task c.args.reply) refl c.requires.unmarked s.cluster ended.lawful c.requires.live s.tables.items _ s.bans.items s.cores.items s.listings
           c.index_mut.result.now its c.requires.tied.cancels);
       counts =
           rw happened (counts_unmarked c.args.task s.history (End c.args.task c.args.reply) refl s.cluster c.requires.tied.ties.lawful _ c.requires.tied.counts

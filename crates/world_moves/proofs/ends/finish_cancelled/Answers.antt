@@ -1,8 +1,9 @@
-use Rattle.std.proofs.Common.{◌≡◌, ◌∙◌, ◌∷◌, map, reverse, Some, refl, ap, sym, subst}
+use Rattle.std.proofs.Common.{◌≡◌, ◌∙◌, ◌∷◌, length, rules, map, reverse, Some, refl, ap, sym, subst}
 use Rattle.std.specs.Prelude.{option_map, OnOk, OnErr, Err}
 use Rattle.std.specs.Option.{option_copied}
 use Rattle.task_events.specs.declared.reply.Reply.TheVariants.{Cancelled}
 use Rattle.task_events.specs.declared.event.Event.TheVariants.{End}
+use Rattle.task_events.specs.declared.history.TheConstants.{MAX_EVENTS}
 use Rattle.task_events.specs.declared.stop.Stop.TheVariants.{HistoryFull}
 use Rattle.task_events.specs.Allowed.{EndAllowed}
 use Rattle.world_moves.specs.Cancels.{answer_to, due_for, with_due}
@@ -11,6 +12,7 @@ use Rattle.world_moves.specs.Ties.{counts_in}
 use Rattle.world_moves.proofs.CountsKept.{counted_so}
 use Rattle.world_moves.proofs.StepsAfter.{is_kept}
 use Rattle.world_moves.proofs.CancelledEnds.{none_part}
+use Rattle.world_moves.proofs.CutShort.{cut_first}
 use Rattle.world_moves.proofs.ends.finish_cancelled.Goals as goal
 
 pub unreachable-requires : goal.unreachable-requires
@@ -32,6 +34,20 @@ leave-requires-clause-leaves c =
       no_rejection = refl;
     } in
     (refl, (c.args.cancel, says, subst (λ reply. EndAllowed t reply s.history) (sym says) allowed))
+
+-- the history was full from the start
+pub returns-then-len-eq-MAX_EVENTS-clause-part : goal.returns-then-len-eq-MAX_EVENTS-clause-part
+returns-then-len-eq-MAX_EVENTS-clause-part c =
+    let h = c.args.state.now.history in
+    let event = End c.args.task (Cancelled c.args.task c.args.cancel (counts_in c.args.state.now c.args.task)) in
+    none_part h (reverse (map (answer_to (event ∷ h)) (due_for c.args.task (event ∷ h)))) event
+
+pub returns-then-len-eq-MAX_EVENTS-clause-full : goal.returns-then-len-eq-MAX_EVENTS-clause-full
+returns-then-len-eq-MAX_EVENTS-clause-full c = λ failed.
+    let h = c.args.state.now.history in
+    let event = End c.args.task (Cancelled c.args.task c.args.cancel (counts_in c.args.state.now c.args.task)) in
+    let full : length h ≡ MAX_EVENTS = search rules in
+    cut_first h h (reverse (map (answer_to (event ∷ h)) (due_for c.args.task (event ∷ h)))) event full refl
 
 -- memory ran out before anything came
 pub returns-in-Err-clause-part : goal.returns-in-Err-clause-part

@@ -19,7 +19,7 @@ use Rattle.world_moves.proofs.StepsAfter.{is_kept}
 use Rattle.world_moves.proofs.CancelAnswersAfter.{shards_answered, answers_lawful, answers_await, answers_tied, answers_noted, answers_described}
 use Rattle.world_moves.proofs.DescriptionsAfter.{described_with, rows_left, carry_both, told_carries, acts_carry}
 use Rattle.world_moves.proofs.CancelledEnds.{leaves_so, shards_left, leaver_lives, awaits_none, left_lawful, left_plain, none_part, first_part, leaver_open, after_cancelled, after_unmarked}
-use Rattle.world_moves.proofs.CoresAfterLeave.{core_is, known_there, no_receipt, unmarked_there, nobody_there, answered_then, counted_then, sent_then, part_then, answers_plain, set_again, answers_alone}
+use Rattle.world_moves.proofs.CoresAfterLeave.{core_is, listings_there, known_there, no_receipt, unmarked_there, nobody_there, answered_then, counted_then, sent_then, part_then, answers_plain, set_again, answers_alone}
 use Rattle.task_laws.proofs.Reach.{reach_facts}
 use Rattle.world_moves.proofs.CancelsAfterLeave.{noted_unmarked, noted_ended, nothing_due, core_there, counts_unmarked, starts_none}
 use Rattle.world_moves.proofs.TasksAfterLeave.{own_track, has_table, in_cluster, table_is, stands, runs}
@@ -126,7 +126,7 @@ returns-then-not-has-clause-tied c =
           c.index_mut.result.now c.end_in-receipt.result _ its c.end_in-receipt.ensures.receipt (at_changed c.args.task None (task_at s.tasks) _ changed) (off_changed c.args.task None (task_at s.tasks) _ changed));
       cancels =
           rw (c.in_ok-append.ensures.ok, row, set_again s.cores.items (c.args.task.node - 1) core at_core)
-          (noted_unmarked c.args.task s.history e leaves unmarked s.cluster c.requires.tied.ties.lawful s.tables.items _ s.bans.items s.cores.items s.listings c.index_mut.result.now its c.requires.tied.cancels);
+          (noted_unmarked c.args.task s.history e leaves unmarked s.cluster (left_lawful _ c.args.task s.history s.cluster c.requires.tied.ties.lawful c.requires.tied.awaits e c.requires.leaves) live s.tables.items _ s.bans.items s.cores.items s.listings c.index_mut.result.now its c.requires.tied.cancels);
       counts = rw c.in_ok-append.ensures.ok (counts_unmarked c.args.task s.history e leaves s.cluster c.requires.tied.ties.lawful _ c.requires.tied.counts nobody);
       tells =
           rw (c.in_ok-append.ensures.ok, row, sent) (described_with s.script.now s.history s.tables.items s.flight _ e _ _ (starts_none c.args.task s.history e leaves)
@@ -166,7 +166,7 @@ returns-clause-part c =
     let core = c.index_mut-core.result.now in
     let known = known_there s.cluster s.history s.tables.items _ s.bans.items s.cores.items s.listings c.requires.tied.cancels c.requires.tied.ties.lawful c.args.task live core c.index_mut-core.ensures.value
     (sym c.has.ensures ∙ c.if-not-has.false) in
-    then_err c.perform.result _ _ c.perform.ensures.part (λ performed. (let part = part_then s.cluster c.args.task c.args.event s.history (leaves_so _ c.args.task s.history c.args.event c.requires.leaves) c.requires.tied.ties.lawful _ c.requires.tied.counts (entry_of core c.args.task) c.end_in-receipt.result known c.as_slice.result.now
+    then_err c.perform.result _ _ c.perform.ensures.part (λ performed. (let part = part_then s.cluster c.args.task c.args.event s.history (leaves_so _ c.args.task s.history c.args.event c.requires.leaves) c.requires.tied.ties.lawful _ c.requires.tied.counts (entry_of core c.args.task) c.end_in-receipt.result known core c.as_slice.result.now
     (c.as_slice.ensures.value ∙ c.in-Ok-ended.ensures.acts) c.append.new.history c.perform.new.history c.in_ok-append.ensures.ok performed in
     later_part c.args.event s.history c.perform.new.history _ part))
 
@@ -180,7 +180,7 @@ returns-clause-laws c =
     let leaves = leaves_so _ c.args.task s.history e m in
     let known = known_there s.cluster s.history s.tables.items _ s.bans.items s.cores.items s.listings c.requires.tied.cancels c.requires.tied.ties.lawful c.args.task live core c.index_mut-core.ensures.value
     (sym c.has.ensures ∙ c.if-not-has.false) in
-    then_err c.perform.result _ _ c.perform.ensures.part (λ performed. (let part = part_then s.cluster c.args.task e s.history leaves c.requires.tied.ties.lawful _ c.requires.tied.counts (entry_of core c.args.task) c.end_in-receipt.result known c.as_slice.result.now
+    then_err c.perform.result _ _ c.perform.ensures.part (λ performed. (let part = part_then s.cluster c.args.task e s.history leaves c.requires.tied.ties.lawful _ c.requires.tied.counts (entry_of core c.args.task) c.end_in-receipt.result known core c.as_slice.result.now
     (c.as_slice.ensures.value ∙ c.in-Ok-ended.ensures.acts) c.append.new.history c.perform.new.history c.in_ok-append.ensures.ok performed in
     record {
       lawful = part_lawful s.cluster s.corpus.now s.script.now (e ∷ s.history) c.perform.new.history _ part
@@ -199,7 +199,7 @@ returns-clause-happened c =
     let known = known_there s.cluster s.history s.tables.items _ s.bans.items s.cores.items s.listings c.requires.tied.cancels c.requires.tied.ties.lawful c.args.task live core c.index_mut-core.ensures.value
     (sym c.has.ensures ∙ c.if-not-has.false) in
     then_ok c.perform.result _ _ c.perform.ensures.answered (λ answered. answered ∙ ap (λ past. answers_in c.as_slice.result.now (left_in s.left) ++ past) c.in_ok-append.ensures.ok
-    ∙ answered_then s.cluster c.args.task c.args.event s.history (leaves_so _ c.args.task s.history c.args.event c.requires.leaves) c.requires.tied.ties.lawful _ c.requires.tied.counts (entry_of core c.args.task) c.end_in-receipt.result known c.as_slice.result.now
+    ∙ answered_then s.cluster c.args.task c.args.event s.history (leaves_so _ c.args.task s.history c.args.event c.requires.leaves) c.requires.tied.ties.lawful _ c.requires.tied.counts (entry_of core c.args.task) c.end_in-receipt.result known core c.as_slice.result.now
     (c.as_slice.ensures.value ∙ c.in-Ok-ended.ensures.acts))
 
 pub returns-clause-tied : goal.returns-clause-tied
@@ -211,6 +211,7 @@ returns-clause-tied c =
     let live = leaver_lives _ c.args.task s.history e m in
     let leaves = leaves_so _ c.args.task s.history e m in
     let awaits = awaits_none _ c.args.task s.history e m in
+    let lawful = left_lawful _ c.args.task s.history s.cluster c.requires.tied.ties.lawful c.requires.tied.awaits e m in
     let was = sym c.remove.ensures.value ∙ c.in-Some.is in
     let its = table_is s.cluster s.corpus.now s.script.now s.history _ _ _ c.requires.tied.ties c.args.task live c.index_mut.result.now c.index_mut.ensures.value in
     let changed = c.remove.ensures.updates.0 in
@@ -221,7 +222,8 @@ returns-clause-tied c =
     (sym c.has.ensures ∙ c.if-not-has.false) in
     let at_core = core_is s.cluster s.history s.tables.items _ s.bans.items s.cores.items s.listings c.requires.tied.cancels c.requires.tied.ties.lawful c.args.task live core c.index_mut-core.ensures.value in
     let row = c.end_in-receipt.ensures.row ∙ ap (λ id. without_task c.index_mut.result.now id.number) (runs s.cluster s.corpus.now s.script.now s.history _ _ _ c.requires.tied.ties c.args.task live r was).id in
-    let sent = sent_then s.cluster c.args.task e s.history leaves c.requires.tied.ties.lawful _ c.requires.tied.counts (entry_of core c.args.task) receipt known acts (c.as_slice.ensures.value ∙ c.in-Ok-ended.ensures.acts) c.args.task.node in
+    let sent = sent_then s.cluster c.args.task e s.history leaves c.requires.tied.ties.lawful _ c.requires.tied.counts (entry_of core c.args.task) receipt known core acts (c.as_slice.ensures.value ∙ c.in-Ok-ended.ensures.acts) lawful
+    (listings_there s.cluster s.history s.tables.items _ s.bans.items s.cores.items s.listings c.requires.tied.cancels c.requires.tied.ties.lawful c.args.task live core c.index_mut-core.ensures.value) in
     all_ok c.perform.result _ _ _ _ (returns-clause-happened c) c.perform.ensures.sent c.perform.ensures.counted (λ happened queued counted. record {
       ties =
           same_ties s.cluster s.corpus.now s.script.now _ _ _ _ _ _ _ happened (ap (slice_set s.tables.items (c.args.task.node - 1)) row)
@@ -232,9 +234,9 @@ returns-clause-tied c =
       cancels =
           rw (happened, row, c.in-Ok-ended.ensures.ended)
           (answers_noted s.cluster c.args.task (e ∷ s.history) _ _ _ _ _
-          (noted_ended c.args.task s.history e leaves s.cluster c.requires.tied.ties.lawful s.tables.items _ s.bans.items s.cores.items s.listings c.index_mut.result.now core (entry_of core c.args.task) receipt its at_core known ((reach_facts s.cluster s.history c.requires.tied.ties.lawful).live_in c.args.task live) c.requires.tied.cancels));
+          (noted_ended c.args.task s.history e leaves s.cluster lawful s.tables.items _ s.bans.items s.cores.items s.listings c.index_mut.result.now core (entry_of core c.args.task) receipt its at_core known ((reach_facts s.cluster s.history c.requires.tied.ties.lawful).live_in c.args.task live) c.requires.tied.cancels));
       counts =
-          rw happened (counted_then s.cluster c.args.task e s.history leaves c.requires.tied.ties.lawful _ c.requires.tied.counts (entry_of core c.args.task) receipt known acts (c.as_slice.ensures.value ∙ c.in-Ok-ended.ensures.acts) _ counted);
+          rw happened (counted_then s.cluster c.args.task e s.history leaves c.requires.tied.ties.lawful _ c.requires.tied.counts (entry_of core c.args.task) receipt known core acts (c.as_slice.ensures.value ∙ c.in-Ok-ended.ensures.acts) _ counted);
       tells =
           rw (happened, row, queued ∙ ap (λ queue. queue ++ messages_in c.args.task.node acts) (c.in-Ok.ensures.ok ∙ ap (λ at. s.flight ++ told_parent receipt at) c.len-at.ensures))
           (answers_described s.cluster c.args.task (e ∷ s.history) s.script.now _ _ _
@@ -282,7 +284,7 @@ returns-clause-full c = λ failed.
     let known = known_there s.cluster s.history s.tables.items _ s.bans.items s.cores.items s.listings c.requires.tied.cancels c.requires.tied.ties.lawful c.args.task live core c.index_mut-core.ensures.value
     (sym c.has.ensures ∙ c.if-not-has.false) in
     cut_as (λ past. IsPartOf c.append.new.history past (answers_in c.as_slice.result.now (left_in s.left) ++ c.append.new.history)) (λ past. IsPartOf s.history past (with_answers c.args.task (c.args.event ∷ s.history))) c.perform.new.history
-    (λ past performed. later_part c.args.event s.history past _ (part_then s.cluster c.args.task c.args.event s.history (leaves_so _ c.args.task s.history c.args.event c.requires.leaves) c.requires.tied.ties.lawful _ c.requires.tied.counts (entry_of core c.args.task) c.end_in-receipt.result known c.as_slice.result.now
+    (λ past performed. later_part c.args.event s.history past _ (part_then s.cluster c.args.task c.args.event s.history (leaves_so _ c.args.task s.history c.args.event c.requires.leaves) c.requires.tied.ties.lawful _ c.requires.tied.counts (entry_of core c.args.task) c.end_in-receipt.result known core c.as_slice.result.now
     (c.as_slice.ensures.value ∙ c.in-Ok-ended.ensures.acts) c.append.new.history past c.in_ok-append.ensures.ok performed)) (c.perform.ensures.full failed)
 
 pub returns-in_err-append-clause-full : goal.returns-in_err-append-clause-full

@@ -1,18 +1,22 @@
-use Rattle.std.proofs.Common.{rules, ◌≡◌, ◌∙◌, ◌∷◌, Some, ap, sym, subst}
+use Rattle.std.proofs.Common.{rules, ◌≡◌, ◌∙◌, ◌∷◌, length, Some, refl, ap, sym, subst}
 use Rattle.std.specs.Prelude.{OnSome, OnOk, OnErr}
+use Rattle.task_ids.specs.declared.task_id.TaskId.{TaskId}
 use Rattle.task_work.specs.Works.{place_of}
 use Rattle.task_events.specs.declared.event.Event.TheVariants.{Work}
+use Rattle.task_events.specs.declared.history.TheConstants.{MAX_EVENTS}
 use Rattle.task_events.specs.Written.{with_notes}
 use Rattle.shard_docs.specs.ShardView.{ShardView, has_dead}
 use Rattle.corpus_shards.specs.Stored.{AllNoted, Replaces, is_noted}
 use Rattle.corpus_shards.proofs.Cases.{some_of, then_ok, then_err}
 use Rattle.corpus_shards.proofs.Notes.{made_noted, noted_after}
+use Rattle.world_moves.specs.declared.state.State.{State}
 use Rattle.world_moves.specs.Good.{so_far}
 use Rattle.world_moves.specs.Moves.{IsPartOf, IsCutShort}
 use Rattle.world_moves.specs.Ties.{IsTied, task_at, turned_in}
 use Rattle.world_moves.proofs.KeptTasks.{at_changed, off_changed}
+use Rattle.world_moves.proofs.NoteParts.{turn_unbegun, turn_misses}
 use Rattle.world_moves.proofs.Parts.{part_lawful, part_plain, part_alone}
-use Rattle.world_moves.proofs.TurnTies.{placed, nothing_yet, shard_there, works_on, turns_over, noted_is, turn_tied}
+use Rattle.world_moves.proofs.TurnTies.{placed, shard_there, works_on, turns_over, noted_is, turn_tied}
 use Rattle.world_moves.proofs.turns.turn.Goals as goal
 use Rattle.command_roots.specs.Roots.{scripted}
 
@@ -21,14 +25,28 @@ unreachable-requires-in_default-place c =
     placed c.args.state.now c.requires.tied c.args.task c.get_mut-running.result.now c.requires.live c.requires.passed c.requires.unmarked (sym c.in-Some.ensures.value ∙ ap Some (sym c.get_mut-running.ensures.value)) c.requires.next (sym c.in_default-place.ensures)
 
 -- nothing has come yet
+unbegun : (s : State) (t : TaskId) → IsPartOf s.history s.history (turned_in s t)
+unbegun s t = turn_unbegun s.cluster s.corpus.now (scripted s.script.now) t s.history
+
+-- the history was full from the start
+pub returns-then-len-eq-MAX_EVENTS-clause-part : goal.returns-then-len-eq-MAX_EVENTS-clause-part
+returns-then-len-eq-MAX_EVENTS-clause-part c = unbegun c.args.state.now c.args.task
+
+pub returns-then-len-eq-MAX_EVENTS-clause-full : goal.returns-then-len-eq-MAX_EVENTS-clause-full
+returns-then-len-eq-MAX_EVENTS-clause-full c = λ failed.
+    let s = c.args.state.now in
+    let full : length s.history ≡ MAX_EVENTS = search rules in
+    turn_misses s.cluster s.corpus.now (scripted s.script.now) c.args.task s.history full
+
+-- memory ran out before
 pub returns-in_default-copy-clause-part : goal.returns-in_default-copy-clause-part
-returns-in_default-copy-clause-part c = nothing_yet c.args.state.now c.requires.tied c.args.task c.get_mut-running.result.now c.requires.live c.requires.passed c.requires.unmarked (sym c.in-Some.ensures.value ∙ ap Some (sym c.get_mut-running.ensures.value)) c.requires.next
+returns-in_default-copy-clause-part c = unbegun c.args.state.now c.args.task
 
 pub returns-in_default-make-clause-part : goal.returns-in_default-make-clause-part
-returns-in_default-make-clause-part c = nothing_yet c.args.state.now c.requires.tied c.args.task c.get_mut-running.result.now c.requires.live c.requires.passed c.requires.unmarked (sym c.in-Some.ensures.value ∙ ap Some (sym c.get_mut-running.ensures.value)) c.requires.next
+returns-in_default-make-clause-part c = unbegun c.args.state.now c.args.task
 
 pub returns-in_default-turn-clause-part : goal.returns-in_default-turn-clause-part
-returns-in_default-turn-clause-part c = nothing_yet c.args.state.now c.requires.tied c.args.task c.get_mut-running.result.now c.requires.live c.requires.passed c.requires.unmarked (sym c.in-Some.ensures.value ∙ ap Some (sym c.get_mut-running.ensures.value)) c.requires.next
+returns-in_default-turn-clause-part c = unbegun c.args.state.now c.args.task
 
 pub get_mut-requires-2 : goal.get_mut-requires-2
 get_mut-requires-2 c =
@@ -39,7 +57,7 @@ get_mut-requires-2 c =
     shard_there c.args.state.now c.requires.tied c.args.task c.get_mut-running.result.now c.requires.live c.requires.passed c.requires.unmarked (sym c.in-Some.ensures.value ∙ ap Some (sym c.get_mut-running.ensures.value)) c.requires.next c.as_str-2.result.now c.in-Some-place.number place c.make.new.self c.make.new.self has
 
 pub returns-in_default-note_dead-clause-part : goal.returns-in_default-note_dead-clause-part
-returns-in_default-note_dead-clause-part c = nothing_yet c.args.state.now c.requires.tied c.args.task c.get_mut-running.result.now c.requires.live c.requires.passed c.requires.unmarked (sym c.in-Some.ensures.value ∙ ap Some (sym c.get_mut-running.ensures.value)) c.requires.next
+returns-in_default-note_dead-clause-part c = unbegun c.args.state.now c.args.task
 
 pub turn-requires : goal.turn-requires
 turn-requires c =

@@ -1,0 +1,9 @@
+pub mod Making
+pub mod Parents
+pub mod Waiting
+pub mod Belonging
+pub mod Cancelling
+pub mod Banning
+pub mod Listed
+pub mod Matching
+pub mod Acting

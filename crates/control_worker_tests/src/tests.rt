@@ -1,0 +1,73 @@
+//! The plays on both kinds of boards, of node 1 with one slot and one place.
+ghost use Rattle.std.specs.Prelude.{◌≡◌, IfOk, length, All};
+
+use crate::bans::{cancels_a_child, keeps_a_ban_back};
+use crate::cancels::cancels_a_root;
+use crate::turns::new_core;
+use node_boards::{PlainBoard, PlainControl, PlainData, PlainParts, RaceControl, RaceData};
+use race_board::{BoardParts, RaceBoard};
+use std::alloc::AllocError;
+use std::test::Fail;
+use task_ids::AnyCancel;
+
+#[test]
+fn a_plain_board_keeps_a_ban_back(rt: HostRuntime) -> Result<(), Fail> {
+    let alloc = rt.alloc();
+    let PlainParts {
+        board,
+        control,
+        mut seats,
+    } = PlainBoard::<AnyCancel>::new(alloc, 1, 1, 1, 1)?;
+    let mut data = PlainData::new(&rt, &board, seats.pop().ok_or(AllocError)?);
+    let mut control = PlainControl::new(&rt, &board, control);
+    let mut core = new_core(alloc, &control)?;
+    assert!(rt; keeps_a_ban_back(&mut core, &mut control)?);
+    assert!(rt; cancels_a_child(alloc, &mut data, &mut core, &mut control)?);
+    Ok(())
+}
+
+#[test]
+fn a_race_board_keeps_a_ban_back(rt: HostRuntime) -> Result<(), Fail> {
+    let alloc = rt.alloc();
+    let BoardParts {
+        board,
+        control,
+        mut seats,
+    } = RaceBoard::<AnyCancel>::new(alloc, 1, 1, 1, 1)?;
+    let mut data = RaceData::new(&board, seats.pop().ok_or(AllocError)?);
+    let mut control = RaceControl::new(&board, control);
+    let mut core = new_core(alloc, &control)?;
+    assert!(rt; keeps_a_ban_back(&mut core, &mut control)?);
+    assert!(rt; cancels_a_child(alloc, &mut data, &mut core, &mut control)?);
+    Ok(())
+}
+
+#[test]
+fn a_plain_board_cancels_a_root(rt: HostRuntime) -> Result<(), Fail> {
+    let alloc = rt.alloc();
+    let PlainParts {
+        board,
+        control,
+        mut seats,
+    } = PlainBoard::<AnyCancel>::new(alloc, 1, 1, 1, 1)?;
+    let mut data = PlainData::new(&rt, &board, seats.pop().ok_or(AllocError)?);
+    let mut control = PlainControl::new(&rt, &board, control);
+    let mut core = new_core(alloc, &control)?;
+    assert!(rt; cancels_a_root(alloc, &mut data, &mut core, &mut control)?);
+    Ok(())
+}
+
+#[test]
+fn a_race_board_cancels_a_root(rt: HostRuntime) -> Result<(), Fail> {
+    let alloc = rt.alloc();
+    let BoardParts {
+        board,
+        control,
+        mut seats,
+    } = RaceBoard::<AnyCancel>::new(alloc, 1, 1, 1, 1)?;
+    let mut data = RaceData::new(&board, seats.pop().ok_or(AllocError)?);
+    let mut control = RaceControl::new(&board, control);
+    let mut core = new_core(alloc, &control)?;
+    assert!(rt; cancels_a_root(alloc, &mut data, &mut core, &mut control)?);
+    Ok(())
+}

@@ -1,0 +1,15 @@
+pub mod Good
+pub mod Shards
+pub mod Sound
+pub mod News
+pub mod Fed
+pub mod Cases
+pub mod Turned
+pub mod Listed
+pub mod Kept
+pub mod Admitted
+pub mod Working
+pub mod Stepping
+pub mod Ending
+pub mod Planning
+pub mod Asking

@@ -1,0 +1,71 @@
+-- The task has one ask more, and its letter carries the token.
+use Rattle.std.proofs.Common.{◌≡◌, sym, ap, ◌∙◌, subst}
+use Rattle.std.specs.Prelude.{IfOk}
+use Rattle.run_facts.specs.Cancels.{cancels_of}
+use Rattle.live_tasks.proofs.Belonging.{together_stays}
+use Rattle.live_tasks.specs.declared.entry.Entry.{Entry}
+use Rattle.live_tasks.specs.Entries.{after_ask}
+use Rattle.live_tasks.specs.Live.{entry_at}
+use Rattle.data_parts.specs.Places.{child_place}
+use Rattle.data_core.specs.Steps.{Noted}
+use Rattle.data_core.proofs.Asking.{can_ask_there, asked_so}
+use Rattle.data_core.proofs.Cases.{id_there}
+use Rattle.data_core.proofs.Good.{good_at, asked_good}
+use Rattle.data_core.proofs.Kept.{change_sound}
+use Rattle.data_core.proofs.Stepping.{found_is, its_id, noted_so}
+use Rattle.data_core.proofs.step.ask_child.Goals as goal
+
+pub child_place-place-requires : goal.child_place-place-requires
+child_place-place-requires g c =
+    let old = c.args.core.now in
+    (good_at (cancels_of g.W.Run.cancels) old.shards old.live c.args.task.number c.in-Some.entry.now c.requires.sound.good (sym c.in-Some.ensures)).place
+
+pub ask-requires-clause-can : goal.ask-requires-clause-can
+ask-requires-clause-can g c = can_ask_there _ c.requires.unmarked c.requires.asks
+
+pub returns-in_err-token-clause-sound : goal.returns-in_err-token-clause-sound
+returns-in_err-token-clause-sound g c =
+    let old = c.args.core.now in
+    let t = c.args.task in
+    let live = c.ask.new.self in
+    let there = id_there t (entry_at old.live t.number) c.requires.live in
+    let e = there.0 in
+    let together = together_stays _ _ _ _ old.live live c.requires.sound.together c.ask.ensures.together in
+    change_sound _ _ _ _ _ _ _ _ _ old live t.number e e c.requires.sound together c.ask.ensures.core there.1 (c.in_err-token.ensures.err e there.1) (λ good. good)
+
+pub returns-in_err-one-clause-sound : goal.returns-in_err-one-clause-sound
+returns-in_err-one-clause-sound g c =
+    let old = c.args.core.now in
+    let t = c.args.task in
+    let live = c.ask.new.self in
+    let there = id_there t (entry_at old.live t.number) c.requires.live in
+    let e = there.0 in
+    let together = together_stays _ _ _ _ old.live live c.requires.sound.together c.ask.ensures.together in
+    change_sound _ _ _ _ _ _ _ _ _ old live t.number e (after_ask e c.args.to c.child_place-place.result) c.requires.sound together c.ask.ensures.core there.1 (c.in_ok-token.ensures.asked e there.1) (asked_good _ old.shards e c.args.to c.child_place-place.result)
+
+pub returns-clause-sound : goal.returns-clause-sound
+returns-clause-sound g c =
+    let old = c.args.core.now in
+    let t = c.args.task in
+    let live = c.ask.new.self in
+    let there = id_there t (entry_at old.live t.number) c.requires.live in
+    let e = there.0 in
+    let together = together_stays _ _ _ _ old.live live c.requires.sound.together c.ask.ensures.together in
+    change_sound _ _ _ _ _ _ _ _ _ old live t.number e (after_ask e c.args.to c.child_place-place.result) c.requires.sound together c.ask.ensures.core there.1 (c.in_ok-token.ensures.asked e there.1) (asked_good _ old.shards e c.args.to c.child_place-place.result)
+
+pub returns-clause-asked : goal.returns-clause-asked
+returns-clause-asked g c = λ e at.
+    let old = c.args.core.now in
+    let t = c.args.task in
+    let to = c.args.to in
+    let live = c.ask.new.self in
+    let place = c.child_place-place.result in
+    let x = c.in-Some.entry.now in
+    let same = found_is _ x e c.in-Some.ensures at in
+    let change = c.in_ok-token.ensures.asked e at in
+    let noted = noted_so old live t e (after_ask e to place) (its_id t _ e c.requires.live at) change in
+    let at_place = c.child_place-place.ensures.place ∙ ap (λ (y : Entry). child_place y.place c.args.request) (sym same) in (
+      subst (λ p. Noted e (after_ask e to p) old (record old { live = live })) at_place noted,
+      asked_so e x same to c.args.request place c.new.result c.in_ok-headers.headers c.new-2.result c.in_ok-one.field-0.items c.child_place-place.ensures.place (c.new.ensures ∙ c.in_ok-token.ensures.token e at)
+          (subst (λ r. IfOk r (λ h. h ≡ x.running.headers)) c.in_ok-headers.ensures.ok c.copy.ensures) c.new-2.ensures c.in_ok-one.ensures.post,
+    )

@@ -1,0 +1,5 @@
+pub mod Replies
+pub mod Moves
+pub mod Grown
+pub mod Using
+pub mod Lost

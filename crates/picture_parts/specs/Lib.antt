@@ -1,0 +1,2 @@
+-- What is said of the characters that a page shows.
+pub mod Markup
