@@ -186,8 +186,8 @@ fn it_acknowledges_a_ban_and_leaves_once_that_is_lifted(rt: HostRuntime) -> Resu
 #[test]
 fn it_stops_where_a_letter_says_so(rt: HostRuntime) -> Result<(), AllocError> {
     let mut letters = Vec::new(rt.alloc());
-    letters.push(Letter::new(Body::DataLeft { worker: 0 }))?;
     letters.push(Letter::new(Body::Stop(Stop::NumbersSpent)))?;
+    letters.push(Letter::new(Body::DataLeft { worker: 0 }))?;
     let mut heard = run_control(&rt, rt.alloc(), letters)?;
     assert!(rt; heard.stop == Some(Stop::NumbersSpent));
     assert!(rt; heard.other.try_take(&rt).is_none() && heard.driver.try_take(&rt).is_none());
