@@ -35,6 +35,14 @@ impl<'g, W: Run, B: DataBoard<Of<W>>, G: Gate> DataKind<'g, W, B, G> {
             gate,
         }
     }
+
+    /// Its seat of the node's board.
+    pub fn into_board(self) -> B
+        ensures { result ≡ self.entry.state.board }
+    {
+        let DataKind { state, gate: _ } = self;
+        state.into_board()
+    }
 }
 
 impl<'g, W: Run, B: DataBoard<Of<W>>, G: Gate> Turns<Of<W>> for DataKind<'g, W, B, G> {

@@ -47,6 +47,21 @@ impl<W: Run, B: DataBoard<Of<W>>> DataState<W, B> {
         }
     }
 
+    // Its seat of the node's board.
+    pub(crate) fn into_board(self) -> B
+        ensures { result ≡ self.board }
+    {
+        let DataState {
+            alloc: _,
+            core: _,
+            board,
+            last: _,
+            has_said: _,
+            of: _,
+        } = self;
+        board
+    }
+
     // Takes a letter in.
     #[tactic(auto, using(crate::proofs::Doing::took_letter))]
     pub(crate) fn take_in(&mut self, body: Body) -> Result<Vec<Post<Letter<Of<W>>>>, Stop>

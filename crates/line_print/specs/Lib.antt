@@ -3,3 +3,4 @@ pub mod Errors
 pub mod Lines
 pub mod Looked
 pub mod Replies
+pub mod RunLines

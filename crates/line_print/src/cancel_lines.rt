@@ -51,31 +51,42 @@ fn push_id(alloc: Global, values: &mut Vec<Value>, task: TaskId) -> Result<(), A
     Ok(values.push(id)?)
 }
 
-/// The ids of the tasks that a cancel named, by the events of its turn.
-fn named(alloc: Global, turn: &Events<'_>) -> Result<Value, AllocError>
-    ensures { IfOk result (λ value. view value
-        ≡ array (items_of (map (λ t. string (task_id_text t)) (filter_map named_in turn.now)))) }
+/// The ids of tasks, in order.
+fn ids_value(alloc: Global, tasks: &[TaskId]) -> Result<Value, AllocError>
+    ensures { IfOk result (λ value. view value ≡ array (items_of (map (λ t. string (task_id_text t)) tasks.now))) }
 {
     let mut values = Vec::new(alloc);
-    for event in turn.iter() {
-        if let Some(task) = named_in(event) {
-            push_id(alloc, &mut values, task)?;
-        }
+    for task in tasks {
+        push_id(alloc, &mut values, *task)?;
     }
     Ok(Value::Array(values))
 }
 
-fn cancelled(alloc: Global, turn: &Events<'_>, wait: bool) -> Result<Value, AllocError>
-    ensures { IfOk result (λ value. view value ≡ cancelled (filter_map named_in turn.now) wait) }
+/// The tasks that a cancel named, by the events of its turn.
+fn named(alloc: Global, turn: &Events<'_>) -> Result<Vec<TaskId>, AllocError>
+    ensures { IfOk result (λ tasks. tasks.items ≡ filter_map named_in turn.now) }
 {
-    let tasks = named(alloc, turn)?;
-    let told = with_member(alloc, Map::new(alloc), "cancelled", tasks)?;
+    let mut tasks = Vec::new(alloc);
+    for event in turn.iter() {
+        if let Some(task) = named_in(event) {
+            tasks.push(task)?;
+        }
+    }
+    Ok(tasks)
+}
+
+/// The tasks that a cancel named, and whether it waited.
+fn cancelled(alloc: Global, tasks: &[TaskId], wait: bool) -> Result<Value, AllocError>
+    ensures { IfOk result (λ value. view value ≡ cancelled tasks.now wait) }
+{
+    let ids = ids_value(alloc, tasks)?;
+    let told = with_member(alloc, Map::new(alloc), "cancelled", ids)?;
     let members = with_member(alloc, told, "waited", Value::Bool(wait))?;
     Ok(Value::Object(members))
 }
 
 /// Appends the line of a cancel that found no task.
-fn none_line(
+pub(crate) fn none_line(
     alloc: Global,
     out: &mut Vec<u8>,
     command: u32,
@@ -85,6 +96,20 @@ fn none_line(
 {
     let error = not_found(alloc, target)?;
     error_line(alloc, out, command, error)
+}
+
+/// Appends the line of a cancel that named these tasks.
+pub(crate) fn cancelled_line(
+    alloc: Global,
+    out: &mut Vec<u8>,
+    command: u32,
+    tasks: &[TaskId],
+    wait: bool,
+) -> Result<(), AllocError>
+    ensures { OnOk result (out.new.items ≡ out.old.items ++ reply_line command (cancelled tasks.now wait)) }
+{
+    let reply = cancelled(alloc, tasks, wait)?;
+    reply_line(alloc, out, command, reply)
 }
 
 /// Appends the line of a cancel that named tasks, by the events of its turn.
@@ -97,8 +122,8 @@ fn named_line(
 ) -> Result<(), AllocError>
     ensures { OnOk result (out.new.items ≡ out.old.items ++ reply_line command (cancelled (filter_map named_in turn.now) wait)) }
 {
-    let reply = cancelled(alloc, turn, wait)?;
-    reply_line(alloc, out, command, reply)
+    let tasks = named(alloc, turn)?;
+    cancelled_line(alloc, out, command, tasks.as_slice(), wait)
 }
 
 /// Appends the line of a cancel, by the events of its turn.

@@ -21,8 +21,8 @@ fn corpus_indices<'a>(alloc: Global, corpus: &'a Corpus) -> Result<HashSet<&'a s
     Ok(known)
 }
 
-/// The indices of the input's documents, and those that its reindexes write to.
-pub(crate) fn indices_of<'a>(
+/// The indices of the input's documents, and those that its reindexes write to, which are `dests`. It fails only for want of memory.
+pub fn indices_of<'a>(
     alloc: Global,
     corpus: &'a Corpus,
     dests: &'a [Text],

@@ -13,6 +13,8 @@ mod moves;
 mod note;
 mod print;
 mod reindex_lines;
+mod replied;
+mod reply;
 mod run;
 mod scroll_lines;
 mod searches;
@@ -21,6 +23,9 @@ mod told;
 mod turns;
 mod write;
 
+pub use known::indices_of;
 pub use laws::list_is_a_reply;
 pub use lines::print_lines;
 pub use note::Note;
+pub use replied::print_reply;
+pub use reply::LineReply;

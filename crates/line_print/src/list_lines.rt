@@ -9,7 +9,12 @@ use crate::write::push_start;
 use std::alloc::{AllocError, Global};
 
 /// Appends the line of a command whose reply is a text.
-fn text_line(alloc: Global, out: &mut Vec<u8>, command: u32, text: &[u8]) -> Result<(), AllocError>
+pub(crate) fn text_line(
+    alloc: Global,
+    out: &mut Vec<u8>,
+    command: u32,
+    text: &[u8],
+) -> Result<(), AllocError>
     ensures { OnOk result (out.new.items ≡ out.old.items ++ text_line command text.now) }
 {
     push_start(alloc, out, command, ",\"reply\":")?;

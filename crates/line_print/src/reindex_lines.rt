@@ -75,7 +75,7 @@ fn cancelled_json(alloc: Global, reason: &str, counts: Counts) -> Result<Value, 
 }
 
 /// Appends the line of a reindex whose task ended with a reply.
-fn replied_line(
+pub(crate) fn replied_line(
     alloc: Global,
     out: &mut Vec<u8>,
     script: &[Command],

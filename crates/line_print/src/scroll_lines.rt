@@ -57,7 +57,7 @@ pub(crate) fn scroll_line(
 }
 
 /// Whether a clear freed a context.
-fn cleared(alloc: Global, freed: bool) -> Result<Value, AllocError>
+pub(crate) fn cleared(alloc: Global, freed: bool) -> Result<Value, AllocError>
     ensures { IfOk result (λ value. view value ≡ cleared freed) }
 {
     let told = with_number(alloc, Map::new(alloc), "num_freed", u64::from(freed))?;
@@ -83,7 +83,8 @@ pub(crate) fn clear_line(
     }
 }
 
-fn moment_json(alloc: Global, now: u64) -> Result<Value, AllocError>
+/// The moment by the clock.
+pub(crate) fn moment_json(alloc: Global, now: u64) -> Result<Value, AllocError>
     ensures { IfOk result (λ value. view value ≡ moment_json now) }
 {
     let told = with_number(alloc, Map::new(alloc), "now", now)?;

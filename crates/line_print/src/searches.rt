@@ -136,7 +136,7 @@ fn cancelled_line(
 }
 
 /// Appends the line of a search or a scroll whose task ended with a reply.
-fn replied_line(
+pub(crate) fn replied_line(
     alloc: Global,
     out: &mut Vec<u8>,
     shards: Shards,

@@ -49,6 +49,22 @@ impl<'g, W: Run, B: ControlBoard<Of<W>>, G: Gate> ControlKind<'g, W, B, G> {
             gate,
         }
     }
+
+    /// Its seat of the node's board.
+    pub fn into_board(self) -> B
+        ensures { result ≡ self.entry.state.board }
+    {
+        let ControlKind { state, gate: _ } = self;
+        let ControlState {
+            alloc: _,
+            cluster: _,
+            core: _,
+            board,
+            left: _,
+            of: _,
+        } = state;
+        board
+    }
 }
 
 impl<'g, W: Run, B: ControlBoard<Of<W>>, G: Gate> Turns<Of<W>> for ControlKind<'g, W, B, G> {

@@ -1,8 +1,0 @@
-use Rattle.std.proofs.Common.{ap, ◌∙◌, filter_map}
-use Rattle.serde_json.specs.Written.{has_float}
-use Rattle.line_print.specs.Lines.{named_in}
-use Rattle.line_print.proofs.WholeLemmas.{cancelled_whole}
-use Rattle.line_print.proofs.cancel_lines.named_line.Goals as goal
-
-pub reply_line-requires : goal.reply_line-requires
-reply_line-requires c = ap has_float c.in_ok-reply.ensures ∙ cancelled_whole (filter_map named_in c.args.turn.now) c.args.wait

@@ -1,0 +1,169 @@
+-- A command that is as far as it can be stays so by each letter, and is so as it begins.
+use Rattle.std.proofs.Common.{◌≡◌, ◌⊎◌, inl, inr, ℕ, ◌+◌, ◌-◌, Bool, true, false, not, List, [], ◌∷◌, ◌++◌, length, take, Option, None, Some, refl, sym, ap, subst, ◌∙◌, arith, length-append}
+use Rattle.std.specs.Prelude.{IsSomeAnd, IfSome, is_some, slice_get, ◌==◌, ◌&&◌, ◌||◌}
+use Rattle.std.specs.Option.{option_eq}
+use Rattle.std.proofs.lemmas.Bool.{and_parts, cases_Bool}
+use Rattle.child_track.specs.Token.{ReceiptParts}
+use Rattle.node_link.specs.Lawful.{IsLawfulReply}
+use Rattle.script_lang.specs.declared.command.Command.{Command}
+use Rattle.task_events.specs.declared.reply.Reply.{Reply}
+use Rattle.task_ids.specs.declared.task_id.TaskId.{TaskId}
+use Rattle.task_ids.specs.declared.task_info.TaskInfo.{TaskInfo}
+use Rattle.task_ids.proofs.SameId.{same_id-from_test}
+use Rattle.run_book.specs.declared.entry.Naming.{Naming}
+use Rattle.run_book.specs.declared.entry.State.{State}
+use Rattle.run_book.specs.declared.entry.State.TheVariants as states
+use Rattle.run_book.specs.declared.entry.Waits.TheVariants as waits
+use Rattle.run_book.specs.Told.{all_told, is_whole, with_part}
+use Rattle.run_book.specs.Notes.{HasCancelled, IsLast, IsReceiptOf, cancel_in, is_list, moment_after, names_one}
+use Rattle.run_book.specs.Answering as answers
+use Rattle.run_book.specs.Answering.{is_of_last, is_receipt_of, is_settled, same_bool, same_id, settled, shows_last, with_done, with_named, with_rows, without_answer}
+use Rattle.run_book.specs.Entries.{IsState}
+use Rattle.run_book.proofs.Places.{at_end}
+use Rattle.run_book.proofs.Shown.{listed_shows}
+
+pub some_and : {T : Type 0} (o : Option T) (P Q : T → Type 0) → ((x : T) → P x → Q x) → IsSomeAnd o P → IsSomeAnd o Q
+some_and None P Q f p = p
+some_and (Some x) P Q f p = f x p
+
+same_bool_is : (a b : Bool) → same_bool a b ≡ true → a ≡ b
+same_bool_is true b e = sym e
+same_bool_is false true e = absurd (cc)
+same_bool_is false false e = refl
+
+-- ---- receipts
+
+own_task : (task : Option TaskId) (last : TaskId) → option_eq same_id task (Some last) ≡ true → task ≡ Some last
+own_task None last e = absurd (cc)
+own_task (Some task) last e = ap Some (same_id-from_test task last e)
+
+receipt_is : (receipt : Option ReceiptParts) (last : TaskId) → is_receipt_of last receipt ≡ true → IsReceiptOf last receipt
+receipt_is None last e = absurd (cc)
+receipt_is (Some receipt) last e = own_task receipt.task last e
+
+-- the last of some tasks stands at their end
+last_at : (tasks before : List TaskId) (task : TaskId) → tasks ≡ before ++ task ∷ [] → slice_get tasks (length tasks - 1) ≡ Some task
+last_at tasks before task e =
+    let many : length tasks ≡ length before + 1 = ap length e ∙ length-append before (task ∷ []) in
+    let place : length tasks - 1 ≡ length before = omega (arith, many) in
+    ap (slice_get tasks) place ∙ ap (λ (l : List TaskId). slice_get l (length before)) e ∙ at_end before task
+
+-- a receipt that shows the last of them is that one's
+last_shown : (tasks : List TaskId) (receipt : Option ReceiptParts) → shows_last tasks receipt ≡ true → (task : TaskId) → IsLast task tasks → IsReceiptOf task receipt
+last_shown tasks receipt shows = λ task is.
+    let at = last_at tasks is.0 task is.1 in
+    let of : is_receipt_of task receipt ≡ true = rw at at shows in
+    receipt_is receipt task of
+
+waits_shown : (wait : Bool) (shown : Bool) → (not wait || shown) ≡ true → wait ≡ true → shown ≡ true
+waits_shown true shown e w = e
+waits_shown false shown e w = absurd (cc)
+
+shown : (naming : Naming) → is_settled naming ≡ true → naming.wait ≡ true → shows_last (all_told naming.named) naming.receipt ≡ true
+shown naming holds waits =
+    let last = not naming.wait || shows_last (all_told naming.named) naming.receipt in
+    let done = and_parts (is_whole naming.named) ((naming.done == naming.tasks) && last) holds in
+    let both = and_parts (naming.done == naming.tasks) last done.1 in
+    waits_shown naming.wait (shows_last (all_told naming.named) naming.receipt) both.1 waits
+
+-- one task alone is the last
+alone : (task other : TaskId) (before : List TaskId) → task ∷ [] ≡ before ++ other ∷ [] → task ≡ other
+alone task other [] e = cc
+alone task other (t ∷ []) e = absurd (cc)
+alone task other (t ∷ u ∷ ts) e = absurd (cc)
+
+own_receipt : (receipt : Option ReceiptParts) (task : TaskId) → is_some receipt ≡ true → IfSome receipt (λ r. r.task ≡ Some task) → IsReceiptOf task receipt
+own_receipt None task is own = absurd (cc)
+own_receipt (Some receipt) task is own = own
+
+module _ (allowed : ℕ → Type 0) (known : List ℕ → Bool) (script : List Command) (k : ℕ) (c : Command) where
+  abbrev Fit : State → Type 0
+  Fit s = IsState allowed known script k c s
+
+  settled_fits : (naming : Naming) → IsSomeAnd (cancel_in c) (λ t. (names_one t.0 ≡ false) × (t.1 ≡ naming.wait)) → Fit (settled naming)
+  settled_fits naming asked = by_test (cases_Bool (is_settled naming))
+    where
+      by_test : (is_settled naming ≡ true) ⊎ (is_settled naming ≡ false) → Fit (settled naming)
+      by_test (inl holds) = rw holds (some_and (cancel_in c) (λ t. (names_one t.0 ≡ false) × (t.1 ≡ naming.wait)) (λ t. HasCancelled t.0 t.1 (all_told naming.named) naming.wait naming.receipt) (λ t is. record {
+        waited = sym is.1;
+        one = λ one. absurd (cc);
+        ended = λ waits. last_shown (all_told naming.named) naming.receipt (shown naming holds (sym is.1 ∙ waits));
+      }) asked)
+      by_test (inr fails) = rw fails asked
+
+  one_fits : (named : TaskId) (wait : Bool) (task : TaskId) (receipt : Option ReceiptParts) → IfSome receipt (λ r. r.task ≡ Some task) → IsSomeAnd (cancel_in c) (λ t. (names_one t.0 ≡ true) × (t.1 ≡ wait)) → Fit (answers.after_cancelled (states.Waits (waits.Cancel named wait)) task receipt)
+  one_fits named wait task receipt own asked = by_test (cases_Bool (same_id named task && same_bool wait (is_some receipt)))
+    where
+      ends : same_bool wait (is_some receipt) ≡ true → wait ≡ true → (other : TaskId) → IsLast other (task ∷ []) → IsReceiptOf other receipt
+      ends same waits = λ other last.
+          let is : is_some receipt ≡ true = sym (same_bool_is wait (is_some receipt) same) ∙ waits in
+          subst (λ (t : TaskId). IsReceiptOf t receipt) (alone task other last.0 last.1) (own_receipt receipt task is own)
+
+      by_test : ((same_id named task && same_bool wait (is_some receipt)) ≡ true) ⊎ ((same_id named task && same_bool wait (is_some receipt)) ≡ false) → Fit (answers.after_cancelled (states.Waits (waits.Cancel named wait)) task receipt)
+      by_test (inl holds) =
+          let parts = and_parts _ _ holds in
+          rw holds (some_and (cancel_in c) (λ t. (names_one t.0 ≡ true) × (t.1 ≡ wait)) (λ t. HasCancelled t.0 t.1 (task ∷ []) wait receipt) (λ t is. record {
+            waited = sym is.1;
+            one = λ one. refl;
+            ended = λ waits. ends parts.1 (sym is.1 ∙ waits);
+          }) asked)
+      by_test (inr fails) = rw fails asked
+
+  one_of_fits : (naming : Naming) (task : TaskId) (receipt : Option ReceiptParts) → IsSomeAnd (cancel_in c) (λ t. (names_one t.0 ≡ false) × (t.1 ≡ naming.wait)) → Fit (answers.after_cancelled (states.Waits (waits.Naming naming)) task receipt)
+  one_of_fits naming task receipt asked = by_test (cases_Bool (same_bool naming.wait (is_some receipt)))
+    where
+      by_test : (same_bool naming.wait (is_some receipt) ≡ true) ⊎ (same_bool naming.wait (is_some receipt) ≡ false) → Fit (answers.after_cancelled (states.Waits (waits.Naming naming)) task receipt)
+      by_test (inl holds) = rw holds (settled_fits (with_done naming receipt) asked)
+      by_test (inr fails) = rw fails asked
+
+  pub cancelled_fits : (task : TaskId) (receipt : Option ReceiptParts) → IfSome receipt (λ r. r.task ≡ Some task) → (s : State) → Fit s → Fit (answers.after_cancelled s task receipt)
+  cancelled_fits task receipt own (states.Waits (waits.Root page)) fits = fits
+  cancelled_fits task receipt own (states.Waits (waits.Cancel named wait)) fits = one_fits named wait task receipt own fits
+  cancelled_fits task receipt own (states.Waits (waits.Naming naming)) fits = one_of_fits naming task receipt fits
+  cancelled_fits task receipt own (states.Waits (waits.Rows rows now)) fits = fits
+  cancelled_fits task receipt own (states.Answered answer) fits = fits
+  cancelled_fits task receipt own states.Told fits = fits
+
+  pub not_found_fits : (s : State) → Fit s → Fit (answers.after_not_found s)
+  not_found_fits (states.Waits (waits.Root page)) fits = fits
+  not_found_fits (states.Waits (waits.Cancel task wait)) fits = some_and (cancel_in c) (λ t. (names_one t.0 ≡ true) × (t.1 ≡ wait)) (λ t. names_one t.0 ≡ true) (λ t is. is.0) fits
+  not_found_fits (states.Waits (waits.Naming naming)) fits = fits
+  not_found_fits (states.Waits (waits.Rows rows now)) fits = fits
+  not_found_fits (states.Answered answer) fits = fits
+  not_found_fits states.Told fits = fits
+
+  pub named_fits : (node : ℕ) (tasks : List TaskId) (s : State) → Fit s → Fit (answers.after_named node tasks s)
+  named_fits node tasks (states.Waits (waits.Root page)) fits = fits
+  named_fits node tasks (states.Waits (waits.Cancel task wait)) fits = fits
+  named_fits node tasks (states.Waits (waits.Naming naming)) fits = settled_fits (with_named naming node tasks) fits
+  named_fits node tasks (states.Waits (waits.Rows rows now)) fits = fits
+  named_fits node tasks (states.Answered answer) fits = fits
+  named_fits node tasks states.Told fits = fits
+
+  list_fits : (rows : List (Option (List TaskInfo))) (now : ℕ) → (is_list c ≡ true) × (now ≡ moment_after (take k script)) → Fit (with_rows rows now)
+  list_fits rows now fits = by_test (cases_Bool (is_whole rows))
+    where
+      by_test : (is_whole rows ≡ true) ⊎ (is_whole rows ≡ false) → Fit (with_rows rows now)
+      by_test (inl holds) = rw holds (fits.0, listed_shows now rows, fits.1)
+      by_test (inr fails) = rw fails fits
+
+  pub rows_fit : (node : ℕ) (part : List TaskInfo) (s : State) → Fit s → Fit (answers.after_rows node part s)
+  rows_fit node part (states.Waits (waits.Root page)) fits = fits
+  rows_fit node part (states.Waits (waits.Cancel task wait)) fits = fits
+  rows_fit node part (states.Waits (waits.Naming naming)) fits = fits
+  rows_fit node part (states.Waits (waits.Rows rows now)) fits = list_fits (with_part rows node part) now fits
+  rows_fit node part (states.Answered answer) fits = fits
+  rows_fit node part states.Told fits = fits
+
+  pub root_fits : (reply : Reply) → IsLawfulReply allowed reply → (s : State) → Fit s → Fit (answers.after_root reply s)
+  root_fits reply lawful (states.Waits (waits.Root page)) fits = (fits, lawful)
+  root_fits reply lawful (states.Waits (waits.Cancel task wait)) fits = fits
+  root_fits reply lawful (states.Waits (waits.Naming naming)) fits = fits
+  root_fits reply lawful (states.Waits (waits.Rows rows now)) fits = fits
+  root_fits reply lawful (states.Answered answer) fits = fits
+  root_fits reply lawful states.Told fits = fits
+
+  pub taken_fits : (s : State) → Fit s → Fit (without_answer s)
+  taken_fits (states.Waits awaited) fits = fits
+  taken_fits (states.Answered answer) fits = tt
+  taken_fits states.Told fits = tt

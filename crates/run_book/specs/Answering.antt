@@ -1,0 +1,162 @@
+-- What the letters of workers make of a command that has begun.
+use Rattle.std.specs.Prelude.{ℕ, ◌+◌, ◌-◌, ◌^◌, ◌==◌, min, not, ◌&&◌, ◌||◌, Bool, true, false, List, [], ◌∷◌, length, Option, None, Some, is_some, slice_get, if◌then◌else◌}
+use Rattle.std.specs.Option.{option_eq}
+use Rattle.std.specs.Ordering.{is_lt}
+use Rattle.child_track.specs.Token.{ReceiptParts}
+use Rattle.line_print.specs.declared.reply.LineReply.TheVariants as replies
+use Rattle.task_events.specs.declared.reply.Reply.{Reply}
+use Rattle.task_events.specs.declared.request.ScrollAsk.{ScrollAsk}
+use Rattle.task_ids.specs.TaskIdOrder.{task_id_cmp}
+use Rattle.task_ids.specs.declared.task_id.TaskId.{TaskId}
+use Rattle.task_ids.specs.declared.task_info.TaskInfo.{TaskInfo}
+use Rattle.run_book.specs.Told.{all_told, is_whole, with_part}
+use Rattle.run_book.specs.Listing.{listed}
+use Rattle.run_book.specs.declared.entry.Answer.{Answer}
+use Rattle.run_book.specs.declared.entry.Naming.{Naming}
+use Rattle.run_book.specs.declared.entry.State.{State}
+use Rattle.run_book.specs.declared.entry.State.TheVariants as states
+use Rattle.run_book.specs.declared.entry.Waits.TheVariants as waits
+
+abbrev pub same_bool : Bool → Bool → Bool
+same_bool true b = b
+same_bool false b = not b
+
+abbrev pub same_id : TaskId → TaskId → Bool
+same_id a b = (a.node == b.node) && (a.number == b.number)
+
+-- ---- receipts
+
+-- a task comes after another, and any after none
+abbrev pub is_later_task : Option TaskId → Option TaskId → Bool
+is_later_task (Some task) (Some other) = is_lt (task_id_cmp other task)
+is_later_task (Some task) None = true
+is_later_task None other = false
+
+-- the later of two receipts, by the ids of their tasks
+abbrev pub later_of : Option ReceiptParts → Option ReceiptParts → Option ReceiptParts
+later_of (Some first) (Some second) = if is_later_task second.task first.task then Some second else Some first
+later_of (Some first) None = Some first
+later_of None other = other
+
+-- the receipt, if there is one, is that of this task
+abbrev pub is_receipt_of : TaskId → Option ReceiptParts → Bool
+is_receipt_of task None = false
+is_receipt_of task (Some receipt) = option_eq same_id receipt.task (Some task)
+
+-- it is that of this task, if there is one
+abbrev pub is_of_last : Option TaskId → Option ReceiptParts → Bool
+is_of_last None receipt = true
+is_of_last (Some last) receipt = is_receipt_of last receipt
+
+-- it is that of the last of these tasks, or there is none
+abbrev pub shows_last : List TaskId → Option ReceiptParts → Bool
+shows_last tasks receipt = is_of_last (slice_get tasks (length tasks - 1)) receipt
+
+-- ---- cancels by a filter
+
+-- each node has named its tasks, and each of these is cancelled; a cancel that waits has the receipt of the last
+abbrev pub is_settled : Naming → Bool
+is_settled naming = is_whole naming.named && ((naming.done == naming.tasks) && (not naming.wait || shows_last (all_told naming.named) naming.receipt))
+
+-- its answer, once it has one
+abbrev pub settled : Naming → State
+settled naming =
+    if is_settled naming
+    then states.Answered (record { reply = replies.Cancelled (all_told naming.named) naming.wait; receipt = naming.receipt })
+    else states.Waits (waits.Naming naming)
+
+-- a count that goes no higher than the machine's numbers
+abbrev pub counted : ℕ → ℕ → ℕ
+counted count more = min (count + more) (2 ^ 64 - 1)
+
+-- a node names its tasks
+abbrev pub with_named : Naming → ℕ → List TaskId → Naming
+with_named naming node tasks = record naming { named = with_part naming.named node tasks; tasks = counted naming.tasks (length tasks) }
+
+-- one of the tasks is cancelled
+abbrev pub with_done : Naming → Option ReceiptParts → Naming
+with_done naming receipt = record naming { done = counted naming.done 1; receipt = later_of naming.receipt receipt }
+
+-- ---- lists
+
+abbrev pub with_rows : List (Option (List TaskInfo)) → ℕ → State
+with_rows rows now =
+    if is_whole rows
+    then states.Answered (record { reply = replies.Listed (listed now rows) now; receipt = None })
+    else states.Waits (waits.Rows rows now)
+
+-- ---- each letter
+
+-- one of the tasks that were named is cancelled
+abbrev pub after_one_of : Naming → Option ReceiptParts → State
+after_one_of naming receipt = if same_bool naming.wait (is_some receipt) then settled (with_done naming receipt) else states.Waits (waits.Naming naming)
+
+-- a task is cancelled as a cancel wants it: where that waits, there is a receipt
+abbrev pub after_cancelled : State → TaskId → Option ReceiptParts → State
+after_cancelled (states.Waits (waits.Cancel named wait)) task receipt =
+    if same_id named task && same_bool wait (is_some receipt)
+    then states.Answered (record { reply = replies.Cancelled (task ∷ []) wait; receipt = receipt })
+    else states.Waits (waits.Cancel named wait)
+after_cancelled (states.Waits (waits.Naming naming)) task receipt = after_one_of naming receipt
+after_cancelled (states.Waits (waits.Root page)) task receipt = states.Waits (waits.Root page)
+after_cancelled (states.Waits (waits.Rows rows now)) task receipt = states.Waits (waits.Rows rows now)
+after_cancelled (states.Answered answer) task receipt = states.Answered answer
+after_cancelled states.Told task receipt = states.Told
+
+-- its node has no such task
+abbrev pub after_not_found : State → State
+after_not_found (states.Waits (waits.Cancel task wait)) = states.Answered (record { reply = replies.NotFound (Some task); receipt = None })
+after_not_found (states.Waits (waits.Naming naming)) = states.Waits (waits.Naming naming)
+after_not_found (states.Waits (waits.Root page)) = states.Waits (waits.Root page)
+after_not_found (states.Waits (waits.Rows rows now)) = states.Waits (waits.Rows rows now)
+after_not_found (states.Answered answer) = states.Answered answer
+after_not_found states.Told = states.Told
+
+-- a node names its tasks
+abbrev pub after_named : ℕ → List TaskId → State → State
+after_named node tasks (states.Waits (waits.Naming naming)) = settled (with_named naming node tasks)
+after_named node tasks (states.Waits (waits.Cancel task wait)) = states.Waits (waits.Cancel task wait)
+after_named node tasks (states.Waits (waits.Root page)) = states.Waits (waits.Root page)
+after_named node tasks (states.Waits (waits.Rows rows now)) = states.Waits (waits.Rows rows now)
+after_named node tasks (states.Answered answer) = states.Answered answer
+after_named node tasks states.Told = states.Told
+
+-- a node tells its live tasks
+abbrev pub after_rows : ℕ → List TaskInfo → State → State
+after_rows node part (states.Waits (waits.Rows rows now)) = with_rows (with_part rows node part) now
+after_rows node part (states.Waits (waits.Naming naming)) = states.Waits (waits.Naming naming)
+after_rows node part (states.Waits (waits.Cancel task wait)) = states.Waits (waits.Cancel task wait)
+after_rows node part (states.Waits (waits.Root page)) = states.Waits (waits.Root page)
+after_rows node part (states.Answered answer) = states.Answered answer
+after_rows node part states.Told = states.Told
+
+-- its root has ended, or was rejected
+abbrev pub after_root : Reply → State → State
+after_root reply (states.Waits (waits.Root page)) = states.Answered (record { reply = replies.Task reply; receipt = None })
+after_root reply (states.Waits (waits.Naming naming)) = states.Waits (waits.Naming naming)
+after_root reply (states.Waits (waits.Cancel task wait)) = states.Waits (waits.Cancel task wait)
+after_root reply (states.Waits (waits.Rows rows now)) = states.Waits (waits.Rows rows now)
+after_root reply (states.Answered answer) = states.Answered answer
+after_root reply states.Told = states.Told
+
+-- the context of which a command waits for a page
+abbrev pub page_awaited : State → Option ScrollAsk
+page_awaited (states.Waits (waits.Root page)) = page
+page_awaited (states.Waits (waits.Naming naming)) = None
+page_awaited (states.Waits (waits.Cancel task wait)) = None
+page_awaited (states.Waits (waits.Rows rows now)) = None
+page_awaited (states.Answered answer) = None
+page_awaited states.Told = None
+
+-- ---- taking the answer
+
+abbrev pub answer_in : State → Option Answer
+answer_in (states.Waits awaited) = None
+answer_in (states.Answered answer) = Some answer
+answer_in states.Told = None
+
+-- the state without its answer
+abbrev pub without_answer : State → State
+without_answer (states.Waits awaited) = states.Waits awaited
+without_answer (states.Answered answer) = states.Told
+without_answer states.Told = states.Told

@@ -1,0 +1,9 @@
+pub mod Told
+pub mod Listing
+pub mod Notes
+pub mod Answering
+pub mod Posts
+pub mod Entries
+pub mod Contexts
+pub mod Begun
+pub mod Hearing

@@ -1,0 +1,41 @@
+-- The rows that a list shows, of those that the nodes told.
+use Rattle.std.specs.Prelude.{◌≡◌, ℕ, ◌+◌, ◌-◌, ◌≤◌, nat_le, ◌&&◌, Bool, true, List, [], ◌∷◌, ◌++◌, length, All, Option, None, Some, option_map, slice_get, if◌then◌else◌}
+use Rattle.std.specs.declared.cmp.Ordering.TheVariants.{Less}
+use Rattle.std.specs.List.{fold}
+use Rattle.std.specs.Ordering.{is_lt}
+use Rattle.task_ids.specs.TaskIdOrder.{task_id_cmp}
+use Rattle.task_ids.specs.declared.task_id.TaskId.{TaskId}
+use Rattle.task_ids.specs.declared.task_info.TaskInfo.{TaskInfo}
+use Rattle.run_book.specs.Told.{all_told}
+
+-- the id of the last row
+abbrev pub last_id : List TaskInfo → Option TaskId
+last_id rows = option_map (λ row. row.id) (slice_get rows (length rows - 1))
+
+-- it comes after another, if there is one
+abbrev pub is_after : Option TaskId → TaskId → Bool
+is_after None id = true
+is_after (Some last) id = is_lt (task_id_cmp last id)
+
+-- a row stands in a list at this moment after a row of this id
+abbrev pub goes_on : Option TaskId → ℕ → TaskInfo → Bool
+goes_on last now row = nat_le row.start_ms now && is_after last row.id
+
+abbrev pub with_row : ℕ → List TaskInfo → TaskInfo → List TaskInfo
+with_row now all row = if goes_on (last_id all) now row then all ++ row ∷ [] else all
+
+abbrev pub with_rows : ℕ → List TaskInfo → List TaskInfo → List TaskInfo
+with_rows now all rows = fold (with_row now) all rows
+
+-- what a list shows at a moment, of what the nodes told
+abbrev pub listed : ℕ → List (Option (List TaskInfo)) → List TaskInfo
+listed now parts = with_rows now [] (all_told parts)
+
+-- Each row stands once, in the order of the ids.
+abbrev pub Ascend : List TaskInfo → Type 0
+Ascend rows = (i : ℕ) (a b : TaskInfo) → slice_get rows i ≡ Some a → slice_get rows (i + 1) ≡ Some b → task_id_cmp a.id b.id ≡ Less
+
+-- what a list shows at a moment
+pub record Shows (rows : List TaskInfo) (now : ℕ) : Type 0 where
+  pub ascend : Ascend rows
+  pub began : All (λ (row : TaskInfo). row.start_ms ≤ now) rows

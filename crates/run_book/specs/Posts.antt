@@ -1,0 +1,47 @@
+-- The letters that the driver sends, with their addresses.
+use Rattle.std.specs.Prelude.{ℕ, zero, suc, ◌+◌, List, [], ◌∷◌, ◌++◌, Option}
+use Rattle.command_roots.specs.Roots.{opaque_id_in}
+use Rattle.node_link.specs.declared.body.Body.{Body}
+use Rattle.node_link.specs.declared.body.Body.TheVariants as says
+use Rattle.node_link.specs.declared.body.Start.{Start}
+use Rattle.node_link.specs.declared.page.Page.{Page}
+use Rattle.run_facts.specs.declared.Post.{Post}
+use Rattle.run_facts.specs.declared.To.{To}
+use Rattle.run_facts.specs.declared.To.TheVariants.{Data}
+use Rattle.script_lang.specs.declared.command.Command.{Command}
+use Rattle.task_events.specs.declared.request.Request.{Request}
+use Rattle.task_events.specs.declared.request.Request.TheVariants as asks
+use Rattle.task_ids.specs.declared.action.Action.{Action}
+use Rattle.task_ids.specs.declared.action.Action.TheVariants as actions
+
+abbrev pub post : To → Body → Post Body
+post to body = record { to = to; letter = body }
+
+-- one letter to each of the data workers of so many nodes, from the first
+abbrev pub to_each : ℕ → Body → List (Post Body)
+to_each zero body = []
+to_each (suc n) body = to_each n body ++ post (Data (n + 1)) body ∷ []
+
+-- the action of a root with this request
+abbrev pub action_of : Request → Action
+action_of (asks.Search ask) = actions.Search
+action_of (asks.Query ask) = actions.Search
+action_of (asks.Fetch ask) = actions.Search
+action_of (asks.Scroll ask) = actions.Scroll
+action_of (asks.Reindex ask) = actions.Reindex
+action_of (asks.Slice ask) = actions.Search
+action_of (asks.Bulk ask) = actions.Search
+action_of (asks.BulkShard ask) = actions.Search
+
+-- what starts the root of the command of this number
+abbrev pub start_of : ℕ → Command → Request → Option Page → Start
+start_of k command request page = record {
+  place = record { command = k; slice = 0; action = action_of request; shard = 0 };
+  request = request;
+  headers = record { opaque_id = opaque_id_in command };
+  page = page;
+}
+
+-- and it goes to the data worker of a node
+abbrev pub start_posts : ℕ → Command → ℕ → Request → Option Page → List (Post Body)
+start_posts k command node request page = post (Data node) (says.Start (start_of k command request page)) ∷ []

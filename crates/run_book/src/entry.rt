@@ -1,0 +1,68 @@
+//! What is known of a command that has begun.
+use crate::parts::Parts;
+use child_track::Receipt;
+use line_print::LineReply;
+use task_events::ScrollAsk;
+use task_ids::{TaskId, TaskInfo};
+
+/// What a command of a run came to.
+#[derive(Drop)]
+pub struct LineNote {
+    /// The number of the command, from 1.
+    pub command: u32,
+    pub reply: LineReply,
+    /// Of a cancel that waited: the receipt of the last task that it named, which was sealed as that task had ended.
+    pub receipt: Option<Receipt>,
+}
+
+/// A command's answer.
+#[derive(Drop)]
+pub(crate) struct Answer {
+    pub(crate) reply: LineReply,
+    pub(crate) receipt: Option<Receipt>,
+}
+
+/// What has come of a cancel by a filter.
+#[derive(Drop)]
+pub(crate) struct Naming {
+    /// Whether the cancel waits until the tasks have ended.
+    pub(crate) wait: bool,
+    /// The tasks that were named, by node.
+    pub(crate) named: Parts<TaskId>,
+    /// How many these are so far.
+    pub(crate) tasks: usize,
+    /// How many of them are cancelled as the cancel wants them.
+    pub(crate) done: usize,
+    /// The receipt of the last of those, by its id.
+    pub(crate) receipt: Option<Receipt>,
+}
+
+/// What a command waits for.
+#[derive(Drop)]
+pub(crate) enum Waits {
+    /// The answer of its root, which uses a context where it shows a page.
+    Root { page: Option<ScrollAsk> },
+    /// The answer of a cancel of this task, which waits until that has ended or not.
+    Cancel { task: TaskId, wait: bool },
+    /// What the nodes name, and the answers of each task that is named.
+    Naming(Naming),
+    /// The rows of each node, at this moment.
+    Rows { rows: Parts<TaskInfo>, now: u64 },
+}
+
+/// How far a command is.
+#[derive(Drop)]
+pub(crate) enum State {
+    Waits(Waits),
+    Answered(Answer),
+    /// Its answer was taken out of the book.
+    Told,
+}
+
+/// A command that has begun.
+#[derive(Drop)]
+pub(crate) struct Entry {
+    /// The task that it started, once that is known.
+    pub(crate) root: Option<TaskId>,
+    pub(crate) state: State,
+}

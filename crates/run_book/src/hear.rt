@@ -1,0 +1,356 @@
+//! What the letters of workers bring.
+ghost use Rattle.std.specs.Prelude.{◌≡◌, ◌⊎◌, ◌-◌, [], ◌∷◌, Some, Err, is_some, length, IfOk, IfErr, OnOk};
+ghost use Rattle.node_link.specs.declared.body.Body.TheVariants as says;
+ghost use Rattle.task_events.specs.declared.stop.Stop as stops;
+ghost use Rattle.node_link.specs.Lawful.{IsLawful};
+ghost use Rattle.run_facts.specs.Cancels.{cancels_of};
+ghost use Rattle.run_book.specs.Answering as answers;
+ghost use Rattle.run_book.specs.Answering.{same_bool};
+ghost use Rattle.run_book.specs.Entries.{Keeps, SameRun, SameTime, Turned, entry_of};
+ghost use Rattle.run_book.specs.Hearing.{ContextsAfter, Hears, by_entry, with_state};
+
+use crate::book::{Book, place_of};
+use crate::entry::{Answer, Naming, State, Waits};
+use crate::lists::with_rows;
+use crate::naming::{with_done, with_named};
+use child_track::Receipt;
+use line_print::LineReply;
+use node_link::{Body, Letter, RootAnswered};
+use run_facts::{Of, Run};
+use std::alloc::{AllocError, Global};
+use std::mem::replace;
+use task_events::{Reply, ScrollAsk, Stop};
+use task_ids::{Items, TaskId, TaskInfo};
+
+/// A list of one task.
+fn just(alloc: Global, task: TaskId) -> Result<Items<TaskId>, AllocError>
+    ensures { IfOk result (λ tasks. tasks ≡ task ∷ []) }
+{
+    let mut tasks = Items::new(alloc);
+    tasks.push(task)?;
+    Ok(tasks)
+}
+
+/// Whether a receipt is there exactly where a cancel waits.
+fn is_wanted(wait: bool, receipt: &Option<Receipt>) -> bool
+    ensures { result ≡ same_bool wait (is_some receipt.now) }
+{
+    if wait {
+        receipt.is_some()
+    } else {
+        receipt.is_none()
+    }
+}
+
+/// A cancel of one task after a task is cancelled.
+fn after_one(
+    alloc: Global,
+    named: TaskId,
+    wait: bool,
+    task: TaskId,
+    receipt: Option<Receipt>,
+) -> Result<State, AllocError>
+    ensures { IfOk result (λ state. state ≡ answers.after_cancelled (State.Waits (Waits.Cancel named wait)) task receipt) }
+{
+    if named != task || !is_wanted(wait, &receipt) {
+        return Ok(State::Waits(Waits::Cancel { task: named, wait }));
+    }
+    let tasks = just(alloc, task)?;
+    Ok(State::Answered(Answer {
+        reply: LineReply::Cancelled {
+            tasks,
+            waited: wait,
+        },
+        receipt,
+    }))
+}
+
+/// A cancel by a filter after a task is cancelled.
+fn after_one_of(
+    alloc: Global,
+    naming: Naming,
+    receipt: Option<Receipt>,
+) -> Result<State, AllocError>
+    ensures { IfOk result (λ state. state ≡ answers.after_one_of naming receipt) }
+{
+    if !is_wanted(naming.wait, &receipt) {
+        return Ok(State::Waits(Waits::Naming(naming)));
+    }
+    match with_done(alloc, naming, receipt) {
+        Ok(state) => Ok(state),
+        Err(error) => Err(error),
+    }
+}
+
+/// A command after a task is cancelled as a cancel of this number wants it.
+fn after_cancelled(
+    alloc: Global,
+    state: State,
+    task: TaskId,
+    receipt: Option<Receipt>,
+) -> Result<State, AllocError>
+    ensures { IfOk result (λ after. after ≡ answers.after_cancelled state task receipt) }
+{
+    match state {
+        State::Waits(Waits::Cancel { task: named, wait }) => {
+            match after_one(alloc, named, wait, task, receipt) {
+                Ok(state) => Ok(state),
+                Err(error) => Err(error),
+            }
+        }
+        State::Waits(Waits::Naming(naming)) => match after_one_of(alloc, naming, receipt) {
+            Ok(state) => Ok(state),
+            Err(error) => Err(error),
+        },
+        other => Ok(other),
+    }
+}
+
+/// A command after a node told that its cancel finds no task.
+fn after_not_found(state: State) -> State
+    ensures { result ≡ answers.after_not_found state }
+{
+    match state {
+        State::Waits(Waits::Cancel { task, wait: _ }) => State::Answered(Answer {
+            reply: LineReply::NotFound(Some(task)),
+            receipt: None,
+        }),
+        other => other,
+    }
+}
+
+/// A command after a node named the tasks that its cancel is about.
+fn after_named(
+    alloc: Global,
+    state: State,
+    node: u32,
+    tasks: Items<TaskId>,
+) -> Result<State, AllocError>
+    ensures { IfOk result (λ after. after ≡ answers.after_named node tasks state) }
+{
+    match state {
+        State::Waits(Waits::Naming(naming)) => match with_named(alloc, naming, node, tasks) {
+            Ok(state) => Ok(state),
+            Err(error) => Err(error),
+        },
+        other => Ok(other),
+    }
+}
+
+/// A command after a node told its live tasks.
+fn after_rows(
+    alloc: Global,
+    state: State,
+    node: u32,
+    part: Items<TaskInfo>,
+) -> Result<State, AllocError>
+    ensures { IfOk result (λ after. after ≡ answers.after_rows node part state) }
+{
+    match state {
+        State::Waits(Waits::Rows { rows, now }) => match with_rows(alloc, rows, now, node, part) {
+            Ok(state) => Ok(state),
+            Err(error) => Err(error),
+        },
+        other => Ok(other),
+    }
+}
+
+/// A command after its root has ended, or was rejected.
+fn after_root(state: State, reply: Reply) -> State
+    ensures { result ≡ answers.after_root reply state }
+{
+    match state {
+        State::Waits(Waits::Root { .. }) => State::Answered(Answer {
+            reply: LineReply::Task(reply),
+            receipt: None,
+        }),
+        other => other,
+    }
+}
+
+/// The context of which a command waits for a page.
+fn page_awaited(state: &State) -> Option<ScrollAsk>
+    ensures { result ≡ answers.page_awaited state.now }
+{
+    match state {
+        State::Waits(Waits::Root { page }) => *page,
+        _ => None,
+    }
+}
+
+impl<'a, W: Run> Book<'a, W> {
+    /// A command's root has an id.
+    fn hear_root(&mut self, command: u32, task: TaskId)
+        ensures told { Turned (λ e. record e { root = Some task }) (command - 1) self.old.entries.items self.new.entries.items }
+        ensures same { SameTime self.old self.new }
+        ensures contexts { self.new.contexts ≡ self.old.contexts }
+        ensures begun { length self.new.entries.items ≡ length self.old.entries.items }
+    {
+        if let Some(entry) = self.entries.get_mut(place_of(command)) {
+            entry.root = Some(task);
+        }
+    }
+
+    /// What the end of a root means for contexts: one that shows a page gives its context back, and a search opens its own.
+    fn note_end(&mut self, answered: &RootAnswered) -> Result<(), AllocError>
+        ensures contexts { OnOk result (by_entry (entry_of self.old.entries.items answered.now.place.command) self.old.contexts self.old.clock answered.now.request answered.now.reply self.new.contexts) }
+        ensures entries { self.new.entries.items ≡ self.old.entries.items }
+        ensures same { SameTime self.old self.new }
+    {
+        let Some(entry) = self.entries.get(place_of(answered.place.command)) else {
+            return Ok(());
+        };
+        match page_awaited(&entry.state) {
+            Some(ask) => Ok(self.turn_page(ask, &answered.reply)?),
+            None => Ok(self.open(&answered.request, &answered.reply)?),
+        }
+    }
+
+    /// A command's root has ended, or was rejected.
+    fn hear_root_answer(&mut self, answered: RootAnswered) -> Result<(), AllocError>
+        ensures told { OnOk result (Turned (with_state (answers.after_root answered.reply)) (answered.place.command - 1) self.old.entries.items self.new.entries.items) }
+        ensures contexts { OnOk result (by_entry (entry_of self.old.entries.items answered.place.command) self.old.contexts self.old.clock answered.request answered.reply self.new.contexts) }
+        ensures same { SameTime self.old self.new }
+        ensures begun { length self.new.entries.items ≡ length self.old.entries.items }
+    {
+        self.note_end(&answered)?;
+        let place = place_of(answered.place.command);
+        if let Some(entry) = self.entries.get_mut(place) {
+            let state = replace(&mut entry.state, State::Told);
+            entry.state = after_root(state, answered.reply);
+        }
+        Ok(())
+    }
+
+    /// A node tells its live tasks.
+    fn hear_rows(
+        &mut self,
+        node: u32,
+        command: u32,
+        part: Items<TaskInfo>,
+    ) -> Result<(), AllocError>
+        ensures told { OnOk result (Turned (with_state (answers.after_rows node part)) (command - 1) self.old.entries.items self.new.entries.items) }
+        ensures same { SameTime self.old self.new }
+        ensures contexts { self.new.contexts ≡ self.old.contexts }
+        ensures begun { length self.new.entries.items ≡ length self.old.entries.items }
+    {
+        let alloc = self.alloc;
+        if let Some(entry) = self.entries.get_mut(place_of(command)) {
+            let state = replace(&mut entry.state, State::Told);
+            entry.state = after_rows(alloc, state, node, part)?;
+        }
+        Ok(())
+    }
+
+    /// A node names the tasks that a cancel by a filter is about.
+    fn hear_named(&mut self, node: u32, cancel: u32, tasks: Items<TaskId>) -> Result<(), AllocError>
+        ensures told { OnOk result (Turned (with_state (answers.after_named node tasks)) (cancel - 1) self.old.entries.items self.new.entries.items) }
+        ensures same { SameTime self.old self.new }
+        ensures contexts { self.new.contexts ≡ self.old.contexts }
+        ensures begun { length self.new.entries.items ≡ length self.old.entries.items }
+    {
+        let alloc = self.alloc;
+        if let Some(entry) = self.entries.get_mut(place_of(cancel)) {
+            let state = replace(&mut entry.state, State::Told);
+            entry.state = after_named(alloc, state, node, tasks)?;
+        }
+        Ok(())
+    }
+
+    /// A task is cancelled as a cancel wants it: its bans are placed, and, where there is a receipt, it has ended.
+    fn hear_cancelled(
+        &mut self,
+        cancel: u32,
+        task: TaskId,
+        receipt: Option<Receipt>,
+    ) -> Result<(), AllocError>
+        ensures told { OnOk result (Turned (with_state (λ s. answers.after_cancelled s task receipt)) (cancel - 1) self.old.entries.items self.new.entries.items) }
+        ensures same { SameTime self.old self.new }
+        ensures contexts { self.new.contexts ≡ self.old.contexts }
+        ensures begun { length self.new.entries.items ≡ length self.old.entries.items }
+    {
+        let alloc = self.alloc;
+        if let Some(entry) = self.entries.get_mut(place_of(cancel)) {
+            let state = replace(&mut entry.state, State::Told);
+            entry.state = after_cancelled(alloc, state, task, receipt)?;
+        }
+        Ok(())
+    }
+
+    /// A cancel finds no task.
+    fn hear_not_found(&mut self, cancel: u32)
+        ensures told { Turned (with_state answers.after_not_found) (cancel - 1) self.old.entries.items self.new.entries.items }
+        ensures same { SameTime self.old self.new }
+        ensures contexts { self.new.contexts ≡ self.old.contexts }
+        ensures begun { length self.new.entries.items ≡ length self.old.entries.items }
+    {
+        if let Some(entry) = self.entries.get_mut(place_of(cancel)) {
+            let state = replace(&mut entry.state, State::Told);
+            entry.state = after_not_found(state);
+        }
+    }
+
+    /// What is said in a letter to the driver.
+    fn hear_body(&mut self, body: Body) -> Result<(), AllocError>
+        requires lawful { IsLawful (cancels_of W.cancels) body }
+        requires keeps { Keeps W.cancels self.old }
+        ensures keeps { OnOk result (Keeps W.cancels self.new) }
+        ensures hears { OnOk result (Hears body self.old.entries.items self.new.entries.items) }
+        ensures contexts { OnOk result (ContextsAfter body self.old self.new.contexts) }
+        ensures same { SameTime self.old self.new }
+        ensures begun { length self.new.entries.items ≡ length self.old.entries.items }
+    {
+        match body {
+            Body::Root { command, task } => {
+                self.hear_root(command, task);
+                Ok(())
+            }
+            Body::RootAnswer(answered) => Ok(self.hear_root_answer(answered)?),
+            Body::Rows {
+                node,
+                worker: _,
+                command,
+                rows,
+            } => Ok(self.hear_rows(node, command, rows)?),
+            Body::Named {
+                node,
+                cancel,
+                tasks,
+            } => Ok(self.hear_named(node, cancel, tasks)?),
+            Body::AnswerPlaced { cancel, task } => Ok(self.hear_cancelled(cancel, task, None)?),
+            Body::AnswerDone {
+                cancel,
+                task,
+                receipt,
+            } => Ok(self.hear_cancelled(cancel, task, Some(receipt))?),
+            Body::NotFound { cancel } => {
+                self.hear_not_found(cancel);
+                Ok(())
+            }
+            _ => Ok(()),
+        }
+    }
+
+    /// What a letter brings. One that is not for the driver, or not what was asked, is passed over, which in a lawful run never happens.
+    ///
+    /// It fails where a worker tells that it has stopped, for the cause that it tells, and for want of memory (`Memory`).
+    pub fn hear(&mut self, letter: Letter<Of<W>>) -> Result<(), Stop>
+        requires keeps { Keeps W.cancels self.old }
+        ensures keeps { OnOk result (Keeps W.cancels self.new) }
+        ensures hears { OnOk result (Hears letter self.old.entries.items self.new.entries.items) }
+        ensures contexts { OnOk result (ContextsAfter letter self.old self.new.contexts) }
+        ensures stopped { (stop : stops.Stop) → letter ≡ says.Stopped stop → result ≡ Err stop }
+        ensures fails { IfErr result (λ stop. (letter ≡ says.Stopped stop) ⊎ (stop ≡ Stop.Memory)) }
+        ensures same { SameRun self.old self.new }
+        ensures time { SameTime self.old self.new }
+        ensures begun { length self.new.entries.items ≡ length self.old.entries.items }
+    {
+        match letter.into_body() {
+            Body::Stopped(stop) => Err(stop),
+            body => match self.hear_body(body) {
+                Ok(()) => Ok(()),
+                Err(_) => Err(Stop::Memory),
+            },
+        }
+    }
+}

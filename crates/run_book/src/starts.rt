@@ -1,0 +1,219 @@
+//! Searches and reindexes begin.
+ghost use Rattle.std.specs.Prelude.{◌≡◌, ◌≤◌, ◌∷◌, [], Some, Ok, is_some, option_map, IfOk, IsSomeAnd};
+ghost use Rattle.command_roots.specs.Roots.{least_size};
+ghost use Rattle.node_link.specs.Lawful.{IsCommand, is_page};
+ghost use Rattle.query_parse.specs.Bodies.{body_at};
+ghost use Rattle.query_parse.specs.Reindexes.{reindex_at};
+ghost use Rattle.script_lang.specs.Fits.{IsSliceCount, IsRate};
+ghost use Rattle.task_events.specs.Answered.{as_answered};
+ghost use Rattle.run_book.specs.Begun as begun;
+ghost use Rattle.run_book.specs.Begun.{IsOutcome, IsPlain, reindex_asks, search_asks};
+ghost use Rattle.run_book.specs.Entries.{is_known_to};
+ghost use Rattle.run_book.specs.Posts.{action_of, start_of, start_posts};
+
+use crate::begin::Begun;
+use crate::book::Book;
+use crate::entry::{State, Waits};
+use command_roots::{headers_of, reindex_ask, search_ask};
+use line_print::LineReply;
+use node_link::{Body as Says, Letter, Page, Place, Start};
+use query_parse::{BodyError, ReindexBody, ReindexError, read_body, read_reindex};
+use run_facts::{Of, Post, Run, To};
+use script_lang::Command;
+use shared_value::Shared;
+use std::alloc::{AllocError, Global};
+use task_events::{Request, ScrollAsk};
+use task_ids::{Action, Body, Boxed, Text};
+
+/// What a command that starts a task asks of it, or why it starts none.
+#[derive(Drop)]
+pub(crate) enum Asks {
+    Task(Request),
+    Nothing(LineReply),
+}
+
+/// A list of one letter.
+pub(crate) fn one<L: Drop>(alloc: Global, post: Post<L>) -> Result<Vec<Post<L>>, AllocError>
+    ensures { IfOk result (λ posts. posts.items ≡ post ∷ []) }
+{
+    let mut posts = Vec::with_capacity(alloc, 1)?;
+    posts.push_reserved(post);
+    Ok(posts)
+}
+
+/// The action of a root with this request.
+fn action_of(request: &Request) -> Action
+    ensures { result ≡ action_of request.now }
+{
+    match request {
+        Request::Scroll(_) => Action::Scroll,
+        Request::Reindex(_) => Action::Reindex,
+        _ => Action::Search,
+    }
+}
+
+/// The letter that starts the root of a command.
+fn start_letter<W: Run>(
+    number: u32,
+    command: &Command,
+    request: Request,
+    page: Option<Boxed<Page>>,
+) -> Result<Letter<Of<W>>, AllocError>
+    requires number { IsCommand number }
+    requires page { is_some page ≡ is_page (as_answered request) }
+    ensures { IfOk result (λ letter. letter ≡ Says.Start (start_of number command.now request page)) }
+{
+    let headers = headers_of(command)?;
+    let place = Place {
+        command: number,
+        slice: 0,
+        action: action_of(&request),
+        shard: 0,
+    };
+    Ok(Letter::new(Says::Start(Start {
+        place,
+        request,
+        headers,
+        page,
+    })))
+}
+
+/// A command whose root starts on a node.
+pub(crate) fn started<W: Run>(
+    alloc: Global,
+    number: u32,
+    command: &Command,
+    node: u32,
+    request: Request,
+    page: Option<(ScrollAsk, Boxed<Page>)>,
+) -> Result<Begun<W>, AllocError>
+    requires number { IsCommand number }
+    requires page { is_some page ≡ is_page (as_answered request) }
+    ensures state { IfOk result (λ b. b.state ≡ State.Waits (Waits.Root (option_map (λ p. p.0) page))) }
+    ensures posts { IfOk result (λ b. b.posts.items ≡ start_posts number command.now node request (option_map (λ p. p.1) page)) }
+{
+    let (used, shown) = match page {
+        Some((ask, page)) => (Some(ask), Some(page)),
+        None => (None, None),
+    };
+    let letter = start_letter(number, command, request, shown)?;
+    let to = To::Data(node);
+    let posts = one(alloc, Post { to, letter })?;
+    Ok(Begun::waiting(Waits::Root { page: used }, posts))
+}
+
+impl<'a, W: Run> Book<'a, W> {
+    /// What a search asks, or its body's first fault, or that its index is not there.
+    fn search_asked(
+        &self,
+        index: &Text,
+        scroll: Option<u64>,
+        body: &Body,
+    ) -> Result<Asks, AllocError>
+        ensures { IfOk result (λ asks. asks ≡ search_asks (is_known_to self.now) index.now scroll (body_at (is_some scroll) (least_size scroll) body.now)) }
+    {
+        let alloc = self.alloc;
+        let scrolls = scroll.is_some();
+        let body = match read_body(alloc, body.as_json(), scrolls, u32::from(scrolls)) {
+            Ok(body) => body,
+            Err(BodyError::Memory) => return Err(AllocError),
+            Err(fault) => return Ok(Asks::Nothing(LineReply::BadBody(fault))),
+        };
+        if !self.known.contains(index.as_str()) {
+            drop(body);
+            return Ok(Asks::Nothing(LineReply::NoIndex(index.copy()?)));
+        }
+        let ask = search_ask(alloc, index, scroll, body)?;
+        Ok(Asks::Task(Request::Search(Shared::new(alloc, ask)?)))
+    }
+
+    /// What a reindex asks, or its body's first fault, or that its source is not there.
+    fn reindex_asked(&self, body: &Body, slices: u32, rate: Option<u32>) -> Result<Asks, AllocError>
+        requires slices { IsSliceCount slices }
+        requires rate { IsRate rate }
+        ensures { IfOk result (λ asks. reindex_asks (is_known_to self.now) slices rate (reindex_at body.now) ≡ Some asks) }
+    {
+        let alloc = self.alloc;
+        let body = match read_reindex(alloc, body.as_json()) {
+            Ok(body) => body,
+            Err(ReindexError::Memory) => return Err(AllocError),
+            Err(fault) => return Ok(Asks::Nothing(LineReply::BadReindex(fault))),
+        };
+        Ok(self.reindex_of(body, slices, rate)?)
+    }
+
+    /// What a reindex with this body asks, or that its source is not there.
+    fn reindex_of(
+        &self,
+        body: ReindexBody,
+        slices: u32,
+        rate: Option<u32>,
+    ) -> Result<Asks, AllocError>
+        requires batch { (1 ≤ body.batch) × (body.batch ≤ 10000) }
+        requires slices { IsSliceCount slices }
+        requires rate { IsRate rate }
+        ensures { IfOk result (λ asks. reindex_asks (is_known_to self.now) slices rate (Ok body) ≡ Some asks) }
+    {
+        let alloc = self.alloc;
+        if !self.known.contains(body.source.as_str()) {
+            let source = Text::new(body.source.into_string());
+            return Ok(Asks::Nothing(LineReply::NoIndex(source)));
+        }
+        let ask = reindex_ask(alloc, body, slices, rate)?;
+        Ok(Asks::Task(Request::Reindex(Shared::new(alloc, ask)?)))
+    }
+
+    /// A command starts the task that it asks for on a node.
+    fn start(
+        &self,
+        number: u32,
+        command: &Command,
+        node: u32,
+        asks: Asks,
+    ) -> Result<Begun<W>, AllocError>
+        requires number { IsCommand number }
+        requires plain { IsPlain asks }
+        ensures { IfOk result (λ b. IsOutcome (begun.started number command.now node asks) b.state b.posts.items) }
+    {
+        match asks {
+            Asks::Nothing(reply) => Ok(Begun::answered(self.alloc, reply)),
+            Asks::Task(request) => Ok(started(self.alloc, number, command, node, request, None)?),
+        }
+    }
+
+    /// A search begins.
+    pub(crate) fn start_search(
+        &self,
+        number: u32,
+        command: &Command,
+        index: &Text,
+        node: u32,
+        scroll: Option<u64>,
+        body: &Body,
+    ) -> Result<Begun<W>, AllocError>
+        requires { IsCommand number }
+        ensures { IfOk result (λ b. IsOutcome (begun.started number command.now node (search_asks (is_known_to self.now) index.now scroll (body_at (is_some scroll) (least_size scroll) body.now))) b.state b.posts.items) }
+    {
+        let asks = self.search_asked(index, scroll, body)?;
+        Ok(self.start(number, command, node, asks)?)
+    }
+
+    /// A reindex begins.
+    pub(crate) fn start_reindex(
+        &self,
+        number: u32,
+        command: &Command,
+        node: u32,
+        body: &Body,
+        slices: u32,
+        rate: Option<u32>,
+    ) -> Result<Begun<W>, AllocError>
+        requires number { IsCommand number }
+        requires slices { IsSliceCount slices }
+        requires rate { IsRate rate }
+        ensures { IfOk result (λ b. IsSomeAnd (reindex_asks (is_known_to self.now) slices rate (reindex_at body.now)) (λ asks. IsOutcome (begun.started number command.now node asks) b.state b.posts.items)) }
+    {
+        let asks = self.reindex_asked(body, slices, rate)?;
+        Ok(self.start(number, command, node, asks)?)
+    }
+}

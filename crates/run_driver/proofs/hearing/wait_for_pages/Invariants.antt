@@ -1,0 +1,8 @@
+use Rattle.std.proofs.Common.{◌≡◌, length}
+use Rattle.run_inboxes.specs.Ends.{SameEnds}
+use Rattle.run_book.specs.Entries.{Keeps, SameRun}
+use Rattle.run_driver.proofs.hearing.wait_for_pages.Given as goal
+
+abbrev pub invariant-loop-command : goal.invariant-loop-command
+invariant-loop-command g l =
+    Keeps g.W.Run.cancels l.book × SameRun l.initial.book l.book × (length l.book.entries.items ≡ length l.initial.book.entries.items) × SameEnds l.initial.ends l.ends

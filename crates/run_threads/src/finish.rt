@@ -1,0 +1,56 @@
+// The end of many workers.
+ghost use Rattle.std.specs.Prelude.{◌≡◌, ◌++◌, ◌∷◌, [], ◌≤◌, List, None, Some, MatchOption, IfSome};
+ghost use Rattle.node_worker.specs.declared.worker.WorkerOut.TheVariants.{Drained as drained_with};
+ghost use Rattle.run_inboxes.specs.Pairs.{Pairwise};
+ghost use Rattle.run_threads.specs.Causes.{IsNoLater};
+ghost use Rattle.run_threads.specs.Jobs.{jobs_of, Drained};
+
+use crate::cause::also;
+use crate::start::{Thread, finish};
+use node_link::RunName;
+use node_worker::{Rest, Turns, Worker, WorkerOut};
+use std::thread::Threads;
+use task_events::Stop;
+
+// Takes what a worker left, where it drained, and tells the cause for which it did not, or that memory ran out.
+fn keep<R: Drop>(rests: &mut Vec<R>, out: WorkerOut<R>) -> Option<Stop>
+    ensures { result ≡ None → (rest : R) × (out ≡ drained_with rest) × (rests.new.items ≡ rests.old.items ++ rest ∷ []) }
+{
+    match out {
+        WorkerOut::Drained(rest) => match rests.push(rest) {
+            Ok(()) => None,
+            Err(_) => Some(Stop::Memory),
+        },
+        WorkerOut::Stopped(stop, _) => Some(stop),
+    }
+}
+
+// The same of a worker that ends after others.
+fn keep_also<R: Drop>(rests: &mut Vec<R>, out: WorkerOut<R>, met: Option<Stop>) -> Option<Stop>
+    ensures none { result ≡ None → (met ≡ None) × ((rest : R) × (out ≡ drained_with rest) × (rests.new.items ≡ rests.old.items ++ rest ∷ [])) }
+    ensures kept { IsNoLater met result }
+{
+    match keep(rests, out) {
+        Some(stop) => Some(also(met, stop)),
+        None => met,
+    }
+}
+
+/// Waits for all of these workers, and takes what those left that drained. It tells the first of what was met before, of the causes for which
+/// some did not drain, and of want of memory. Only where there is none, all have drained.
+pub(crate) fn finish_all<'s, 'c, N: RunName + Send, T: Turns<N> + Send + Drop, R: Threads>(
+    rt: &R,
+    started: Vec<Thread<'s, 'c, Worker<N, T>>>,
+    rests: &mut Vec<Rest<N, T>>,
+    met: Option<Stop>,
+) -> Option<Stop>
+    requires { rests.old.items ≡ [] }
+    ensures none { result ≡ None → (met ≡ None) × Pairwise (Drained T.did T.at_rest T.fits) (jobs_of started.entry.items) rests.new.items }
+    ensures kept { IsNoLater met result }
+{
+    let mut met = met;
+    for thread in started {
+        met = keep_also(rests, finish(rt, thread), met);
+    }
+    met
+}
