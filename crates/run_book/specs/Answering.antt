@@ -139,14 +139,14 @@ after_root reply (states.Waits (waits.Rows rows now)) = states.Waits (waits.Rows
 after_root reply (states.Answered answer) = states.Answered answer
 after_root reply states.Told = states.Told
 
--- the context of which a command waits for a page
-abbrev pub page_awaited : State → Option ScrollAsk
-page_awaited (states.Waits (waits.Root page)) = page
-page_awaited (states.Waits (waits.Naming naming)) = None
-page_awaited (states.Waits (waits.Cancel task wait)) = None
-page_awaited (states.Waits (waits.Rows rows now)) = None
-page_awaited (states.Answered answer) = None
-page_awaited states.Told = None
+-- where a command waits for the end of its root, the context of which that shows a page, if it shows one
+abbrev pub root_awaited : State → Option (Option ScrollAsk)
+root_awaited (states.Waits (waits.Root page)) = Some page
+root_awaited (states.Waits (waits.Naming naming)) = None
+root_awaited (states.Waits (waits.Cancel task wait)) = None
+root_awaited (states.Waits (waits.Rows rows now)) = None
+root_awaited (states.Answered answer) = None
+root_awaited states.Told = None
 
 -- ---- taking the answer
 

@@ -8,7 +8,7 @@ use Rattle.task_events.specs.declared.request.ScrollAsk.{ScrollAsk}
 use Rattle.run_book.specs.declared.book.Book.{Book}
 use Rattle.run_book.specs.declared.entry.Entry.{Entry}
 use Rattle.run_book.specs.declared.entry.State.{State}
-use Rattle.run_book.specs.Answering.{after_cancelled, after_named, after_not_found, after_root, after_rows, page_awaited}
+use Rattle.run_book.specs.Answering.{after_cancelled, after_named, after_not_found, after_root, after_rows, root_awaited}
 use Rattle.run_book.specs.Contexts.{Opens, Table, after_page}
 use Rattle.run_book.specs.Entries.{Turned, entry_of}
 
@@ -26,14 +26,15 @@ Hears (says.NotFound cancel) v w = Turned (with_state after_not_found) (cancel -
 Hears (says.Named node cancel tasks) v w = Turned (with_state (after_named node tasks)) (cancel - 1) v w
 Hears _ v w = w ≡ v
 
--- a root that ended gives the context back of which it showed a page, and else it may have opened its own
-abbrev pub by_page : Option ScrollAsk → Table → ℕ → AnsweredRequest → Reply → Table → Type 0
-by_page (Some ask) contexts now request reply after = after ≡ after_page contexts now ask reply
-by_page None contexts now request reply after = Opens contexts now request reply after
+-- a root that ended, where its command waits for that, gives the context back of which it showed a page, and else it may have opened its own
+abbrev pub by_root : Option (Option ScrollAsk) → Table → ℕ → AnsweredRequest → Reply → Table → Type 0
+by_root (Some (Some ask)) contexts now request reply after = after ≡ after_page contexts now ask reply
+by_root (Some None) contexts now request reply after = Opens contexts now request reply after
+by_root None contexts now request reply after = after ≡ contexts
 
 abbrev pub by_entry : Option Entry → Table → ℕ → AnsweredRequest → Reply → Table → Type 0
 by_entry None contexts now request reply after = after ≡ contexts
-by_entry (Some e) contexts now request reply after = by_page (page_awaited e.state) contexts now request reply after
+by_entry (Some e) contexts now request reply after = by_root (root_awaited e.state) contexts now request reply after
 
 -- the contexts after a letter
 abbrev pub ContextsAfter : {W : Type 0} → Body → Book W → Table → Type 0

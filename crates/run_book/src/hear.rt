@@ -168,12 +168,12 @@ fn after_root(state: State, reply: Reply) -> State
     }
 }
 
-/// The context of which a command waits for a page.
-fn page_awaited(state: &State) -> Option<ScrollAsk>
-    ensures { result ≡ answers.page_awaited state.now }
+/// Where a command waits for the end of its root, the context of which that shows a page, if it shows one.
+fn root_awaited(state: &State) -> Option<Option<ScrollAsk>>
+    ensures { result ≡ answers.root_awaited state.now }
 {
     match state {
-        State::Waits(Waits::Root { page }) => *page,
+        State::Waits(Waits::Root { page }) => Some(*page),
         _ => None,
     }
 }
@@ -191,7 +191,8 @@ impl<'a, W: Run> Book<'a, W> {
         }
     }
 
-    /// What the end of a root means for contexts: one that shows a page gives its context back, and a search opens its own.
+    /// What the end of a root means for contexts, where its command waits for it: one that shows a page gives its context back, and a
+    /// search opens its own.
     fn note_end(&mut self, answered: &RootAnswered) -> Result<(), AllocError>
         ensures contexts { OnOk result (by_entry (entry_of self.old.entries.items answered.now.place.command) self.old.contexts self.old.clock answered.now.request answered.now.reply self.new.contexts) }
         ensures entries { self.new.entries.items ≡ self.old.entries.items }
@@ -200,9 +201,10 @@ impl<'a, W: Run> Book<'a, W> {
         let Some(entry) = self.entries.get(place_of(answered.place.command)) else {
             return Ok(());
         };
-        match page_awaited(&entry.state) {
-            Some(ask) => Ok(self.turn_page(ask, &answered.reply)?),
-            None => Ok(self.open(&answered.request, &answered.reply)?),
+        match root_awaited(&entry.state) {
+            Some(Some(ask)) => Ok(self.turn_page(ask, &answered.reply)?),
+            Some(None) => Ok(self.open(&answered.request, &answered.reply)?),
+            None => Ok(()),
         }
     }
 
