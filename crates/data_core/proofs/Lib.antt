@@ -13,3 +13,10 @@ pub mod Stepping
 pub mod Ending
 pub mod Planning
 pub mod Asking
+mod ShardSends
+mod SearchSends
+mod ReindexSends
+mod WorkSends
+mod LiveSends
+mod ScrollSends
+pub mod CoreSends

@@ -27,7 +27,7 @@ use Rattle.task_ids.specs.declared.board_name.BoardName as board
 use Rattle.node_link.proofs.RequestSends.{answered_field_send, request_field_send, search_ask_send, search_ask_sync}
 use Rattle.node_link.proofs.ReplySends.{reply_field_send}
 
-page_send : IsSend Page.the_row
+pub page_send : IsSend Page.the_row
 page_send = search (shared.the_send, search_ask_send, search_ask_sync, counts.the_send, hit_key.the_send, sendable, crosses) depth 20
 
 ruleset pages = (page_send, boxed.the_send, place.the_send, place.the_field_send)

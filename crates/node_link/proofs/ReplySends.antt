@@ -15,7 +15,7 @@ use Rattle.task_events.specs.contracts.reply.Reply as Reply
 use Rattle.task_events.specs.contracts.reply.SearchReply as SearchReply
 use Rattle.node_link.proofs.DocSends.{doc_field_send, doc_field_sync}
 
-hit_send : IsSend Hit.the_row
+pub hit_send : IsSend Hit.the_row
 hit_send = search (doc_field_send, text.the_send, text.the_sync, shared.the_send, sendable) depth 20
 
 hit_sync : IsSync Hit.the_row

@@ -25,22 +25,25 @@ ruleset texts = (shared.the_send, shared.the_sync, text.the_send, text.the_sync)
 pub search_ask_send : IsSend SearchAsk.the_row
 search_ask_send = search (texts, body_send, body_sync, task_id.the_send, slice_pick.the_send, sendable, crosses) depth 20
 
+pub search_ask_field_send : IsSend (SearchAsk.the_field).row
+search_ask_field_send = search (texts, body_send, body_sync, task_id.the_send, slice_pick.the_send, sendable, crosses) depth 20
+
 pub search_ask_sync : IsSync SearchAsk.the_row
 search_ask_sync = search (texts, body_send, body_sync, task_id.the_sync, slice_pick.the_sync, sendable, crosses) depth 20
 
-shard_ask_send : IsSend ShardAsk.the_row
+pub shard_ask_send : IsSend ShardAsk.the_row
 shard_ask_send = search (texts, body_send, body_sync, hit_key.the_send, slice_pick.the_send, sendable, crosses) depth 20
 
-shard_ask_sync : IsSync ShardAsk.the_row
+pub shard_ask_sync : IsSync ShardAsk.the_row
 shard_ask_sync = search (texts, body_send, body_sync, hit_key.the_sync, slice_pick.the_sync, sendable, crosses) depth 20
 
-reindex_ask_send : IsSend ReindexAsk.the_row
+pub reindex_ask_send : IsSend ReindexAsk.the_row
 reindex_ask_send = search (texts, query_send, sendable, crosses) depth 20
 
 reindex_ask_sync : IsSync ReindexAsk.the_row
 reindex_ask_sync = search (texts, query_sync, sendable, crosses) depth 20
 
-reindex_ask_field_send : IsSend (ReindexAsk.the_field).row
+pub reindex_ask_field_send : IsSend (ReindexAsk.the_field).row
 reindex_ask_field_send = search (texts, query_send, sendable, crosses) depth 20
 
 reindex_ask_field_sync : IsSync (ReindexAsk.the_field).row
@@ -58,10 +61,10 @@ bulk_ask_send = search (texts, items.the_send, doc_send, sendable) depth 20
 bulk_ask_sync : IsSync BulkAsk.the_row
 bulk_ask_sync = search (texts, items.the_sync, doc_sync, sendable) depth 20
 
-bulk_shard_ask_send : IsSend BulkShardAsk.the_row
+pub bulk_shard_ask_send : IsSend BulkShardAsk.the_row
 bulk_shard_ask_send = search (texts, items.the_send, doc_send, sendable) depth 20
 
-bulk_shard_ask_sync : IsSync BulkShardAsk.the_row
+pub bulk_shard_ask_sync : IsSync BulkShardAsk.the_row
 bulk_shard_ask_sync = search (texts, items.the_sync, doc_sync, sendable) depth 20
 
 ruleset asks = (
