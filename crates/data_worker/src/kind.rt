@@ -71,6 +71,11 @@ impl<'g, W: Run, B: DataBoard<Of<W>>, G: Gate> Turns<Of<W>> for DataKind<'g, W, 
         self.state.step_of(task)
     }
 
+    /// Where no task is live. A live one may wait for a moment, and looks at the board meanwhile.
+    fn may_wait(&self) -> bool {
+        self.state.core.live_after(None).is_none()
+    }
+
     fn may_leave(&self) -> bool {
         self.state.has_done()
     }

@@ -7,6 +7,7 @@ ghost use Rattle.node_link.specs.Rule.{with_put, with_got};
 use crate::rule::{Got, InOrder, Sent, Tagged, View};
 use crossbeam_channel::{Pass, RuledReceiver, RuledSender, TrySendError};
 use std::sync::Wait;
+use std::thread;
 
 // The end of the channel that sends.
 pub(crate) type Port<L> = RuledSender<Tagged<L>, View<L>, InOrder>;
@@ -57,4 +58,20 @@ pub(crate) fn take_one<L: Drop, R: Wait>(
     ensures taken { MatchOption result (view pass.new ≡ view pass.old) (λ x. view pass.new ≡ with_got (view pass.old) x) }
 {
     mouth.try_recv_as::<Got, R>(rt, pass).ok()
+}
+
+// Takes the oldest letter, and sleeps until there is one. A try that finds the channel closed is made again.
+pub(crate) fn wait_one<L: Drop, R: Wait>(rt: &R, mouth: &Mouth<L>, pass: &mut Badge<L>) -> Tagged<L>
+    requires seated { IsSeatAt (receives_on mouth.now) pass.old }
+    requires mine { (view pass.old).gets ≡ true }
+    ensures seated { IsSeatAt (receives_on mouth.now) pass.new }
+    ensures taken { view pass.new ≡ with_got (view pass.old) result }
+{
+    for _ in rt.forever() {
+        if let Ok(tagged) = mouth.recv_as::<Got, R>(rt, pass) {
+            return tagged;
+        }
+        thread::yield_now();
+    }
+    unreachable!()
 }

@@ -92,6 +92,11 @@ impl<'g, W: Run, B: ControlBoard<Of<W>>, G: Gate> Turns<Of<W>> for ControlKind<'
         self.state.say_left()
     }
 
+    /// Always: what it does, letters alone let it do.
+    fn may_wait(&self) -> bool {
+        true
+    }
+
     fn may_leave(&self) -> bool {
         self.state.has_done()
     }

@@ -1,5 +1,6 @@
 // The rounds of a worker.
-ghost use Rattle.std.specs.Prelude.{◌≡◌, [], Ok, IfErr, OnOk};
+ghost use Rattle.std.specs.Prelude.{◌≡◌, [], Ok, IfErr, OnOk, MatchOption};
+ghost use Rattle.node_link.specs.Inbox.{got, SameInbox, TookOne};
 ghost use Rattle.node_worker.specs.Work.{stand, Did, Halted, Stopped};
 
 use crate::desk::Desk;
@@ -7,7 +8,7 @@ use crate::flush::{flush, keep};
 use crate::halt::Halt;
 use crate::standby::{stand_by, unless_stop};
 use crate::turns::Turns;
-use node_link::RunName;
+use node_link::{Receiver, RunName};
 use std::sync::Wait;
 use std::thread;
 use task_events::Stop;
@@ -22,6 +23,17 @@ pub(crate) enum Round {
     Done,
 }
 
+// The oldest letter of the inbox, if there is one, or as soon as there is one.
+fn next_letter<L: Drop, R: Wait>(rt: &R, inbox: &mut Receiver<L>, waits: bool) -> Option<L>
+    ensures same { SameInbox inbox.old inbox.new }
+    ensures taken { MatchOption result (got inbox.new ≡ got inbox.old) (λ letter. TookOne inbox.old inbox.new letter) }
+{
+    if waits {
+        return Some(inbox.take(rt));
+    }
+    inbox.try_take(rt)
+}
+
 impl<N: RunName, T: Turns<N>> Desk<N, T> {
     // Sends what is kept, as far as there is room.
     #[tactic(auto, using(crate::proofs::Works::did_send))]
@@ -32,15 +44,15 @@ impl<N: RunName, T: Turns<N>> Desk<N, T> {
         flush(rt, &mut self.senders, &mut self.kept);
     }
 
-    // Takes a letter, where there is one, and does its turn.
+    // Takes a letter, where there is one, and does its turn. Where it waits, it sleeps until there is one.
     #[tactic(auto, using(crate::proofs::Works::did_look, crate::proofs::Works::did_turn, crate::proofs::Works::halted_told, crate::proofs::Works::halted_at, crate::proofs::Works::halted_turn))]
-    fn take_one<R: Wait>(&mut self, rt: &R) -> Result<bool, Halt>
+    fn take_one<R: Wait>(&mut self, rt: &R, waits: bool) -> Result<bool, Halt>
         requires fits { T.fits self.old.worker }
         ensures fits { T.fits self.new.worker }
         ensures did { OnOk result (Did T.did (stand self.old) (stand self.new)) }
         ensures halted { IfErr result (λ halt. Halted T.did halt (stand self.old) (stand self.new)) }
     {
-        let Some(letter) = self.inbox.try_take(rt) else {
+        let Some(letter) = next_letter(rt, &mut self.inbox, waits) else {
             return Ok(false);
         };
         let body = match unless_stop(letter) {
@@ -71,7 +83,7 @@ impl<N: RunName, T: Turns<N>> Desk<N, T> {
     // again until a step ends a task. A worker that keeps letters back takes others all the same, else two workers could wait for
     // each other.
     #[tactic(auto, using(crate::proofs::Works::did_on, crate::proofs::Works::halted_on))]
-    fn round<R: Wait>(&mut self, rt: &R) -> Result<Round, Halt>
+    fn round<R: Wait>(&mut self, rt: &R, waits: bool) -> Result<Round, Halt>
         requires fits { T.fits self.old.worker }
         ensures fits { T.fits self.new.worker }
         ensures did { OnOk result (Did T.did (stand self.old) (stand self.new)) }
@@ -80,7 +92,7 @@ impl<N: RunName, T: Turns<N>> Desk<N, T> {
         ensures waits { result ≡ Ok Round.Waited → self.new.kept.items ≡ [] → ¬ T.at_rest self.new.worker }
     {
         self.send_kept(rt);
-        let took = self.take_one(rt)?;
+        let took = self.take_one(rt, waits)?;
         let stepped = self.step_on()?;
         if took || stepped {
             return Ok(Round::Worked);
@@ -89,6 +101,18 @@ impl<N: RunName, T: Turns<N>> Desk<N, T> {
             return Ok(Round::Done);
         }
         Ok(Round::Waited)
+    }
+
+    // Whether only a letter lets it go on: it keeps none to be sent, and no step of its own can be done before. Where it is not so,
+    // another thread goes first.
+    fn may_wait(&self) -> bool
+        requires fits { T.fits self.now.worker }
+    {
+        let may_wait = self.kept.is_empty() && self.worker.may_wait();
+        if !may_wait {
+            thread::yield_now();
+        }
+        may_wait
     }
 
     // Works until it may end, or has to halt.
@@ -100,10 +124,11 @@ impl<N: RunName, T: Turns<N>> Desk<N, T> {
         ensures halted { IfErr result (λ halt. Halted T.did halt (stand self.old) (stand self.new)) }
         ensures done { OnOk result (T.at_rest self.new.worker × (self.new.kept.items ≡ [])) }
     {
+        let mut waits = false;
         for _ in rt.forever() {
-            match self.round(rt)? {
-                Round::Worked => {}
-                Round::Waited => thread::yield_now(),
+            match self.round(rt, waits)? {
+                Round::Worked => waits = false,
+                Round::Waited => waits = self.may_wait(),
                 Round::Done => return Ok(()),
             }
         }

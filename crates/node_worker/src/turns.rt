@@ -43,6 +43,11 @@ pub trait Turns<N: RunName> {
         ensures fits { fits self.new }
         ensures did { IfOk result (λ r. MatchOption r (did self.old waited [] self.new) (λ posts. did self.old stepped posts.items self.new)) };
 
+    /// Whether nothing of it can go on before a letter comes. It is asked where a step was none and it may not end; where it is not so,
+    /// the worker looks again without a letter.
+    fn may_wait(&self) -> bool
+        requires fits { fits self.now };
+
     /// Whether the worker may end. It is asked where no letter is there, no step can be done and nothing is left to be sent.
     fn may_leave(&self) -> bool
         requires fits { fits self.now }

@@ -57,6 +57,10 @@ impl Turns<AnyCancel> for Echo {
         Ok(Some(Vec::new(self.alloc)))
     }
 
+    fn may_wait(&self) -> bool {
+        self.steps == 0
+    }
+
     fn may_leave(&self) -> bool {
         self.leaving && self.steps == 0
     }

@@ -62,6 +62,10 @@ impl Turns<AnyCancel> for Doubler {
         Ok(None)
     }
 
+    fn may_wait(&self) -> bool {
+        true
+    }
+
     fn may_leave(&self) -> bool {
         self.last < self.heard
     }

@@ -7,11 +7,10 @@ ghost use Rattle.node_link.specs.Inbox.{put, got, senders_of, capacity_of, numbe
 
 use super::{Back, Receiver, Sender, SenderEnd, Tally};
 use crate::rule::{Compared, Ends, InOrder, Seats, Tagged, View};
-use crate::steps::{Badge, Mouth, Port, send_one, take_one};
+use crate::steps::{Badge, Mouth, Port, send_one, take_one, wait_one};
 use crossbeam_channel::bounded_with;
 use std::alloc::{AllocError, Global};
 use std::sync::Wait;
-use std::thread;
 
 // Waits for ever where a count has no room for one more.
 fn wait_for_room<R: Wait>(rt: &R, count: u64)
@@ -159,18 +158,15 @@ impl<L: Drop> Receiver<L> {
         Some(letter)
     }
 
-    /// The oldest letter. It waits for one.
+    /// The oldest letter. It sleeps until there is one.
     pub fn take<R: Wait>(&mut self, rt: &R) -> L
         ensures same { SameInbox self.old self.new }
         ensures taken { TookOne self.old self.new result }
     {
-        for _ in rt.forever() {
-            if let Some(letter) = self.try_take(rt) {
-                return letter;
-            }
-            thread::yield_now();
-        }
-        unreachable!()
+        wait_for_room(rt, self.taken);
+        let Tagged { from: _, letter } = wait_one(rt, &self.mouth, &mut self.pass);
+        self.taken += 1;
+        letter
     }
 
     /// Compares what was taken with what the senders sent; `ends` are those of all senders of this inbox, by number.
