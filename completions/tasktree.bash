@@ -11,8 +11,8 @@ _tasktree() {
     gen) words="1" ;;
     *)
         if [ "$COMP_CWORD" -eq 1 ]; then
-            words="sim gen --help --version"
-        elif [ "${COMP_WORDS[1]}" = sim ]; then
+            words="sim run gen --help --version"
+        elif [ "${COMP_WORDS[1]}" = sim ] || [ "${COMP_WORDS[1]}" = run ]; then
             local option
             for option in --nodes --shards --slots; do
                 case " ${COMP_WORDS[*]} " in

@@ -1,6 +1,6 @@
 -- What words ask for that the command takes.
 use Rattle.std.proofs.Common.{◌≡◌, ◌∙◌, ◌⊎◌, inl, inr, ℕ, ◌&&◌, ◌||◌, Bool, cond, true, false, not, List, [], ◌∷◌, Option, Some, None, codes, refl, sym, ap, subst, is_some, true≢false}
-use Rattle.std.specs.Prelude.{option_map, option_and_then, pos}
+use Rattle.std.specs.Prelude.{option_map, option_and_then}
 use Rattle.std.specs.List.{find, list_any}
 use Rattle.std.specs.Option.{option_map_or}
 use Rattle.std.specs.Str.{bytes_eq}
@@ -20,12 +20,10 @@ use Rattle.clap.specs.Values.{read_as, reading_of}
 use Rattle.clap.specs.ValueTests.{accepts}
 use Rattle.clap.specs.Facts.{explicit_source, parser_of_value}
 use Rattle.clap.specs.declared.builder.value_parser.ValueParser.{ValueParser}
-use Rattle.clap.specs.declared.builder.value_parser.ValueParser.TheVariants.{Signed}
 use Rattle.clap.specs.declared.error.kind.ErrorKind.{ErrorKind}
 use Rattle.clap.proofs.ValueTestLemmas.{accepts-Accepts}
 use Rattle.command_line.specs.Command.{number_option, number_argument, tasktree}
 use Rattle.std.specs.Prelude.{if◌then◌else◌}
-use Rattle.std.specs.Str.Parse.{digits_value, without_leading_plus}
 use Rattle.command_line.specs.Plan.{Size, Takes, asked, asked_by, asked_in, number_of, size_in, to_make, to_replay, to_run}
 use Rattle.command_line.specs.Takes.{HasMatches, IsFound, HasSize, HasNumber, HasText}
 use Rattle.command_line.proofs.TakenMatches.{Each, IsOption, AreGood, found_in, level_keeps, first_empty, next_empty, stays_there, text_of, there_by_default, there_if_given}
@@ -179,16 +177,6 @@ sized rows nodes shards slots e f g =
     ∙ ap (λ n. option_and_then (λ shards. option_and_then (λ slots. Some (record { nodes = nodes; shards = shards; slots = slots })) (number_of (codes "slots") rows)) n) f
     ∙ ap (λ n. option_and_then (λ slots. Some (record { nodes = nodes; shards = shards; slots = slots })) n) g
 
-has_number : (parser : ValueParser) (name : List ℕ) (rows : List Row) → HasText parser name rows → (n : ℕ) × (number_of name rows ≡ Some n)
-has_number parser name rows has = (_, ap (λ o. option_map (λ text. digits_value 10 (without_leading_plus text)) o) has.1)
-
-size_there : (rows : List Row) → HasSize rows → (size : Size) × (size_in rows ≡ Some size)
-size_there rows has =
-    let nodes = has_number (Signed (pos 1) (pos 15)) (codes "nodes") rows has.nodes in
-    let shards = has_number (Signed (pos 1) (pos 15)) (codes "shards") rows has.shards in
-    let slots = has_number (Signed (pos 1) (pos 1024)) (codes "slots") rows has.slots in
-    (_, sized rows nodes.0 shards.0 slots.0 nodes.1 shards.1 slots.1)
-
 pub asked_where : (words : List Text) → Takes words → asked words ≡ asked_in (subcommand_of tasktree words)
 unfolding asked
 asked_where words takes = ap (λ kinds. if is_empty kinds then asked_in (subcommand_of tasktree words) else None) takes
@@ -202,11 +190,9 @@ pub asked_gen : (found : Option (Text × List Row)) (p : Text × List Row) (n : 
 unfolding asked_by
 asked_gen found p n met name is = ap asked_in met ∙ ap (λ name. asked_by name p.1) name ∙ ap (option_map to_make) is
 
-asked_run : (found : Option (Text × List Row)) (p : Text × List Row) → found ≡ Some p → p.0 ≡ codes "run" → HasSize p.1 → (size : Size) × (asked_in found ≡ Some (to_run size))
+pub asked_run : (found : Option (Text × List Row)) (p : Text × List Row) (size : Size) → found ≡ Some p → p.0 ≡ codes "run" → size_in p.1 ≡ Some size → asked_in found ≡ Some (to_run size)
 unfolding asked_by
-asked_run found p met name has =
-    let size = size_there p.1 has in
-    (size.0, ap asked_in met ∙ ap (λ name. asked_by name p.1) name ∙ ap (option_map to_run) size.1)
+asked_run found p size met name is = ap asked_in met ∙ ap (λ name. asked_by name p.1) name ∙ ap (option_map to_run) is
 
 -- ---- by the name of the subcommand
 
@@ -220,10 +206,16 @@ is_gen p (inl sim) name = absurd (true≢false (ap (λ text. bytes_eq text (code
 is_gen p (inr (inl run)) name = absurd (true≢false (ap (λ text. bytes_eq text (codes "gen")) (sym name ∙ run.0)))
 is_gen p (inr (inr gen)) name = gen.1
 
-pub is_run : (found : Option (Text × List Row)) (p : Text × List Row) → found ≡ Some p → HasMatches p.0 p.1 → (p.0 ≡ codes "sim" → ⊥) → (p.0 ≡ codes "gen" → ⊥) → (size : Size) × (asked_in found ≡ Some (to_run size))
-is_run found p met (inl sim) not_sim not_gen = absurd (not_sim sim.0)
-is_run found p met (inr (inl run)) not_sim not_gen = asked_run found p met run.0 run.1
-is_run found p met (inr (inr gen)) not_sim not_gen = absurd (not_gen gen.0)
+pub is_run : (p : Text × List Row) → HasMatches p.0 p.1 → p.0 ≡ codes "run" → HasSize p.1
+is_run p (inl sim) name = sim.1
+is_run p (inr (inl run)) name = run.1
+is_run p (inr (inr gen)) name = absurd (true≢false (ap (λ text. bytes_eq text (codes "run")) (sym name ∙ gen.0)))
+
+-- there is no fourth
+pub no_other : (p : Text × List Row) → HasMatches p.0 p.1 → (p.0 ≡ codes "sim" → ⊥) → (p.0 ≡ codes "run" → ⊥) → (p.0 ≡ codes "gen" → ⊥) → ⊥
+no_other p (inl sim) not_sim not_run not_gen = not_sim sim.0
+no_other p (inr (inl run)) not_sim not_run not_gen = not_run run.0
+no_other p (inr (inr gen)) not_sim not_run not_gen = not_gen gen.0
 
 -- ---- the matches as they are given
 

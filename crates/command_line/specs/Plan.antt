@@ -7,7 +7,7 @@ use Rattle.clap.specs.Simple.{subcommand_of}
 use Rattle.clap.specs.Faults.{fault_of}
 use Rattle.task_ids.specs.declared.cluster.Cluster.{Cluster}
 use Rattle.command_line.specs.declared.plans.Plan.{Plan}
-use Rattle.command_line.specs.declared.plans.Plan.TheVariants.{Sim, Gen}
+use Rattle.command_line.specs.declared.plans.Plan.TheVariants.{Sim, Run, Gen}
 use Rattle.command_line.specs.Command.{tasktree}
 
 -- how many nodes, shards of an index, and slots of a node
@@ -31,6 +31,7 @@ sized nodes shards slots = to_replay (record { nodes = nodes; shards = shards; s
 
 abbrev pub asked_of : Plan → Asked
 asked_of (Sim cluster) = to_replay (size_of cluster)
+asked_of (Run cluster) = to_run (size_of cluster)
 asked_of (Gen number) = to_make number
 
 -- ---- where the command takes the words
@@ -69,7 +70,3 @@ asked_in found = option_and_then (λ p. asked_by p.0 p.1) found
 -- what words ask for that the command takes
 unfoldable pub asked : List (List ℕ) → Option Asked
 asked words = if is_empty (fault_of tasktree words) then asked_in (subcommand_of tasktree words) else None
-
--- the words ask for a run, which no plan is for yet
-abbrev pub AsksToRun : List (List ℕ) → Type 0
-AsksToRun words = (size : Size) × (asked words ≡ Some (to_run size))

@@ -9,6 +9,8 @@ use thiserror::Error;
 pub enum Plan {
     /// Replay a script, step by step, on a cluster of this size.
     Sim(Cluster),
+    /// Run a script on a cluster of this size whose workers are threads.
+    Run(Cluster),
     /// Write the input that this number makes.
     Gen(u64),
 }

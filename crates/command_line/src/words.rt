@@ -1,9 +1,9 @@
-ghost use Rattle.std.specs.Prelude.{◌≡◌, ◌⊎◌, map, string_bytes, codes, option_map, Some, IfSome, IfNone, IfOk, IfErr};
+ghost use Rattle.std.specs.Prelude.{◌≡◌, map, string_bytes, codes, option_map, Some, IfSome, IsSome, IfOk, IfErr};
 ghost use Rattle.clap.specs.Walk.{rows_of};
 ghost use Rattle.clap.specs.Matches.{found_of};
 ghost use Rattle.clap.specs.Simple.{subcommand_of, subcommand_rows_of};
 ghost use Rattle.command_line.specs.Command.{tasktree};
-ghost use Rattle.command_line.specs.Plan.{Takes, asked, asked_in, asked_of, number_of, size_in, size_of, to_run, AsksToRun};
+ghost use Rattle.command_line.specs.Plan.{Takes, asked, asked_in, asked_of, number_of, size_in, size_of};
 ghost use Rattle.command_line.specs.Takes.{HasSize, HasNumber, IsFound};
 
 use crate::command::tasktree;
@@ -15,14 +15,14 @@ use task_ids::Cluster;
 
 /// The plan of the words after the program's name, as `clap` reads them by the definition of the program's command.
 ///
-/// `sim` may have options in any order, each at most once: `--nodes N` from 1 to 15, or else 3; `--shards S` from 1 to 15,
+/// `sim` and `run` may have options in any order, each at most once: `--nodes N` from 1 to 15, or else 3; `--shards S` from 1 to 15,
 /// or else 2; `--slots L` from 1 to 1,024, or else 256. Each is two words or one, `--nodes=4`. `gen` has a number of 64 bits.
-/// All other words are `PlanError::Usage`, and so are those of `run`, which is to come.
+/// All other words are `PlanError::Usage`.
 pub fn plan(alloc: Global, words: &[String]) -> Result<Plan, PlanError>
     // It is what the words ask for.
     ensures plan { IfOk result (λ plan. asked (map string_bytes words.now) ≡ Some (asked_of plan)) }
-    // They are faulty exactly where the command does not take them, or takes them as those of a run.
-    ensures usage { IfErr result (λ error. error ≡ PlanError.Usage → (Takes (map string_bytes words.now) → ⊥) ⊎ AsksToRun (map string_bytes words.now)) }
+    // They are faulty exactly where the command does not take them.
+    ensures usage { IfErr result (λ error. error ≡ PlanError.Usage → Takes (map string_bytes words.now) → ⊥) }
 {
     let matches = matches_of(alloc, words)?;
     match plan_in(&matches) {
@@ -46,15 +46,16 @@ fn matches_of<'a>(alloc: Global, words: &'a [String]) -> Result<ArgMatches<'a>, 
     }
 }
 
-/// The plan that the subcommand asks for. There is none for a run.
+/// The plan that the subcommand asks for.
 fn plan_in(matches: &ArgMatches<'_>) -> Option<Plan>
     requires found { IsFound (subcommand_rows_of matches.now) }
     ensures plan { IfSome result (λ plan. asked_in (subcommand_rows_of matches.now) ≡ Some (asked_of plan)) }
-    ensures run { IfNone result ((size : _) × (asked_in (subcommand_rows_of matches.now) ≡ Some (to_run size))) }
+    ensures some { IsSome result }
 {
     let (name, arguments) = matches.subcommand()?;
     match name {
         "sim" => Some(Plan::Sim(cluster_in(arguments)?)),
+        "run" => Some(Plan::Run(cluster_in(arguments)?)),
         "gen" => Some(Plan::Gen(number_in(arguments)?)),
         _ => None,
     }

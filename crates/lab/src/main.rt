@@ -71,7 +71,7 @@ struct Output {
 fn planned(alloc: Global, words: &[String]) -> Result<Cluster, Fault> {
     match plan(alloc, words) {
         Ok(Plan::Sim(cluster)) => Ok(cluster),
-        Ok(Plan::Gen(_)) | Err(PlanError::Usage) => Err(Fault::Usage),
+        Ok(Plan::Run(_)) | Ok(Plan::Gen(_)) | Err(PlanError::Usage) => Err(Fault::Usage),
         Err(PlanError::Memory) => Err(Fault::Memory),
     }
 }

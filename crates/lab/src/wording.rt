@@ -141,7 +141,7 @@ pub fn push_words(alloc: Global, out: &mut String, words: &[String]) -> Result<(
                 "word gen: one whole number from 0 to 18446744073709551615 is to follow it\n",
             ),
         },
-        "run" => out.push_str("word run: it is to come; there is sim\n"),
+        "run" => out.push_str("word run: the lab reads the scripts of sim alone\n"),
         word => {
             write!(out, "word {word}: it is none of the forms")?;
             push_nearest(alloc, out, word, &FORMS)

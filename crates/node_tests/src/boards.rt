@@ -1,9 +1,13 @@
 //! A play on each of the two boards.
-ghost use Rattle.std.specs.Prelude.{◌≡◌, ◌<◌};
-ghost use Rattle.task_ids.specs.Limits.{IsSlotCount};
+ghost use Rattle.std.specs.Prelude.{◌≡◌, IfSome};
+ghost use Rattle.data_core.specs.Cores.{IsNewDataCore};
 ghost use Rattle.node_boards.specs.Seats.{HasNoBan, IsFresh};
 
-use crate::node::{Name, Node, Play, control_core, data_core, run};
+use crate::commands::{DOCS, Name};
+use crate::driver::Heard;
+use crate::node::{Play, run};
+use control_worker::ControlCore;
+use data_core::DataCore;
 use data_worker::DataKind;
 use es_io::Gate;
 use node_boards::{
@@ -11,108 +15,87 @@ use node_boards::{
 };
 use node_worker::ControlKind;
 use race_board::{BoardParts, RaceBoard};
+use shard_docs::read_corpus;
 use std::alloc::{AllocError, Global};
 use std::sync::Wait;
 use std::thread::Threads;
+use task_ids::Cluster;
 
-/// How large the boards and inboxes are.
-#[derive(Clone, Copy)]
-pub struct Room {
-    pub slots: u32,
-    pub bans: u32,
-    pub capacity: u32,
+// The core of the node's data worker, which holds both shards of the index `a`, and may have 64 live tasks.
+fn data_core(alloc: Global) -> Option<DataCore>
+    ensures { IfSome result (IsNewDataCore 1) }
+{
+    let cluster = Cluster {
+        nodes: 1,
+        shards: 2,
+        slots: 64,
+    };
+    let read = read_corpus(alloc, DOCS.as_bytes()).ok()?;
+    let shards = vec![in alloc; 0, 1].ok()?;
+    DataCore::new(alloc, &cluster, 1, 0, 64, shards, &read.corpus).ok()
 }
 
-/// The seats of a board's two workers.
-struct Seats<C, D> {
-    control: C,
-    data: D,
-}
-
-/// Plays on a board with these seats.
+// Plays on a board with these seats of its two workers.
 fn on_board<
     C: ControlBoard<Name> + Send + Drop,
     D: DataBoard<Name> + Send + Drop,
     G: Gate,
-    P: Play,
     R: Threads + Wait + Sync,
 >(
     rt: &R,
     alloc: Global,
-    room: Room,
-    seats: Seats<C, D>,
-    gate: &G,
-    play: &P,
-) -> Result<bool, AllocError>
-    requires room { IsSlotCount room.slots × (0 < room.capacity) }
-    requires no_ban { HasNoBan (C.bans seats.control) }
-    requires slots { C.slots seats.control ≡ room.slots }
-    requires fresh { IsFresh (D.has seats.«data») (D.drawn seats.«data») }
-    requires own { D.node seats.«data» ≡ 1 }
+    play: &Play<'_, G>,
+    control: C,
+    data: D,
+) -> Result<Option<Heard>, AllocError>
+    requires no_ban { HasNoBan (C.bans control) }
+    requires slots { C.slots control ≡ play.now.room.slots }
+    requires fresh { IsFresh (D.has «data») (D.drawn «data») }
+    requires own { D.node «data» ≡ 1 }
 {
-    let Seats { control, data } = seats;
-    let Some(core) = control_core(alloc, room.slots) else {
-        return Ok(false);
+    let core = ControlCore::new(alloc, 1, 1, play.room.slots)?;
+    let Some(own) = data_core(alloc) else {
+        return Ok(None);
     };
-    let Some(own) = data_core(alloc, 64) else {
-        return Ok(false);
-    };
-    let control = ControlKind::new(alloc, 1, core, control, gate);
-    let data = DataKind::new(alloc, own, data, gate);
-    let node = Node {
-        control,
-        data,
-        capacity: room.capacity,
-    };
-    run(rt, alloc, node, play)
+    let control = ControlKind::new(alloc, 1, core, control, play.gate);
+    let data = DataKind::new(alloc, own, data, play.gate);
+    run(rt, alloc, play, control, data)
 }
 
 /// Plays on a plain board behind its lock.
-pub fn on_a_lock<G: Gate, P: Play, R: Threads + Wait + Sync>(
+pub fn on_a_lock<G: Gate, R: Threads + Wait + Sync>(
     rt: &R,
     alloc: Global,
-    room: Room,
-    gate: &G,
-    play: &P,
-) -> Result<bool, AllocError>
-    requires room { IsSlotCount room.slots × IsSlotCount room.bans × (0 < room.capacity) }
-{
+    play: &Play<'_, G>,
+) -> Result<Option<Heard>, AllocError> {
     let PlainParts {
         board,
         control,
         mut seats,
-    } = PlainBoard::<Name>::new(alloc, 1, room.slots, room.bans, 1)?;
+    } = PlainBoard::<Name>::new(alloc, 1, play.room.slots, play.room.bans, 1)?;
     let Some(seat) = seats.pop() else {
-        return Ok(false);
+        return Ok(None);
     };
-    let seats = Seats {
-        control: PlainControl::new(rt, &board, control),
-        data: PlainData::new(rt, &board, seat),
-    };
-    on_board(rt, alloc, room, seats, gate, play)
+    let control = PlainControl::new(rt, &board, control);
+    let data = PlainData::new(rt, &board, seat);
+    on_board(rt, alloc, play, control, data)
 }
 
 /// Plays on a board of words.
-pub fn on_words<G: Gate, P: Play, R: Threads + Wait + Sync>(
+pub fn on_words<G: Gate, R: Threads + Wait + Sync>(
     rt: &R,
     alloc: Global,
-    room: Room,
-    gate: &G,
-    play: &P,
-) -> Result<bool, AllocError>
-    requires room { IsSlotCount room.slots × IsSlotCount room.bans × (0 < room.capacity) }
-{
+    play: &Play<'_, G>,
+) -> Result<Option<Heard>, AllocError> {
     let BoardParts {
         board,
         control,
         mut seats,
-    } = RaceBoard::<Name>::new(alloc, 1, room.slots, room.bans, 1)?;
+    } = RaceBoard::<Name>::new(alloc, 1, play.room.slots, play.room.bans, 1)?;
     let Some(seat) = seats.pop() else {
-        return Ok(false);
+        return Ok(None);
     };
-    let seats = Seats {
-        control: RaceControl::new(&board, control),
-        data: RaceData::new(&board, seat),
-    };
-    on_board(rt, alloc, room, seats, gate, play)
+    let control = RaceControl::new(&board, control);
+    let data = RaceData::new(&board, seat);
+    on_board(rt, alloc, play, control, data)
 }

@@ -1,12 +1,19 @@
-//! The commands of these plays.
+//! What the driver of these plays sends.
 ghost use Rattle.std.specs.Prelude.{◌≤◌};
 
-use node_link::{Body, Place, Start};
+use node_link::{Body, Letter, Place, Start};
 use query_match::{Query, SearchBody};
+use run_facts::Of;
 use shared_value::Shared;
 use std::alloc::Global;
 use task_events::{Request, SearchAsk};
-use task_ids::{Action, Headers, Text};
+use task_ids::{Action, AnyCancel, Headers, TaskId, Text};
+
+/// The run of these tests.
+pub type Name = Of<AnyCancel>;
+
+/// Its letters.
+pub type Note = Letter<Name>;
 
 /// Five documents of the index `a`.
 pub const DOCS: &str = r#"{"index":{"_index":"a","_id":"1"}}
@@ -21,43 +28,53 @@ pub const DOCS: &str = r#"{"index":{"_index":"a","_id":"1"}}
 {"n":5}
 "#;
 
-/// A text of its own.
-fn text(alloc: Global, text: &str) -> Option<Shared<Text>> {
-    let text = Text::new(String::from_str(alloc, text).ok()?);
-    Shared::new(alloc, text).ok()
-}
-
-/// A search of all documents of an index.
-pub fn search(alloc: Global, index: &str) -> Option<Request> {
+// A search of all documents of the index `a`.
+fn ask(alloc: Global) -> Option<SearchAsk> {
     let body = SearchBody {
         query: Query::all(alloc).ok()?,
         sort: query_match::Items::new(alloc),
         from: 0,
         size: 10,
     };
-    let ask = SearchAsk {
-        index: text(alloc, index)?,
+    let index = Text::new(String::from_str(alloc, "a").ok()?);
+    Some(SearchAsk {
+        index: Shared::new(alloc, index).ok()?,
         body: Shared::new(alloc, body).ok()?,
         scroll: None,
         slice: None,
         owner: None,
-    };
-    Some(Request::Search(Shared::new(alloc, ask).ok()?))
+    })
 }
 
-/// What starts a search as the root of a command.
-pub fn start(command: u32, request: Request) -> Body
+/// Starts a search as the root of a command.
+pub fn search(alloc: Global, command: u32) -> Option<Note>
     requires command { (1 ≤ command) × (command ≤ 65535) }
 {
-    Body::Start(Start {
-        place: Place {
-            command,
-            slice: 0,
-            action: Action::Search,
-            shard: 0,
-        },
-        request,
+    let ask = Shared::new(alloc, ask(alloc)?).ok()?;
+    let place = Place {
+        command,
+        slice: 0,
+        action: Action::Search,
+        shard: 0,
+    };
+    Some(Letter::new(Body::Start(Start {
+        place,
+        request: Request::Search(ask),
         headers: Headers::none(),
         page: None,
+    })))
+}
+
+/// Cancels the task of the first node with the number of the cancel, and waits for its end.
+pub fn cancel(cancel: u32) -> Note
+    requires cancel { (1 ≤ cancel) × (cancel ≤ 65535) }
+{
+    Letter::new(Body::Cancel {
+        cancel,
+        task: TaskId {
+            node: 1,
+            number: cancel,
+        },
+        wait: true,
     })
 }

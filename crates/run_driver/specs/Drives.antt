@@ -1,5 +1,5 @@
 -- What comes of driving a script.
-use Rattle.std.specs.Prelude.{◌≡◌, ℕ, List, Bool, Option, Some, All, length, slice_get}
+use Rattle.std.specs.Prelude.{◌≡◌, ℕ, List, Bool, Some, All, length, slice_get}
 use Rattle.line_print.specs.RunLines.{IsPrintable}
 use Rattle.run_facts.specs.Cancels.{cancels_of}
 use Rattle.script_lang.specs.declared.command.Command.{Command}

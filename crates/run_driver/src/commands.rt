@@ -1,14 +1,15 @@
 //! A script is driven.
-ghost use Rattle.std.specs.Prelude.{◌≡◌, ◌+◌, ◌<◌, ◌≤◌, length, OnOk, IfOk};
+ghost use Rattle.std.specs.Prelude.{◌≡◌, ◌+◌, ◌<◌, ◌≤◌, length, OnOk, IfOk, IfErr};
 ghost use Rattle.std.specs.HashSet.{contains_by};
 ghost use Rattle.std.specs.Str.{bytes_eq};
 ghost use Rattle.run_facts.specs.Cancels.{cancels_of};
 ghost use Rattle.run_inboxes.specs.Ends.{SameEnds};
 ghost use Rattle.run_book.specs.Entries.{CanDrive, Keeps, SameRun, is_known_to};
+ghost use Rattle.run_driver.specs.Causes.{IsCauseAt};
 ghost use Rattle.run_driver.specs.Drives.{AreNotes};
 
+use crate::gate::LineGate;
 use crate::hearing::{Note, answer_of, send_all, wait_for_answer, wait_for_pages, wait_for_root};
-use es_io::{Gate, Spot};
 use node_link::{Body, Letter};
 use run_book::{Book, LineNote, Needs};
 use run_facts::{Post, Run, To};
@@ -32,6 +33,7 @@ fn wait_before<W: Run, R: Wait>(
     ensures run { SameRun book.old book.new }
     ensures begun { length book.new.entries.items ≡ length book.old.entries.items }
     ensures ends { SameEnds ends.old ends.new }
+    ensures fails { IfErr result (IsCauseAt ends.new.inbox) }
 {
     match book.needs() {
         Needs::Nothing => Ok(()),
@@ -52,6 +54,7 @@ fn do_next<W: Run, R: Wait>(
     ensures keeps { OnOk result (Keeps W.cancels book.new) }
     ensures run { SameRun book.old book.new }
     ensures ends { SameEnds ends.old ends.new }
+    ensures fails { IfErr result (IsCauseAt ends.new.inbox) }
 {
     wait_before(rt, ends, book)?;
     match book.begin() {
@@ -62,7 +65,7 @@ fn do_next<W: Run, R: Wait>(
 
 /// Does so many commands in order. It passes the gate before each.
 #[tactic(auto, using(run_inboxes::proofs::Same::same_ends, run_inboxes::proofs::Same::ends_on, run_book::proofs::Keeping::same_run))]
-fn do_all<W: Run, G: Gate, R: Wait>(
+fn do_all<W: Run, G: LineGate, R: Wait>(
     rt: &R,
     ends: &mut Ends<Note<W>>,
     book: &mut Book<'_, W>,
@@ -74,9 +77,10 @@ fn do_all<W: Run, G: Gate, R: Wait>(
     ensures keeps { OnOk result (Keeps W.cancels book.new) }
     ensures run { SameRun book.old book.new }
     ensures ends { SameEnds ends.old ends.new }
+    ensures fails { IfErr result (IsCauseAt ends.new.inbox) }
 {
     for before in 0..commands {
-        gate.pass(0, Spot::Line(before as u32 + 1));
+        gate.pass(before as u32 + 1);
         do_next(rt, ends, book)?;
     }
     Ok(())
@@ -110,6 +114,7 @@ fn drain<W: Run, R: Wait>(
     ensures keeps { OnOk result (Keeps W.cancels book.new) }
     ensures run { SameRun book.old book.new }
     ensures ends { SameEnds ends.old ends.new }
+    ensures fails { IfErr result (IsCauseAt ends.new.inbox) }
 {
     match drains(alloc, nodes) {
         Ok(posts) => send_all(rt, ends, book, posts),
@@ -129,6 +134,7 @@ fn answers<W: Run, R: Wait>(
     requires keeps { Keeps W.cancels book.old }
     requires count { commands ≡ length book.old.script.now }
     ensures ends { SameEnds ends.old ends.new }
+    ensures fails { IfErr result (IsCauseAt ends.new.inbox) }
     ensures notes { IfOk result (λ notes. AreNotes W.cancels (is_known_to book.old) book.old.script.now notes.items) }
 {
     let mut notes = Vec::new(alloc);
@@ -152,7 +158,7 @@ fn answers<W: Run, R: Wait>(
 ///
 /// It fails where a worker tells that it has stopped, for that cause, and for want of memory (`Memory`).
 #[tactic(auto, using(run_inboxes::proofs::Same::same_ends, run_inboxes::proofs::Same::ends_on, run_book::proofs::Keeping::same_run))]
-pub fn drive<'a, W: Run, G: Gate, R: Wait>(
+pub fn drive<'a, W: Run, G: LineGate, R: Wait>(
     rt: &R,
     alloc: Global,
     cluster: &Cluster,
@@ -163,6 +169,7 @@ pub fn drive<'a, W: Run, G: Gate, R: Wait>(
 ) -> Result<Vec<LineNote>, Stop>
     requires can { CanDrive W.cancels cluster.now.nodes script.now }
     ensures ends { SameEnds ends.old ends.new }
+    ensures fails { IfErr result (IsCauseAt ends.new.inbox) }
     ensures notes { IfOk result (λ notes. AreNotes W.cancels (λ index. contains_by (λ k. bytes_eq index k.now) known.now) script.now notes.items) }
 {
     let mut book = Book::<W>::new(alloc, cluster, script, known);

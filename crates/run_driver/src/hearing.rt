@@ -1,5 +1,5 @@
 //! The driver sends letters and hears what comes.
-ghost use Rattle.std.specs.Prelude.{◌≡◌, ◌+◌, ◌<◌, ◌≤◌, ℕ, length, vec_len, OnOk, IfOk};
+ghost use Rattle.std.specs.Prelude.{◌≡◌, ◌+◌, ◌<◌, ◌≤◌, ℕ, length, vec_len, OnOk, IfOk, IfErr};
 ghost use Rattle.run_facts.specs.Cancels.{cancels_of};
 ghost use Rattle.line_print.specs.RunLines.{IsPrintable};
 ghost use Rattle.node_link.specs.Inbox.{IsSame};
@@ -7,6 +7,7 @@ ghost use Rattle.run_inboxes.specs.Ends.{SameEnds};
 ghost use Rattle.run_inboxes.specs.Pairs.{Pairwise};
 ghost use Rattle.run_book.specs.Entries.{Keeps, SameRun, is_known_to};
 ghost use Rattle.run_book.specs.Notes.{IsNoteAt};
+ghost use Rattle.run_driver.specs.Causes.{IsCauseAt};
 
 use crate::ends::place_of;
 use node_link::{Back, Letter, Sender};
@@ -21,7 +22,7 @@ use task_events::Stop;
 pub(crate) type Note<W> = Letter<Of<W>>;
 
 /// Takes a letter, if there is one, and tells the book. Where there is none another thread goes on.
-#[tactic(auto, using(run_inboxes::proofs::Same::same_ends, run_inboxes::proofs::Same::took))]
+#[tactic(auto, using(run_inboxes::proofs::Same::same_ends, run_inboxes::proofs::Same::took, crate::proofs::Causes::heard))]
 fn hear_some<W: Run, R: Wait>(
     rt: &R,
     ends: &mut Ends<Note<W>>,
@@ -32,6 +33,7 @@ fn hear_some<W: Run, R: Wait>(
     ensures run { SameRun book.old book.new }
     ensures begun { length book.new.entries.items ≡ length book.old.entries.items }
     ensures ends { SameEnds ends.old ends.new }
+    ensures fails { IfErr result (IsCauseAt ends.new.inbox) }
 {
     match ends.inbox.try_take(rt) {
         Some(letter) => book.hear(letter),
@@ -43,6 +45,7 @@ fn hear_some<W: Run, R: Wait>(
 }
 
 /// Waits for a letter, and tells the book.
+#[tactic(auto, using(crate::proofs::Causes::heard))]
 fn hear_next<W: Run, R: Wait>(
     rt: &R,
     ends: &mut Ends<Note<W>>,
@@ -53,6 +56,7 @@ fn hear_next<W: Run, R: Wait>(
     ensures run { SameRun book.old book.new }
     ensures begun { length book.new.entries.items ≡ length book.old.entries.items }
     ensures ends { SameEnds ends.old ends.new }
+    ensures fails { IfErr result (IsCauseAt ends.new.inbox) }
 {
     let letter = ends.inbox.take(rt);
     book.hear(letter)
@@ -102,6 +106,7 @@ fn send_at<W: Run, R: Wait>(
     ensures run { SameRun book.old book.new }
     ensures begun { length book.new.entries.items ≡ length book.old.entries.items }
     ensures ends { SameEnds ends.old ends.new }
+    ensures fails { IfErr result (IsCauseAt ends.new.inbox) }
 {
     let mut left = letter;
     for _ in rt.forever() {
@@ -127,6 +132,7 @@ fn send<W: Run, R: Wait>(
     ensures run { SameRun book.old book.new }
     ensures begun { length book.new.entries.items ≡ length book.old.entries.items }
     ensures ends { SameEnds ends.old ends.new }
+    ensures fails { IfErr result (IsCauseAt ends.new.inbox) }
 {
     let Post { to, letter } = post;
     match place_of(to) {
@@ -148,6 +154,7 @@ pub(crate) fn send_all<W: Run, R: Wait>(
     ensures run { SameRun book.old book.new }
     ensures begun { length book.new.entries.items ≡ length book.old.entries.items }
     ensures ends { SameEnds ends.old ends.new }
+    ensures fails { IfErr result (IsCauseAt ends.new.inbox) }
 {
     for post in posts {
         send(rt, ends, book, post)?;
@@ -168,6 +175,7 @@ pub(crate) fn wait_for_answer<W: Run, R: Wait>(
     ensures run { SameRun book.old book.new }
     ensures begun { length book.new.entries.items ≡ length book.old.entries.items }
     ensures ends { SameEnds ends.old ends.new }
+    ensures fails { IfErr result (IsCauseAt ends.new.inbox) }
 {
     for _ in rt.forever() {
         if book.is_answered(command) {
@@ -191,6 +199,7 @@ pub(crate) fn wait_for_root<W: Run, R: Wait>(
     ensures run { SameRun book.old book.new }
     ensures begun { length book.new.entries.items ≡ length book.old.entries.items }
     ensures ends { SameEnds ends.old ends.new }
+    ensures fails { IfErr result (IsCauseAt ends.new.inbox) }
 {
     for _ in rt.forever() {
         if book.knows_root(command) {
@@ -213,6 +222,7 @@ pub(crate) fn wait_for_pages<W: Run, R: Wait>(
     ensures run { SameRun book.old book.new }
     ensures begun { length book.new.entries.items ≡ length book.old.entries.items }
     ensures ends { SameEnds ends.old ends.new }
+    ensures fails { IfErr result (IsCauseAt ends.new.inbox) }
 {
     for command in book.take_paging() {
         wait_for_answer(rt, ends, book, command)?;
@@ -234,6 +244,7 @@ pub(crate) fn answer_of<W: Run, R: Wait>(
     ensures run { SameRun book.old book.new }
     ensures begun { length book.new.entries.items ≡ length book.old.entries.items }
     ensures ends { SameEnds ends.old ends.new }
+    ensures fails { IfErr result (IsCauseAt ends.new.inbox) }
     ensures printable { IfOk result (λ note. IsPrintable note.reply) }
     ensures note { IfOk result (λ note. (place : ℕ) → place + 1 ≡ command → IsNoteAt (cancels_of W.cancels) (is_known_to book.old) book.old.script.now place note) }
 {

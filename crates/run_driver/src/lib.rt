@@ -3,6 +3,8 @@
 
 mod commands;
 mod ends;
+mod gate;
 mod hearing;
 
 pub use commands::drive;
+pub use gate::{DriverGate, LineGate};

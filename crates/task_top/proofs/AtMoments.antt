@@ -11,7 +11,7 @@ use Rattle.world_moves.specs.Plain.{AnswersPlainly}
 use Rattle.world_moves.proofs.Parts.{earlier_plain, earlier_alone}
 use Rattle.world_steps.specs.Scripts.{IsRun, IsRunSoFar}
 use Rattle.task_top.specs.declared.kept.Kept.{Kept}
-use Rattle.task_top.specs.declared.status.Status.{Status}
+use Rattle.top_parts.specs.declared.status.Status.{Status}
 use Rattle.task_top.specs.Kept.{IsAfterReading, IsNothing, RanAsRead}
 use Rattle.task_top.proofs.EarlierRuns.{nothing_before}
 use Rattle.task_top.proofs.RanSoFar.{ran_so_far}

@@ -1,16 +1,13 @@
 pub mod AtMoments
 pub mod CancelLines
 pub mod EarlierRuns
-pub mod FaultsTold
 pub mod LackedNumbers
 pub mod LinesOfCommands
-pub mod NumberLemmas
 pub mod OneLine
 pub mod PagesBegun
 pub mod PrintedLines
 pub mod ProgressLemmas
 pub mod RanSoFar
-pub mod ReadingLaws
 pub mod Reasons
 pub mod RootEnds
 pub mod RootLaws

@@ -147,8 +147,8 @@ module _ (cluster : Cluster) (corpus : Corpus) (script : Script) (h : List Event
 
   module _ (node : ℕ) (body : Data) (slices : ℕ) (rate : Option ℕ) (opaque_id : Option Text) (lawful : Lawful cluster h) (drained : IsDrained h) (plain : AnswersPlainly cluster corpus script h)
       (count : IsSliceCount slices) (bounded : IsRate rate) (at : command_at script k ≡ Some (commands.Reindex node body slices rate opaque_id)) (done : HasDone cluster corpus script k (commands.Reindex node body slices rate opaque_id) h) where
-    asks_to_copy : (read : ReindexBody) → reindex_at body ≡ Ok read → (ask : ReindexAsk) → reindex_ask read slices rate ≡ Some ask → root_request script k (Begin k ∷ done.before) ≡ Some (asks.Reindex ask)
-    asks_to_copy read good ask is =
+    asks_to_copy : (what : ReindexBody) → reindex_at body ≡ Ok what → (ask : ReindexAsk) → reindex_ask what slices rate ≡ Some ask → root_request script k (Begin k ∷ done.before) ≡ Some (asks.Reindex ask)
+    asks_to_copy what good ask is =
         ap (λ (o : Option Command). option_and_then (λ command. request_in command (Begin k ∷ done.before)) o) at
         ∙ ap (λ (r : Result ReindexBody ReindexError). option_map asks.Reindex (option_and_then (λ x. reindex_ask x slices rate) (result_ok r))) good
         ∙ ap (λ (o : Option ReindexAsk). option_map asks.Reindex o) is

@@ -8,8 +8,8 @@ use Rattle.task_events.specs.declared.stop.Stop.TheVariants as stops
 use Rattle.script_lang.specs.declared.command.Script.{Script}
 use Rattle.world_steps.specs.Scripts.{IsRun, IsRunSoFar, StopsRun}
 use Rattle.task_top.specs.declared.kept.Kept.{Kept}
-use Rattle.task_top.specs.declared.status.Status.{Status}
-use Rattle.task_top.specs.declared.status.Status.TheVariants.{Done, Usage, Refused, ReadFault, WriteFault, Memory, NoThread, HistoryFull, NumbersSpent}
+use Rattle.top_parts.specs.declared.status.Status.{Status}
+use Rattle.top_parts.specs.declared.status.Status.TheVariants.{Done, Usage, Refused, ReadFault, WriteFault, Memory, NoThread, HistoryFull, NumbersSpent}
 use Rattle.task_top.specs.Kept.{HasCause, IsAfterReading, IsWholeOrNone, RanAsRead}
 
 module _ (cluster : Cluster) (whole : (c : Cluster) (corpus : Corpus) (script : Script) (h : List Event) → IsRun c corpus script h → IsRunSoFar c corpus script h) where

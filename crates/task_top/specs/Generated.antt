@@ -2,8 +2,8 @@
 use Rattle.std.specs.Prelude.{◌≡◌, ◌<◌, ℕ, List, Option, length, take}
 use Rattle.es_io.specs.Bytes.{Appends}
 use Rattle.script_lang.specs.Generator.{generated}
-use Rattle.task_top.specs.declared.status.Status.{Status}
-use Rattle.task_top.specs.declared.status.Status.TheVariants.{Done, WriteFault, Memory}
+use Rattle.top_parts.specs.declared.status.Status.{Status}
+use Rattle.top_parts.specs.declared.status.Status.TheVariants.{Done, WriteFault, Memory}
 
 -- what was written grew by exactly the input that the number makes, or by a first part of it, or not at all
 abbrev pub WritesInput : (number : ℕ) (old new : Option (List ℕ)) → Status → Type 0

@@ -1,7 +1,6 @@
 -- What the status of a call of `sim_top` says of the input, of what is kept, and of what was written.
 use Rattle.std.specs.Prelude.{◌≡◌, ◌<◌, ◌≤◌, ◌⊎◌, ℕ, List, [], Option, length, take}
 use Rattle.es_io.specs.Bytes.{Appends}
-use Rattle.es_io.specs.Count.{Rose}
 use Rattle.task_ids.specs.declared.cluster.Cluster.{Cluster}
 use Rattle.task_events.specs.declared.event.Event.{Event}
 use Rattle.task_events.specs.declared.history.TheConstants.{MAX_EVENTS}
@@ -10,12 +9,12 @@ use Rattle.task_events.specs.declared.stop.Stop.TheVariants as stops
 use Rattle.script_lang.specs.declared.command.Mode.TheVariants.{Sim}
 use Rattle.world_steps.specs.Scripts.{IsRun, IsRunSoFar, StopsRun}
 use Rattle.task_top.specs.declared.kept.Kept.{Kept}
-use Rattle.task_top.specs.declared.status.Status.{Status}
-use Rattle.task_top.specs.declared.status.Status.TheVariants.{Done, Usage, Refused, ReadFault, WriteFault, Memory, NoThread, HistoryFull, NumbersSpent}
+use Rattle.top_parts.specs.declared.status.Status.{Status}
+use Rattle.top_parts.specs.declared.status.Status.TheVariants.{Done, Usage, Refused, ReadFault, WriteFault, Memory, NoThread, HistoryFull, NumbersSpent}
 use Rattle.line_print.specs.Lines.{printed}
 use Rattle.task_top.specs.EachLine.{HasLines}
 use Rattle.task_top.specs.Promises.{IsOver}
-use Rattle.task_top.specs.Reading.{Reads, Refuses}
+use Rattle.top_parts.specs.Reading.{Reads, Refuses}
 
 -- nothing was read, and nothing happened
 pub record IsNothing (kept : Kept) : Type 0 where
@@ -91,18 +90,6 @@ module _ (cluster : Cluster) where
   IsWholeOrNone HistoryFull kept = (h : List Event) → IsRun cluster kept.corpus kept.script h → MAX_EVENTS < length h
   IsWholeOrNone NumbersSpent kept = (h : List Event) → IsRun cluster kept.corpus kept.script h → ⊥
   IsWholeOrNone _ kept = Unit {0}
-
--- A fault is told where its count rose in the call, and only there. A count at its type's end stands still and does not show it.
-abbrev pub TellsFault : (before after : ℕ) → Type 0 → Type 0
-TellsFault before after told = (before < after → told) × (told → Rose before after)
-
--- the input was read to its end
-abbrev pub IsReadWhole : Status → Type 0
-IsReadWhole Done = Unit {0}
-IsReadWhole WriteFault = Unit {0}
-IsReadWhole HistoryFull = Unit {0}
-IsReadWhole NumbersSpent = Unit {0}
-IsReadWhole _ = ⊥
 
 -- A whole run is over with all that it began.
 abbrev pub Rests : Status → Kept → Type 0

@@ -3,6 +3,4 @@ pub mod Generated
 pub mod Kept
 pub mod Progress
 pub mod Promises
-pub mod Reading
-pub mod Status
 pub mod Unharmed

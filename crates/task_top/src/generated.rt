@@ -2,10 +2,10 @@ ghost use Rattle.std.specs.Prelude.{◌<◌, ◌≡◌};
 ghost use Rattle.es_io.specs.Count.{Rose};
 ghost use Rattle.task_top.specs.Generated.{WritesInput};
 
-use crate::status::Status;
 use es_io::{Sink, write_all_of};
 use script_lang::generate;
 use std::alloc::Global;
+use top_parts::Status;
 
 /// Writes the input that a number makes, for `sim` and three nodes or more.
 ///

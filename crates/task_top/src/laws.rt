@@ -22,7 +22,7 @@ ghost use Rattle.write_laws.specs.Throttled.{KeepsToRates};
 ghost use Rattle.write_laws.specs.TreeWrites.{CountsItsWrites};
 ghost use Rattle.task_top.specs.EachLine.{HasLines};
 ghost use Rattle.task_top.specs.Promises.{CancelsExactly, KeepsAllLaws};
-ghost use Rattle.task_top.specs.Reading.{max_input, Reads, Refuses, IsRead, IsRefused};
+ghost use Rattle.top_parts.specs.Reading.{max_input, Reads, Refuses, IsRead, IsRefused};
 ghost use Rattle.task_top.specs.Unharmed.{AnswersWholly};
 
 use task_laws::{

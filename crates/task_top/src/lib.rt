@@ -4,9 +4,7 @@
 mod generated;
 mod kept;
 mod laws;
-mod reading;
 mod run;
-mod status;
 mod top;
 
 pub use command_line::{Plan, PlanError, plan};
@@ -15,6 +13,6 @@ pub use kept::Kept;
 pub use laws::{earlier_is_so_far, early_ends, limits, one_reading};
 pub use line_print::{Note, print_lines};
 pub use script_lang::{Command, Script};
-pub use status::Status;
 pub use task_ids::{Cause, Cluster};
 pub use top::sim_top;
+pub use top_parts::Status;

@@ -7,10 +7,11 @@ ghost use Rattle.command_roots.specs.Roots.{scripted};
 ghost use Rattle.world_moves.specs.Owning.{OneAtATime};
 ghost use Rattle.world_moves.specs.Plain.{AnswersPlainly};
 ghost use Rattle.world_steps.specs.Scripts.{CanRun};
-ghost use Rattle.task_top.specs.Kept.{AnswersInput, IsReadWhole, IsWholeOrNone, RanAsRead, Rests, TellsEach, WritesLines, HasCause, TellsFault, IsAfterReading, early_status};
+ghost use Rattle.task_top.specs.Kept.{AnswersInput, IsWholeOrNone, RanAsRead, Rests, TellsEach, WritesLines, HasCause, IsAfterReading, early_status};
 ghost use Rattle.task_top.specs.Progress.{EndsWhole};
 ghost use Rattle.task_top.specs.Promises.{AtEachMoment, KeepsAllLaws, CancelsExactly};
-ghost use Rattle.task_top.specs.Reading.{max_input};
+ghost use Rattle.top_parts.specs.Reading.{max_input};
+ghost use Rattle.top_parts.specs.Status.{IsReadWhole, TellsFault};
 ghost use Rattle.task_top.specs.Unharmed.{AnswersWholly};
 ghost use Rattle.write_laws.specs.CopiedAll.{CopiesItsRows};
 ghost use Rattle.write_laws.specs.Throttled.{KeepsToRates};
@@ -18,20 +19,16 @@ ghost use Rattle.write_laws.specs.TreeWrites.{CountsItsWrites};
 
 use crate::kept::Kept;
 use crate::laws::{all_laws, answer_laws, earlier_is_so_far, early_ends};
-use crate::reading::read_input;
 use crate::run::run_script;
-use crate::status::Status;
-use es_io::{ReadAll, Sink, Source, read_all, write_all_of};
+use es_io::{Sink, Source, write_all_of};
 use line_print::{Note, print_lines};
-use script_lang::{Script, ScriptError};
+use script_lang::{Mode, Script};
 use std::alloc::Global;
 use task_events::Stop;
 use task_ids::{Cause, Cluster, Corpus};
 use task_laws::earlier_is_lawful;
+use top_parts::{Status, Unread, read_whole};
 use world_steps::whole_is_so_far;
-
-/// How many bytes an input has at most.
-const MAX_INPUT: usize = 67_108_864;
 
 /// Reads an input to its end, runs its script step by step on a cluster, and writes the line of each command.
 ///
@@ -104,20 +101,13 @@ pub fn sim_top<S: Source, K: Sink>(
     all_laws();
     answer_laws();
     whole_is_so_far();
-    let bytes = match read_all(alloc, input, MAX_INPUT) {
-        Ok(bytes) => bytes,
-        Err(ReadAll::ReadFault) => return (Status::ReadFault, Kept::nothing(alloc)),
-        Err(ReadAll::TooLong(_)) => {
-            return (Status::Refused(0, Cause::TooLong), Kept::nothing(alloc));
-        }
-        Err(ReadAll::Memory) => return (Status::Memory, Kept::nothing(alloc)),
-    };
-    match read_input(alloc, cluster, bytes.as_slice()) {
+    match read_whole(alloc, Mode::Sim, cluster, input) {
         Ok((corpus, script)) => run_and_print(alloc, cluster, corpus, script, out),
-        Err(ScriptError::Bad { line, cause }) => {
+        Err(Unread::Refused { line, cause }) => {
             (Status::Refused(line, cause), Kept::nothing(alloc))
         }
-        Err(ScriptError::Memory { .. }) => (Status::Memory, Kept::nothing(alloc)),
+        Err(Unread::ReadFault) => (Status::ReadFault, Kept::nothing(alloc)),
+        Err(Unread::Memory) => (Status::Memory, Kept::nothing(alloc)),
     }
 }
 

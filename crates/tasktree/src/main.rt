@@ -1,4 +1,5 @@
-//! The program `tasktree`: it replays a script of task trees and prints one line of JSON for each command, or writes an input for that.
+//! The program `tasktree`: it replays a script of task trees or runs it over threads, and prints one line of JSON for each command, or writes an
+//! input for that.
 //!
 //! It reads standard input and writes to standard output. What went wrong stands on standard error, and the exit
 //! status says which kind it was.
@@ -6,7 +7,8 @@
 
 ghost use Rattle.std.specs.Prelude.{◌≡◌, ◌⊎◌, IfErr};
 
-use es_io::{StdSink, StdSource};
+use es_io::{OpenGate, StdSink, StdSource, ThreadSpawner};
+use run_top::run_top;
 use std::env;
 use std::io::ErrorKind;
 use std::mem::forget;
@@ -52,6 +54,22 @@ fn main(rt: HostRuntime) -> ExitCode {
             let mut out = StdSink::new(rt.stdout());
             let (status, kept) = sim_top(rt.alloc(), &cluster, &mut input, &mut out);
             // The process ends, and all of its memory with it; to free it piece by piece before that is work for nothing.
+            forget(kept);
+            status
+        }
+        Ok(Plan::Run(cluster)) => {
+            let mut input = StdSource::new(rt.stdin());
+            let mut out = StdSink::new(rt.stdout());
+            let mut spawner = ThreadSpawner::new();
+            let (status, kept) = run_top(
+                &rt,
+                rt.alloc(),
+                &cluster,
+                &mut input,
+                &mut out,
+                &mut spawner,
+                &OpenGate,
+            );
             forget(kept);
             status
         }

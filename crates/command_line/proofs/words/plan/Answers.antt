@@ -1,4 +1,4 @@
-use Rattle.std.proofs.Common.{◌∙◌, ap, inr, map, string_bytes, subst, sym}
+use Rattle.std.proofs.Common.{◌∙◌, ap, map, string_bytes, subst, sym, true≢false}
 use Rattle.command_line.specs.Plan.{asked_in}
 use Rattle.command_line.specs.Takes.{IsFound}
 use Rattle.command_line.proofs.TakenWords.{asked_where, told}
@@ -11,6 +11,4 @@ pub returns-in-Some-clause-plan : goal.returns-in-Some-clause-plan
 returns-in-Some-clause-plan c = asked_where (map string_bytes c.args.words.now) c.in_ok-matches.ensures.takes ∙ ap asked_in (sym c.in_ok-matches.ensures.rows) ∙ c.in-Some.ensures.plan
 
 pub returns-clause-usage : goal.returns-clause-usage
-returns-clause-usage c usage =
-    let run = c.in-None.ensures.run in
-    inr (run.0, asked_where (map string_bytes c.args.words.now) c.in_ok-matches.ensures.takes ∙ ap asked_in (sym c.in_ok-matches.ensures.rows) ∙ run.1)
+returns-clause-usage c usage = absurd (true≢false (sym c.in-None.ensures.some))

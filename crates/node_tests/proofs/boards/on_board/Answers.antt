@@ -1,6 +1,6 @@
 -- A new core belongs to a new seat, and a worker may go to another thread, since its seat and its gate may.
 use denote.Param.Send.{sendable}
-use Rattle.std.proofs.Common.{sym, ap, subst, ◌∙◌}
+use Rattle.std.proofs.Common.{ℕ, sym, ap, subst, ◌∙◌}
 use Rattle.std.proofs.Crossing.{crosses}
 use Rattle.control_worker.specs.View.{view_of, new_view}
 use Rattle.control_worker.proofs.Belonging.{together_new}
@@ -11,11 +11,12 @@ use Rattle.node_worker.proofs.control.ControlKind.TheSendSync as control
 use Rattle.node_tests.proofs.boards.on_board.Goals as goal
 
 pub new-control-requires-clause-together : goal.new-control-requires-clause-together
-new-control-requires-clause-together g c κs within = together_new _ _ _ (view_of c.in-Some.core) 1 c.requires.no_ban (c.in-Some.ensures ∙ ap (new_view 1) (sym c.requires.slots))
+new-control-requires-clause-together g c κs within = together_new _ _ _ (view_of c.in_ok-core.core) 1 c.requires.no_ban (c.in_ok-core.ensures.new ∙ ap (new_view 1) (sym c.requires.slots))
 
 pub new-data-requires-clause-fits : goal.new-data-requires-clause-fits
 new-data-requires-clause-fits g c κs within =
-    new_sound _ _ _ _ _ c.in-Some-2.own (subst (λ n. IsNewDataCore n c.in-Some-2.own) (sym c.requires.own) c.in-Some-2.ensures) c.requires.fresh
+    let own = c.in-Some.own in
+    new_sound _ _ _ _ _ own (subst (λ (n : ℕ). IsNewDataCore n own) (sym c.requires.own) c.in-Some.ensures) c.requires.fresh
 
 pub run-requires-send-C : goal.run-requires-send-C
 run-requires-send-C g c κs within = let s = c.type_bounds.send-C in let y = c.type_bounds.sync-G in search (control.the_send, sendable, crosses) depth 20

@@ -1,4 +1,3 @@
-use Rattle.std.proofs.Common.{◌≡◌, length}
 use Rattle.run_inboxes.specs.Ends.{SameEnds}
 use Rattle.run_book.specs.Entries.{Keeps, SameRun, is_known_to}
 use Rattle.run_driver.specs.Drives.{AreFirst}

@@ -1,4 +1,4 @@
-use Rattle.task_top.proofs.ReadingLaws.{either, too_long}
+use Rattle.top_parts.proofs.ReadingLaws.{either, too_long}
 use Rattle.task_top.proofs.laws.one_reading.Goals as goal
 
 pub returns-clause-either : goal.returns-clause-either

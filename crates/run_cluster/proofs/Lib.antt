@@ -1,0 +1,15 @@
+mod ControlStays
+mod DataStays
+mod Dealing
+mod Drained
+mod Emptied
+mod Fitting
+mod Fresh
+mod Holding
+mod Leaving
+mod Linked
+mod Manning
+mod NothingOut
+mod Staying
+mod Through
+mod Whole

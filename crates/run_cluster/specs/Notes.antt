@@ -1,0 +1,53 @@
+-- What is left of a cluster.
+use Rattle.std.specs.Prelude.{◌≡◌, ℕ, ◌+◌, ◌*◌, ◌≤◌, List, length, slice_get, Some}
+use Rattle.node_link.specs.declared.ends.Tally.{Tally}
+use Rattle.task_ids.specs.declared.board_name.BoardName as name
+use Rattle.race_board.specs.declared.closing.Closed.{Closed}
+use Rattle.run_cluster.specs.declared.boards.Seats.{Seats}
+use Rattle.run_cluster.specs.declared.notes.NodeNote.{NodeNote}
+use Rattle.run_cluster.specs.declared.notes.RunNotes.{RunNotes}
+use Rattle.run_cluster.specs.Closing.{IsClosedBoard}
+
+-- the note of that node, of what its board told and of its two inboxes, that of its control worker and then that of its data worker
+pub record IsNoteOf (boards : List Closed) (inboxes : List Tally) (before : ℕ) (note : NodeNote) : Type 0 where
+  pub node : note.node ≡ before + 1
+  pub board : slice_get boards before ≡ Some note.closed
+  pub control : slice_get inboxes (2 * before) ≡ Some note.control
+  pub own : slice_get inboxes (2 * before + 1) ≡ Some note.«data»
+
+-- each node has its note, in their order, and the driver the last inbox
+pub record AreNotesOf (boards : List Closed) (inboxes : List Tally) (notes : RunNotes) : Type 0 where
+  pub count : length notes.nodes.items ≡ length boards
+  pub each : (k : ℕ) (note : NodeNote) → slice_get notes.nodes.items k ≡ Some note → IsNoteOf boards inboxes k note
+  pub driver : slice_get inboxes (2 * length boards) ≡ Some notes.driver
+
+-- no more was taken than was sent
+abbrev pub IsTally : Tally → Type 0
+IsTally t = t.taken ≤ t.sent
+
+-- the note of a node, over the seats of its board
+pub record IsNote {N : Type 0} {G : name.Ghosts N} (seats : List (Seats N G)) (before : ℕ) (note : NodeNote) : Type 0 where
+  pub node : note.node ≡ before + 1
+  pub board : (s : Seats N G) → slice_get seats before ≡ Some s → IsClosedBoard s note.closed
+  pub control : IsTally note.control
+  pub own : IsTally note.«data»
+
+-- each node has its note, in their order
+pub record AreNotes {N : Type 0} {G : name.Ghosts N} (seats : List (Seats N G)) (notes : RunNotes) : Type 0 where
+  pub count : length notes.nodes.items ≡ length seats
+  pub each : (k : ℕ) (note : NodeNote) → slice_get notes.nodes.items k ≡ Some note → IsNote seats k note
+  pub driver : IsTally notes.driver
+
+-- nothing stands on the board of this node
+pub record IsClear (node : ℕ) (note : NodeNote) : Type 0 where
+  pub here : note.node ≡ node
+  pub live : note.closed.live ≡ 0
+  pub bans : note.closed.bans ≡ 0
+  pub control : IsTally note.control
+  pub own : IsTally note.«data»
+
+-- there is a note for each node, in their order, and nothing stands on any board
+pub record AreWhole (nodes : ℕ) (notes : RunNotes) : Type 0 where
+  pub count : length notes.nodes.items ≡ nodes
+  pub clear : (k : ℕ) (note : NodeNote) → slice_get notes.nodes.items k ≡ Some note → IsClear (k + 1) note
+  pub driver : IsTally notes.driver

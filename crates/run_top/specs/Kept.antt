@@ -1,0 +1,93 @@
+-- What the status of a call of `run_top` says of the input, of what is kept, and of what was written.
+use Rattle.std.specs.Prelude.{◌≡◌, ◌+◌, ◌<◌, ◌⊎◌, ℕ, List, [], Option, Some, is_some, true, length, take, slice_get}
+use Rattle.es_io.specs.Bytes.{Appends}
+use Rattle.task_ids.specs.declared.cluster.Cluster.{Cluster}
+use Rattle.script_lang.specs.declared.command.Command.{Command}
+use Rattle.script_lang.specs.declared.command.Mode.TheVariants.{Run}
+use Rattle.script_lang.specs.Targets.{is_at}
+use Rattle.command_roots.specs.Known.{is_known}
+use Rattle.top_parts.specs.declared.status.Status.{Status}
+use Rattle.top_parts.specs.declared.status.Status.TheVariants.{Done, Usage, Refused, ReadFault, WriteFault, Memory, NoThread, HistoryFull, NumbersSpent}
+use Rattle.top_parts.specs.Reading.{Reads, Refuses}
+use Rattle.run_book.specs.Notes.{cancel_in}
+use Rattle.run_driver.specs.Drives.{AreNotes}
+use Rattle.run_cluster.specs.declared.notes.NodeNote.{NodeNote}
+use Rattle.run_cluster.specs.Notes.{IsClear}
+use Rattle.run_top.specs.declared.kept.RunKept.{RunKept}
+use Rattle.run_top.specs.Lines.{printed}
+
+-- a cancel of the script has this number
+abbrev pub IsCancelOf : List Command → ℕ → Type 0
+IsCancelOf script k = is_at (λ command. is_some (cancel_in command)) script k ≡ true
+
+-- nothing came of what was read
+pub record IsUnrun (kept : RunKept) : Type 0 where
+  pub no_line : kept.lines ≡ []
+  pub no_node : kept.nodes ≡ []
+
+-- nothing was read, and nothing ran
+pub record IsNothing (kept : RunKept) : Type 0 where
+  pub no_corpus : kept.corpus.lines ≡ []
+  pub no_script : kept.script.commands ≡ []
+  pub unrun : IsUnrun kept
+
+-- there is a note for each node, in their order, and nothing stands on any board
+pub record AreClear (nodes : ℕ) (notes : List NodeNote) : Type 0 where
+  pub count : length notes ≡ nodes
+  pub clear : (k : ℕ) (note : NodeNote) → slice_get notes k ≡ Some note → IsClear (k + 1) note
+
+-- A whole run: each command has its note, which is what such a command may come to, and nothing is left on any node.
+pub record IsWhole (cluster : Cluster) (kept : RunKept) : Type 0 where
+  pub lines : AreNotes (IsCancelOf kept.script.commands) (is_known kept.corpus kept.script.commands) kept.script.commands kept.lines
+  pub nodes : AreClear cluster.nodes kept.nodes
+
+module _ (cluster : Cluster) where
+  -- the input was read as what is kept
+  abbrev pub ReadsAs : List ℕ → RunKept → Type 0
+  ReadsAs input kept = Reads Run cluster input kept.corpus kept.script
+
+  -- What the input is, given its bytes: it was read as what is kept, or it is refused so, or it was not read to its end.
+  abbrev pub AnswersInput : List ℕ → Status → RunKept → Type 0
+  AnswersInput input Done kept = ReadsAs input kept
+  AnswersInput input WriteFault kept = ReadsAs input kept
+  AnswersInput input NumbersSpent kept = ReadsAs input kept
+  AnswersInput input NoThread kept = ReadsAs input kept
+  AnswersInput input Memory kept = ReadsAs input kept ⊎ IsNothing kept
+  AnswersInput input (Refused line cause) kept = Refuses Run cluster input line cause
+  AnswersInput input ReadFault kept = IsNothing kept
+  AnswersInput input HistoryFull kept = ⊥
+  AnswersInput input Usage kept = ⊥
+
+  -- What is kept of the run: a whole one, or nothing.
+  abbrev pub RanAsRead : Status → RunKept → Type 0
+  RanAsRead Done kept = IsWhole cluster kept
+  RanAsRead WriteFault kept = IsWhole cluster kept
+  RanAsRead NumbersSpent kept = IsUnrun kept
+  RanAsRead NoThread kept = IsUnrun kept
+  RanAsRead Memory kept = IsUnrun kept
+  RanAsRead (Refused line cause) kept = IsNothing kept
+  RanAsRead ReadFault kept = IsNothing kept
+  RanAsRead HistoryFull kept = ⊥
+  RanAsRead Usage kept = ⊥
+
+  -- the lines that what is kept prints
+  abbrev pub lines_of : RunKept → List ℕ
+  lines_of kept = printed cluster kept.script.commands kept.lines
+
+  -- What was written grew by exactly the lines, or by a first part of them, or not at all.
+  abbrev pub WritesLines : Option (List ℕ) → Option (List ℕ) → Status → RunKept → Type 0
+  WritesLines old new Done kept = Appends old new (lines_of kept)
+  WritesLines old new WriteFault kept = (n : ℕ) × (n < length (lines_of kept)) × Appends old new (take n (lines_of kept))
+  WritesLines old new NumbersSpent kept = new ≡ old
+  WritesLines old new NoThread kept = new ≡ old
+  WritesLines old new Memory kept = new ≡ old
+  WritesLines old new (Refused line cause) kept = new ≡ old
+  WritesLines old new ReadFault kept = new ≡ old
+  WritesLines old new HistoryFull kept = ⊥
+  WritesLines old new Usage kept = ⊥
+
+-- it can come once the input was read
+abbrev pub IsAfterReading : Status → Type 0
+IsAfterReading (Refused line cause) = ⊥
+IsAfterReading ReadFault = ⊥
+IsAfterReading _ = Unit {0}
