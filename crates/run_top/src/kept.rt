@@ -9,7 +9,9 @@ use task_ids::{Corpus, Items};
 /// early end.
 #[derive(Drop)]
 pub struct RunKept {
+    /// The documents of the input.
     pub corpus: Corpus,
+    /// The commands of the input.
     pub script: Script,
     /// What each command came to, in order.
     pub lines: Items<LineNote>,
@@ -22,7 +24,7 @@ impl RunKept {
     ghost use Rattle.run_top.specs.Kept.{IsNothing, IsUnrun};
 
     /// What was read, where nothing came of it.
-    pub fn unrun(alloc: Global, corpus: Corpus, script: Script) -> RunKept
+    pub(crate) fn unrun(alloc: Global, corpus: Corpus, script: Script) -> RunKept
         ensures corpus { result.corpus ≡ corpus }
         ensures script { result.script ≡ script }
         ensures unrun { IsUnrun result }
@@ -36,7 +38,7 @@ impl RunKept {
     }
 
     /// Nothing was read, and nothing ran.
-    pub fn nothing(alloc: Global) -> RunKept
+    pub(crate) fn nothing(alloc: Global) -> RunKept
         ensures { IsNothing result }
     {
         let lines = Items::new(alloc);
