@@ -20,7 +20,8 @@ use Rattle.node_link.specs.declared.body.Asked.{Asked}
 use Rattle.node_link.specs.declared.body.Body.TheVariants as says
 use Rattle.node_link.specs.declared.body.Start.{Start}
 use Rattle.run_facts.specs.declared.To.TheVariants as to
-use Rattle.data_parts.specs.Slices.{Contexts, context_for, context_of_start, with_use_by}
+use Rattle.data_parts.specs.Slices.{Contexts, context_for, with_use_by}
+use Rattle.reply_facts.specs.Letters.{context_of_start}
 use Rattle.data_core.specs.declared.state.DataCore.{DataCore}
 use Rattle.data_core.specs.Letters.{page_at}
 use Rattle.data_core.specs.Turns.{Posts, post, OnlyTasks, Registers, Started, Requested}

@@ -1,5 +1,5 @@
 -- What a task asks for: it may, of a node that there is, and the letter says so.
-use Rattle.std.proofs.Common.{◌≡◌, ℕ, ◌%◌, ◌<◌, ◌≤◌, List, [], ◌∷◌, Option, Some, None, sym, ap, ◌∙◌, arith}
+use Rattle.std.proofs.Common.{◌≡◌, ℕ, ◌%◌, ◌<◌, ◌≤◌, true, List, [], ◌∷◌, Option, Some, None, sym, ap, ◌∙◌, subst, arith}
 use Rattle.std.specs.Option.{option_map_or}
 use Rattle.task_ids.specs.Limits.{IsNode}
 use Rattle.task_ids.specs.Placing.{node_of}
@@ -7,6 +7,7 @@ use Rattle.task_ids.specs.declared.cluster.Cluster.{Cluster}
 use Rattle.task_ids.specs.declared.task_id.TaskId.{TaskId}
 use Rattle.task_events.specs.Kinds.{kind_of, node_for}
 use Rattle.task_events.specs.declared.request.Request.{Request}
+use Rattle.task_work.specs.Works.{can_ask}
 use Rattle.task_ids.specs.declared.task_info.Headers.{Headers}
 use Rattle.child_track.specs.Token.{Token}
 use Rattle.node_link.specs.declared.body.Body.{Body}
@@ -37,6 +38,9 @@ node_there cluster t request = by (kind_of request).place
 pub can_ask_there : (o : Option Entry) → IsOpen o → MayAsk o → CanAsk o
 can_ask_there None is may = is
 can_ask_there (Some e) is may = (is, may)
+
+pub can_ask_now : (o : Option Entry) (e : Entry) → o ≡ Some e → MayAsk o → can_ask e.running.work (next_number e.running) ≡ true
+can_ask_now o e at may = subst MayAsk at may
 
 -- the letter that asks
 module _ (e x : Entry) (same : e ≡ x) (to : ℕ) (request : Request) where

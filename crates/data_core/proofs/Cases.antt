@@ -13,20 +13,19 @@ use Rattle.node_link.specs.Lawful as lawful
 use Rattle.node_link.specs.declared.page.Page.{Page}
 use Rattle.node_link.specs.declared.body.Place.{Place}
 use Rattle.run_facts.specs.Cancels.{cancels_of}
-use Rattle.held_shards.specs.declared.HeldShards.{HeldShards}
 use Rattle.live_tasks.specs.declared.entry.Entry.{Entry}
 use Rattle.live_tasks.specs.declared.live.LiveTasks.{LiveTasks}
 use Rattle.live_tasks.specs.declared.registering.Registered.{Registered}
 use Rattle.live_tasks.specs.declared.registering.Registered.TheVariants as outcomes
 use Rattle.live_tasks.specs.Live.{entry_at, number_at, count, ChangesAt, SameTasks, HasId}
 use Rattle.data_parts.specs.Slices.{Contexts, context_for}
+use Rattle.entry_facts.specs.Entries.{EachLive}
+use Rattle.entry_facts.proofs.Live.{changed_each, same_each}
 use Rattle.data_core.specs.declared.state.DataCore.{DataCore}
 use Rattle.data_core.specs.declared.requests.Admission.{Admission}
 use Rattle.data_core.specs.declared.requests.Admission.TheVariants.{PassedOver, Rejected, Taken}
 use Rattle.data_core.specs.Admitting.{admission_of, has_shard, may_use}
-use Rattle.data_core.specs.Cores.{IsGoodEntry, AreGood}
 use Rattle.data_core.specs.Letters.{registered_id, page_at}
-use Rattle.data_core.proofs.Good.{changed, unchanged}
 
 pub some_there : {X : Type 0} (o : Option X) → IsSome o → (x : X) × (o ≡ Some x)
 some_there None is = absurd (let f : false ≡ true = is in cc)
@@ -76,13 +75,13 @@ context_there contexts (asks.BulkShard ask) now may = refl
 
 -- ---- what a registration leaves
 
-module _ (allowed : ℕ → Type 0) (held : HeldShards) (old new : LiveTasks) (New : TaskId → Entry → Type 0) (Back : Option Token → Type 0) where
-  pub registered_good : (r : Result Registered Stop) → AreGood allowed held old → ((id : TaskId) (e : Entry) → New id e → IsGoodEntry allowed held e)
+module _ (P : Entry → Type 0) (old new : LiveTasks) (New : TaskId → Entry → Type 0) (Back : Option Token → Type 0) where
+  pub registered_each : (r : Result Registered Stop) → EachLive P old → ((id : TaskId) (e : Entry) → New id e → P e)
       → ((id : TaskId) → r ≡ Ok (outcomes.Task id) → (e : Entry) × New id e × ChangesAt (entry_at old) (entry_at new) id.number (Some e))
-      → ((t : Option Token) → r ≡ Ok (outcomes.Full t) → Back t × SameTasks old new) → OnErr r (SameTasks old new) → AreGood allowed held new
-  registered_good (Ok (outcomes.Task id)) good each task full err = let made = task id refl in changed allowed held old new id.number (Some made.0) good made.2 (each id made.0 made.1)
-  registered_good (Ok (outcomes.Full t)) good each task full err = unchanged allowed held old new good (full t refl).1.0
-  registered_good (Err e) good each task full err = unchanged allowed held old new good err.0
+      → ((t : Option Token) → r ≡ Ok (outcomes.Full t) → Back t × SameTasks old new) → OnErr r (SameTasks old new) → EachLive P new
+  registered_each (Ok (outcomes.Task id)) before each task full err = let made = task id refl in changed_each P old new before id.number (Some made.0) made.2 (each id made.0 made.1)
+  registered_each (Ok (outcomes.Full t)) before each task full err = same_each P old new before (full t refl).1.0
+  registered_each (Err e) before each task full err = same_each P old new before err.0
 
 pub registered_some : (w : Registered) (id : TaskId) → registered_id w ≡ Some id → w ≡ outcomes.Task id
 registered_some (outcomes.Task t) id e = let f : Some t ≡ Some id = e in cc

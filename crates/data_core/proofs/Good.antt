@@ -1,8 +1,6 @@
--- What a core keeps of each live task stays: where one task changes, comes or goes, and where a shard grows.
-use Rattle.std.proofs.Common.{◌≡◌, ◌≢◌, ℕ, ◌+◌, ◌⊎◌, inl, inr, true, false, [], ◌∷◌, Option, Some, None, sym, ap, subst, arith, ⊎_elim}
-use Rattle.std.specs.Prelude.{◌==◌, IfSome, unwrap_or}
-use Rattle.std.proofs.lemmas.Bool.{cases_Bool}
-use Rattle.std.proofs.lemmas.Bool.Decides.{nat_tests}
+-- What the letters of a live task rest on stays with each thing that its core notes of it.
+use Rattle.std.proofs.Common.{◌≡◌, ℕ, ◌+◌, [], ◌∷◌, Option, Some, None, sym, ap, subst, arith}
+use Rattle.std.specs.Prelude.{IfSome, unwrap_or}
 use Rattle.std.proofs.lemmas.List.{length-append, length-set}
 use Rattle.task_events.specs.declared.reply.Reply.{Reply}
 use Rattle.node_link.specs.Lawful.{IsCancelOfRun, IsLawfulReply}
@@ -11,37 +9,14 @@ use Rattle.node_parts.specs.Running.{next_number}
 use Rattle.task_work.specs.Works.{place_of, work_with_ask, work_with_answer}
 use Rattle.held_shards.specs.declared.HeldShards.{HeldShards}
 use Rattle.live_tasks.specs.declared.entry.Entry.{Entry}
-use Rattle.live_tasks.specs.declared.live.LiveTasks.{LiveTasks}
 use Rattle.live_tasks.specs.Entries.{passed, closed, after_look, after_ask, after_answer}
-use Rattle.live_tasks.specs.Live.{entry_at, ChangesAt}
 use Rattle.data_parts.specs.Steps.{HasCome, AsksBelow}
 use Rattle.data_parts.proofs.Moves.{asked_replies, answered_replies, asked_below, answered_below}
 use Rattle.data_parts.proofs.Grown.{asked_place, answered_place, asked_come, answered_come}
-use Rattle.data_core.specs.Cores.{IsGoodEntry, AreGood, writes_for}
-
--- ---- which tasks are live
-
-same_number : (m n : ℕ) → (m ≡ n) ⊎ (m ≢ n)
-same_number m n = ⊎_elim (λ yes. inl (let e : (m == n) ≡ true = yes in grind (arith, nat_tests))) (λ no. inr (let e : (m == n) ≡ false = no in λ (f : m ≡ n). grind (arith, nat_tests))) (cases_Bool (m == n))
+use Rattle.entry_facts.specs.Entries.{writes_for}
+use Rattle.data_core.specs.Cores.{IsGoodEntry}
 
 module _ (allowed : ℕ → Type 0) (held : HeldShards) where
-  abbrev Good : Option Entry → Type 0
-  Good o = IfSome o (IsGoodEntry allowed held)
-
-  pub changed : (old new : LiveTasks) (n : ℕ) (o : Option Entry) → AreGood allowed held old → ChangesAt (entry_at old) (entry_at new) n o → Good o → AreGood allowed held new
-  changed old new n o good changes g m = ⊎_elim
-      (λ same. subst (λ k. Good (entry_at new k)) (sym same) (subst Good (sym changes.0) g))
-      (λ other. subst Good (sym (changes.1 m other)) (good m))
-      (same_number m n)
-
-  pub unchanged : (old new : LiveTasks) → AreGood allowed held old → ((n : ℕ) → entry_at new n ≡ entry_at old n) → AreGood allowed held new
-  unchanged old new good same m = subst Good (sym (same m)) (good m)
-
-  pub good_at : (live : LiveTasks) (n : ℕ) (e : Entry) → AreGood allowed held live → entry_at live n ≡ Some e → IsGoodEntry allowed held e
-  good_at live n e good is = subst Good is (good n)
-
-  -- ---- one task
-
   pub passed_good : (e : Entry) → IsGoodEntry allowed held e → IsGoodEntry allowed held (passed e)
   passed_good e g = record { place = g.place; mark = g.mark; page = g.page; replies = g.replies; asks = g.asks; come = g.come }
 

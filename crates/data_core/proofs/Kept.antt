@@ -4,9 +4,9 @@ use Rattle.live_tasks.specs.declared.entry.Entry.{Entry}
 use Rattle.live_tasks.specs.declared.live.LiveTasks.{LiveTasks}
 use Rattle.live_tasks.specs.Live.{entry_at, ChangesAt, ChangesTask, SameCore}
 use Rattle.live_tasks.specs.Ties.{Together}
+use Rattle.entry_facts.proofs.Live.{changed_each, each_at}
 use Rattle.data_core.specs.declared.state.DataCore.{DataCore}
 use Rattle.data_core.specs.Cores.{IsSound, IsGoodEntry}
-use Rattle.data_core.proofs.Good.{changed, good_at}
 use Rattle.data_core.proofs.Sound.{tasks_sound}
 
 module _ (allowed : ℕ → Type 0) (n m : ℕ) (has held : ℕ → ℕ → Type 0) (drawn unused : Option ℕ) (clear passed : ℕ → Type 0) (old : DataCore) (live : LiveTasks) where
@@ -14,8 +14,8 @@ module _ (allowed : ℕ → Type 0) (n m : ℕ) (has held : ℕ → ℕ → Type
       → (IsGoodEntry allowed old.shards e → IsGoodEntry allowed old.shards f) → IsSound allowed m held unused passed (record old { live = live })
   change_sound k e f sound together core at change good =
       tasks_sound allowed n m has held drawn unused clear passed old live sound together core
-      (changed allowed old.shards old.live live k (Some f) sound.good change.0 (good (good_at allowed old.shards old.live k e sound.good at)))
+      (changed_each (IsGoodEntry allowed old.shards) old.live live sound.good k (Some f) change.0 (good (each_at (IsGoodEntry allowed old.shards) old.live sound.good k e at)))
 
   pub gone_sound : (k : ℕ) → IsSound allowed n has drawn clear old → Together m held unused passed live → SameCore old.live live → ChangesAt (entry_at old.live) (entry_at live) k None → IsSound allowed m held unused passed (record old { live = live })
   gone_sound k sound together core gone =
-      tasks_sound allowed n m has held drawn unused clear passed old live sound together core (changed allowed old.shards old.live live k None sound.good gone tt)
+      tasks_sound allowed n m has held drawn unused clear passed old live sound together core (changed_each (IsGoodEntry allowed old.shards) old.live live sound.good k None gone tt)

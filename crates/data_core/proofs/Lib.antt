@@ -1,7 +1,9 @@
 pub mod Good
 pub mod Shards
 pub mod Sound
+pub mod Beginning
 pub mod News
+pub mod NewsOfRun
 pub mod Fed
 pub mod Cases
 pub mod Turned
@@ -9,6 +11,7 @@ pub mod Listed
 pub mod Kept
 pub mod Admitted
 pub mod Working
+pub mod WorkingOn
 pub mod Stepping
 pub mod Ending
 pub mod Planning

@@ -1,5 +1,5 @@
 -- What a core keeps of a task that has just been registered.
-use Rattle.std.proofs.Common.{◌≡◌, ℕ, Bool, true, false, ◌&&◌, List, length, Option, Some, None, refl, sym, ap, ◌∙◌, subst, arith}
+use Rattle.std.proofs.Common.{◌≡◌, ℕ, true, false, List, length, Option, Some, None, refl, sym, ap, ◌∙◌, subst, arith}
 use Rattle.std.specs.Prelude.{is_some, option_copied, ◌≤◌, Result, Ok, OnErr}
 use Rattle.std.proofs.lemmas.Bool.Decides.{nat_tests}
 use Rattle.task_ids.specs.declared.task_id.TaskId.{TaskId}
@@ -24,8 +24,9 @@ use Rattle.task_events.specs.declared.stop.Stop.{Stop}
 use Rattle.data_parts.specs.Steps.{HasCome, ReadsHeld}
 use Rattle.data_parts.proofs.Moves.{new_replies, new_below}
 use Rattle.data_parts.proofs.Grown.{new_place, new_within}
-use Rattle.data_core.specs.Cores.{IsGoodEntry, AreGood, writes_for}
-use Rattle.data_core.proofs.Cases.{registered_good}
+use Rattle.entry_facts.specs.Entries.{writes_for}
+use Rattle.data_core.specs.Cores.{IsGoodEntry, AreGood}
+use Rattle.data_core.proofs.Cases.{registered_each}
 use Rattle.data_core.specs.Admitting.{has_shard, has_version}
 use Rattle.held_shards.proofs.Rows.{both_true}
 
@@ -75,6 +76,6 @@ module _ (allowed : ℕ → Type 0) (held : HeldShards) (old live : LiveTasks) (
       → ((t : Option Token) → r ≡ Ok (outcomes.Full t) → (t ≡ token) × SameTasks old live) → OnErr r (SameTasks old live)
       → IsPlace wanted.place → is_some (option_copied wanted.page) ≡ is_page (as_answered wanted.request.now) → has_shard held wanted.request.now ≡ true → AreGood allowed held live
   tasks_good good entry full err place page has =
-      registered_good allowed held old live (λ id e. IsNewEntry id token wanted shards now e) (λ t. t ≡ token) r good
+      registered_each (IsGoodEntry allowed held) old live (λ id e. IsNewEntry id token wanted shards now e) (λ t. t ≡ token) r good
       (λ id e new. new_good allowed held id token wanted shards now e new place page has)
       entry full err

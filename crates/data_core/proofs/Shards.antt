@@ -1,6 +1,6 @@
 -- What a core keeps of its live tasks stays where one of its shards grows.
 use Rattle.std.proofs.Common.{◌≡◌, ℕ, Bool, true, false, ◌&&◌, List, [], ◌∷◌, ◌++◌, Option, Some, None, refl, sym, ap, ◌∙◌, subst, arith}
-use Rattle.std.specs.Prelude.{◌==◌, IfSome}
+use Rattle.std.specs.Prelude.{◌==◌}
 use Rattle.std.specs.Str.{bytes_eq}
 use Rattle.std.proofs.lemmas.Bool.Decides.{nat_tests}
 use Rattle.std.proofs.lemmas.Slice.Eq.{bytes_eq-Decides}
@@ -13,10 +13,11 @@ use Rattle.held_shards.specs.declared.HeldShards.{HeldShards}
 use Rattle.held_shards.specs.Held.{shard_at, SameShards, Replaces}
 use Rattle.live_tasks.specs.declared.entry.Entry.{Entry}
 use Rattle.live_tasks.specs.declared.live.LiveTasks.{LiveTasks}
-use Rattle.live_tasks.specs.Live.{entry_at}
 use Rattle.data_parts.specs.Steps.{HasCome}
 use Rattle.data_parts.proofs.Grown.{come_grown}
-use Rattle.data_core.specs.Cores.{IsGoodEntry, AreGood, writes_for}
+use Rattle.entry_facts.specs.Entries.{writes_for}
+use Rattle.entry_facts.proofs.Live.{weaker_each}
+use Rattle.data_core.specs.Cores.{IsGoodEntry, AreGood}
 use Rattle.held_shards.proofs.Rows.{both_true}
 
 -- the writes of each shard are those before and some more
@@ -57,9 +58,5 @@ module _ (allowed : ℕ → Type 0) (old new : HeldShards) (grown : HaveGrown ol
   pub grown_good : (e : Entry) → IsGoodEntry allowed old e → IsGoodEntry allowed new e
   grown_good e g = record { place = g.place; mark = g.mark; page = g.page; replies = g.replies; asks = g.asks; come = come_on e.running.ticket.id e.running.work g.come }
 
-  if_grown : (o : Option Entry) → IfSome o (IsGoodEntry allowed old) → IfSome o (IsGoodEntry allowed new)
-  if_grown None g = tt
-  if_grown (Some e) g = grown_good e g
-
   pub all_grown : (live : LiveTasks) → AreGood allowed old live → AreGood allowed new live
-  all_grown live good n = if_grown (entry_at live n) (good n)
+  all_grown live good = weaker_each (IsGoodEntry allowed old) (IsGoodEntry allowed new) grown_good live good

@@ -53,6 +53,10 @@ tasks_self old live core = record { node = refl; worker = refl; cluster = refl; 
 pub stays_so : (P : Option Entry → Type 0) (a b : LiveTasks) (n : ℕ) (e : Entry) → entry_at a n ≡ Some e → ChangesTask a b n e → P (entry_at a n) → P (entry_at b n)
 stays_so P a b n e at change p = subst P (at ∙ sym change.0.0) p
 
+-- and it was so before
+pub stays_back : (a b : LiveTasks) (n : ℕ) (e f : Entry) → entry_at a n ≡ Some e → ChangesTask a b n e → entry_at b n ≡ Some f → entry_at a n ≡ Some f
+stays_back a b n e f at change is = at ∙ sym change.0.0 ∙ is
+
 module _ {B : Type 0} (rests : B → B → DataCall → Type 0) (e : Entry) (b d : B) (old : DataCore) (live : LiveTasks) (t : TaskId) (id : e.running.ticket.id ≡ t) (given : Given) (new : DataCore) (c : B) where
   abbrev mid : DataCore
   mid = record old { live = live }

@@ -27,12 +27,12 @@ module _ {B : Type 0} (rests : B → B → DataCall → Type 0) where
   pub fed_answers : {P E : Type 0} (r : Result P E) (items : P → Posts) (a : Answered) (b : B) (old new : DataCore) (c : B) → IfOk r (λ p. items p ≡ [])
       → ((e : Entry) → asker old.live a.receipt.parent ≡ Some e → OnOk r (ChangesTask old.live new.live e.running.ticket.id.number (after_answer e a.receipt.ask a.reply old.clock.ms)))
       → ((e : Entry) → asker old.live a.receipt.parent ≡ Some e → OnOk r (Chain rests b (untracking e.running.ticket (left_by e.running.track a.receipt.ask)) c))
-      → OnlyTasks old new → Fits old.live a.receipt a.place a.reply → IfOk r (λ p. Answers rests a b old (items p) new c)
+      → OnlyTasks old new → Fits old.live a.receipt a.place a.request a.reply → IfOk r (λ p. Answers rests a b old (items p) new c)
   fed_answers (Ok p) items a b old new c none taken calls rest fits = record { none = none; taken = λ f e at. (taken e at, calls e at); passed = λ none_fits. absurd (none_fits fits); rest = rest }
   fed_answers (Err e) items a b old new c none taken calls rest fits = tt
 
   -- one that does not was passed over
-  pub passed_answers : (a : Answered) (b : B) (old : DataCore) (posts : Posts) → posts ≡ [] → (Fits old.live a.receipt a.place a.reply → ⊥) → Answers rests a b old posts old b
+  pub passed_answers : (a : Answered) (b : B) (old : DataCore) (posts : Posts) → posts ≡ [] → (Fits old.live a.receipt a.place a.request a.reply → ⊥) → Answers rests a b old posts old b
   passed_answers a b old posts none none_fits = record { none = none; taken = λ fits. absurd (none_fits fits); passed = λ also. record { none = none; same = refl; uncalled = refl }; rest = refl }
 
   -- a task has ended, and its letters are sent

@@ -1,5 +1,6 @@
 -- A core stays sound where one of its tasks takes a turn over its shard, also where the turn broke off.
-use Rattle.std.proofs.Common.{◌≡◌, ℕ, ◌<◌, List, [], ◌++◌, length, take, Option, Some, None, refl, sym, ap, ◌∙◌, subst}
+use Rattle.std.proofs.Common.{◌≡◌, ℕ, ◌<◌, List, [], ◌++◌, length, take, Option, Some, None, refl, sym, ap, ◌∙◌, subst, arith}
+use Rattle.std.specs.Prelude.{IfOk, Ok, Result, vec_len}
 use Rattle.std.specs.List.{position_or_len}
 use Rattle.task_ids.specs.declared.doc.Doc.{Doc}
 use Rattle.shard_docs.specs.ShardView.{ShardView}
@@ -22,10 +23,11 @@ use Rattle.data_parts.proofs.Grown.{turned_place, turned_come, lost_place, lost_
 use Rattle.data_parts.proofs.Lost.{lost_keeps}
 use Rattle.data_parts.proofs.Moves.{turned_replies, turned_below}
 use Rattle.data_core.specs.declared.state.DataCore.{DataCore}
-use Rattle.data_core.specs.Cores.{IsSound, IsGoodEntry, SameSelf, writes_for}
+use Rattle.entry_facts.specs.Entries.{writes_for}
+use Rattle.entry_facts.proofs.Live.{changed_each, each_at}
+use Rattle.data_core.specs.Cores.{IsSound, IsGoodEntry, SameSelf}
 use Rattle.data_core.specs.Plans.{TurnsNext}
 use Rattle.data_core.specs.Steps.{Given, Works, number_of}
-use Rattle.data_core.proofs.Good.{changed, good_at}
 use Rattle.data_core.proofs.Shards.{HaveGrown, same_grown, one_grown, all_grown}
 use Rattle.data_core.proofs.Sound.{sound_stays}
 
@@ -75,11 +77,19 @@ pub record IsTurnAt (old : DataCore) (held : HeldShards) (at : ℕ) (s : ShardVi
   pub within : at < length held.rows.items
   pub over : s ≡ shard_of_row held at
 
+pub turn_at : {E : Type 0} (old : DataCore) (held : HeldShards) (at : ℕ) (s : ShardView) (e : Entry) (index name : List ℕ) (number : ℕ) (r : Result ℕ E) → Some (index, number) ≡ place_of e.running.work → name ≡ index → SameShards old.shards held → held.numbers ≡ old.shards.numbers
+    → IfOk r (λ n. (n ≡ position_or_len (is_row name number) held.rows.items) × (n < vec_len held.rows)) → r ≡ Ok at → s ≡ shard_of_row held at → IsTurnAt old held at s e
+turn_at old held at s e index name number r is same_name same numbers found ok over =
+    let place = subst (λ q. IfOk q (λ n. (n ≡ position_or_len (is_row name number) held.rows.items) × (n < vec_len held.rows))) ok found in
+    let low : at < vec_len held.rows = place.1 in
+    let within : at < length held.rows.items = omega (arith, low, held.rows.ok.0) in
+    record { index = name; number = number; placed = sym is ∙ ap (λ q. Some (q, number)) (sym same_name); same = same; numbers = numbers; found = place.0; within = within; over = over }
+
 module _ (old : DataCore) (held : HeldShards) (at : ℕ) (s : ShardView) (e : Entry) (turn : IsTurnAt old held at s e) where
-  its_shard : s ≡ shard_at old.shards turn.index turn.number
+  pub its_shard : s ≡ shard_at old.shards turn.index turn.number
   its_shard = turn.over ∙ ap (shard_of_row held) turn.found ∙ turn.same turn.index turn.number
 
-  over_writes : s.writes ≡ writes_for old.shards (place_of e.running.work)
+  pub over_writes : s.writes ≡ writes_for old.shards (place_of e.running.work)
   over_writes = ap (λ (x : ShardView). x.writes) its_shard ∙ sym (ap (writes_for old.shards) turn.placed)
 
   -- it takes a turn over that shard
@@ -93,7 +103,7 @@ module _ (old : DataCore) (held : HeldShards) (at : ℕ) (s : ShardView) (e : En
     abbrev after : HeldShards
     after = with_shard held at left
 
-    replaces : Replaces turn.index turn.number left old.shards after
+    pub replaces : Replaces turn.index turn.number left old.shards after
     replaces =
         let index = turn.index in
         let number = turn.number in
@@ -133,7 +143,7 @@ module _ (old : DataCore) (held : HeldShards) (at : ℕ) (s : ShardView) (e : En
       worked_sound : HaveGrown old.shards after → (IsGoodEntry allowed old.shards e → IsGoodEntry allowed after (with_work e w)) → IsSound allowed node has drawn clear new
       worked_sound more good =
           sound_stays allowed node has drawn clear old new sound stays worked_self
-          (changed allowed after old.live live k (Some (with_work e w)) (all_grown allowed old.shards after more old.live sound.good) change.0 (good (good_at allowed old.shards old.live k e sound.good is)))
+          (changed_each (IsGoodEntry allowed after) old.live live (all_grown allowed old.shards after more old.live sound.good) k (Some (with_work e w)) change.0 (good (each_at (IsGoodEntry allowed old.shards) old.live sound.good k e is)))
 
       -- it has taken a turn
       pub turned_sound : TurnedOn e.running.work w s.writes left.writes → IsSound allowed node has drawn clear new

@@ -1,22 +1,16 @@
 -- What a core keeps of its tasks and shards, and that it belongs to its seat at the board.
-use Rattle.std.specs.Prelude.{◌≡◌, ℕ, List, [], Option, None, Some, IfSome, is_some}
-use Rattle.task_ids.specs.declared.doc.Doc.{Doc}
+use Rattle.std.specs.Prelude.{◌≡◌, ℕ, Option, IfSome, is_some}
 use Rattle.node_link.specs.Lawful.{IsPlace, IsWorker, IsCancelOfRun, is_page}
 use Rattle.node_parts.specs.Running.{next_number}
 use Rattle.task_work.specs.Works.{place_of}
 use Rattle.held_shards.specs.declared.HeldShards.{HeldShards}
-use Rattle.held_shards.specs.Held.{shard_at}
 use Rattle.live_tasks.specs.declared.entry.Entry.{Entry}
 use Rattle.live_tasks.specs.declared.live.LiveTasks.{LiveTasks}
-use Rattle.live_tasks.specs.Live.{entry_at, SameCore}
+use Rattle.live_tasks.specs.Live.{SameCore}
 use Rattle.live_tasks.specs.Ties.{Together, IsNewCore}
 use Rattle.data_parts.specs.Steps.{HasLawfulReplies, AsksBelow, HasCome}
+use Rattle.entry_facts.specs.Entries.{EachLive, writes_for}
 use Rattle.data_core.specs.declared.state.DataCore.{DataCore}
-
--- the writes of the shard on which a task works, where it works on one
-abbrev pub writes_for : HeldShards → Option (List ℕ × ℕ) → List Doc
-writes_for held None = []
-writes_for held (Some place) = (shard_at held place.0 place.1).writes
 
 -- A live task whose letters are lawful: its place, its mark, its page and the failures that its answers tell. It asks with rising numbers, and has come so far by turns over its shard.
 pub record IsGoodEntry (allowed : ℕ → Type 0) (held : HeldShards) (e : Entry) : Type 0 where
@@ -29,7 +23,7 @@ pub record IsGoodEntry (allowed : ℕ → Type 0) (held : HeldShards) (e : Entry
 
 -- so is each live task
 abbrev pub AreGood : (ℕ → Type 0) → HeldShards → LiveTasks → Type 0
-AreGood allowed held live = (n : ℕ) → IfSome (entry_at live n) (IsGoodEntry allowed held)
+AreGood allowed held live = EachLive (IsGoodEntry allowed held) live
 
 -- A core keeps this of its tasks, and belongs to a seat of its node's board.
 pub record IsSound (allowed : ℕ → Type 0) (node : ℕ) (has : ℕ → ℕ → Type 0) (drawn : Option ℕ) (clear : ℕ → Type 0) (core : DataCore) : Type 0 where

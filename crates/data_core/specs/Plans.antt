@@ -9,7 +9,7 @@ use Rattle.live_tasks.specs.Answering.{TakesTurn}
 use Rattle.data_parts.specs.declared.clock.Clock.{Clock}
 use Rattle.data_parts.specs.Clocks.{moment_by}
 use Rattle.data_parts.specs.Steps.{takes_turn}
-use Rattle.data_core.specs.Cores.{writes_for}
+use Rattle.entry_facts.specs.Entries.{writes_for}
 
 -- one that has passed and whose plan, its mark left aside, is a turn of work
 abbrev pub does_work : Option Entry → Bool

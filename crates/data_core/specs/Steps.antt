@@ -31,8 +31,8 @@ use Rattle.data_parts.specs.Places.{child_place}
 use Rattle.data_parts.specs.Slices.{Settles}
 use Rattle.data_parts.specs.declared.ending.Ending.{Ending}
 use Rattle.data_parts.specs.declared.ending.Ending.TheVariants.{Refused, Marked, Finished}
+use Rattle.entry_facts.specs.Entries.{writes_for}
 use Rattle.data_core.specs.declared.state.DataCore.{DataCore}
-use Rattle.data_core.specs.Cores.{writes_for}
 use Rattle.data_core.specs.Plans.{plan_for}
 use Rattle.data_core.specs.Turns.{Posts, post, OnlyTasks}
 

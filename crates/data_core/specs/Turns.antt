@@ -29,7 +29,8 @@ use Rattle.live_tasks.specs.Entries.{after_look, after_answer}
 use Rattle.live_tasks.specs.Live.{entry_at, number_at, ChangesAt, ChangesTask, SameTasks, IsBeyond}
 use Rattle.live_tasks.specs.Registers.{IsNewEntry, registering}
 use Rattle.data_parts.specs.Clocks.{last_moment}
-use Rattle.data_parts.specs.Slices.{context_for, context_of_start, with_use_by}
+use Rattle.data_parts.specs.Slices.{context_for, with_use_by}
+use Rattle.reply_facts.specs.Letters.{context_of_start}
 use Rattle.data_core.specs.declared.state.DataCore.{DataCore}
 use Rattle.data_core.specs.declared.requests.Admission.{Admission}
 use Rattle.data_core.specs.declared.requests.Admission.TheVariants.{PassedOver, Rejected, Taken}
@@ -115,10 +116,10 @@ module _ {B : Type 0} (rests : B → B → DataCall → Type 0) where
   -- the task that asked takes it, where it fits, and else it is passed over
   pub record Answers (a : Answered) (b : B) (old : DataCore) (posts : Posts) (new : DataCore) (c : B) : Type 0 where
     pub none : posts ≡ []
-    pub taken : Fits old.live a.receipt a.place a.reply → (e : Entry) → asker old.live a.receipt.parent ≡ Some e
+    pub taken : Fits old.live a.receipt a.place a.request a.reply → (e : Entry) → asker old.live a.receipt.parent ≡ Some e
         → ChangesTask old.live new.live e.running.ticket.id.number (after_answer e a.receipt.ask a.reply old.clock.ms)
         × Chain rests b (untracking e.running.ticket (left_by e.running.track a.receipt.ask)) c
-    pub passed : (Fits old.live a.receipt a.place a.reply → ⊥) → PassesOver b old posts new c
+    pub passed : (Fits old.live a.receipt a.place a.request a.reply → ⊥) → PassesOver b old posts new c
     pub rest : OnlyTasks old new
 
   -- ---- lists

@@ -3,8 +3,11 @@ ghost use Rattle.std.specs.Prelude.{◌≡◌, IfOk, IfErr, IsSome, Some, option
 ghost use Rattle.task_ids.specs.Limits.{IsNode};
 ghost use Rattle.live_tasks.specs.declared.entry.Entry.{Entry};
 ghost use Rattle.live_tasks.specs.Live.{HasId, entry_at};
+ghost use Rattle.reply_facts.specs.Letters.{IsAnswerAt};
+ghost use Rattle.entry_facts.specs.Entries.{EndsByPlan, IsCoreOfRun};
 ghost use Rattle.data_core.specs.Cores.{IsSound, SameSelf};
 ghost use Rattle.data_core.specs.Letters.{IsLawfulEnding, IsLawfulEnd};
+ghost use Rattle.data_core.specs.Plans.{plan_for};
 ghost use Rattle.data_core.specs.Steps.{Finishes, answer_to, letters_of, shown_by};
 ghost use Rattle.run_facts.specs.Cancels.{cancels_of};
 
@@ -28,9 +31,12 @@ pub(crate) fn finish<W: Run, B: DataBoard<Of<W>>>(
     ending: Ending,
 ) -> Result<Option<Vec<Post<Letter<Of<W>>>>>, Stop>
     requires sound { IsSound (cancels_of W.cancels) (B.node board.old) (B.has board.old) (B.drawn board.old) (B.clear board.old) core.old }
+    requires of_run { IsCoreOfRun W.setting core.old.cluster.shards core.old.shards core.old.live }
     requires live { HasId task (entry_at core.old.live task.number) }
     requires ending { IsLawfulEnding (cancels_of W.cancels) ending }
+    requires planned { (e : Entry) → entry_at core.old.live task.number ≡ Some e → EndsByPlan (plan_for core.old.shards core.old.clock e) ending }
     ensures sound { IsSound (cancels_of W.cancels) (B.node board.new) (B.has board.new) (B.drawn board.new) (B.clear board.new) core.new }
+    ensures of_run { IsCoreOfRun W.setting core.new.cluster.shards core.new.shards core.new.live }
     ensures own { SameSelf core.old core.new }
     ensures memory { IfErr result (λ stop. stop ≡ Stop.Memory) }
     ensures steps { (e : Entry) → entry_at core.old.live task.number ≡ Some e → IfOk result (λ given. Finishes B.rests ending e board.old core.old (option_map (λ posts. posts.items) given) core.new board.new) }
@@ -76,6 +82,7 @@ fn letters_of<W: Run>(
 ) -> Result<Vec<Post<Letter<Of<W>>>>, Stop>
     requires node { IsNode node }
     requires lawful { IsLawfulEnd (cancels_of W.cancels) left reply }
+    requires tells { IsAnswerAt W.setting left.place left.request left.page reply }
     requires task { IsSome ended.receipt.task }
     ensures posts { IfOk result (λ posts. posts.items ≡ letters_of node left ended.receipt reply ended.mark) }
     ensures memory { IfErr result (λ stop. stop ≡ Stop.Memory) }
@@ -96,6 +103,7 @@ fn letters_of<W: Run>(
 /// The answer of a task that has ended, to its parent's node, or a root's to the driver.
 fn answer<W: Run>(left: EndedTask, ended: Ended, reply: Reply) -> Post<Letter<Of<W>>>
     requires lawful { IsLawfulEnd (cancels_of W.cancels) left reply }
+    requires tells { IsAnswerAt W.setting left.place left.request left.page reply }
     ensures { result ≡ answer_to ended.receipt.parent left ended.receipt reply }
 {
     let EndedTask {

@@ -2,6 +2,7 @@
 ghost use Rattle.data_core.specs.Turns.{Tells, post, through};
 ghost use Rattle.std.specs.Prelude.{◌≡◌, IfOk, IfErr, All, filter};
 ghost use Rattle.data_core.specs.Cores.{IsSound, SameSelf};
+ghost use Rattle.entry_facts.specs.Entries.{IsCoreOfRun};
 ghost use Rattle.node_link.specs.Lawful.{IsCancelOfRun, IsCommand, IsLawfulRow, IsWorker};
 ghost use Rattle.task_ids.specs.Limits.{IsNode};
 ghost use Rattle.run_facts.specs.Cancels.{cancels_of};
@@ -42,8 +43,10 @@ pub(crate) fn list<W: Run, B: DataBoard<Of<W>>>(
     command: u32,
 ) -> Result<Vec<Post<Letter<Of<W>>>>, Stop>
     requires sound { IsSound (cancels_of W.cancels) (B.node board.old) (B.has board.old) (B.drawn board.old) (B.clear board.old) core.old }
+    requires of_run { IsCoreOfRun W.setting core.old.cluster.shards core.old.shards core.old.live }
     requires command { IsCommand command }
     ensures sound { IsSound (cancels_of W.cancels) (B.node board.new) (B.has board.new) (B.drawn board.new) (B.clear board.new) core.new }
+    ensures of_run { IsCoreOfRun W.setting core.new.cluster.shards core.new.shards core.new.live }
     ensures own { SameSelf core.old core.new }
     ensures memory { IfErr result (λ stop. stop ≡ Stop.Memory) }
     ensures turned { IfOk result (λ posts. Tells B.rests (λ rows. post To.Driver (Body.Rows core.old.node core.old.worker command rows)) board.old core.old posts.items core.new board.new) }
@@ -85,8 +88,10 @@ pub(crate) fn name_matches<W: Run, B: DataBoard<Of<W>>>(
     wait: bool,
 ) -> Result<Vec<Post<Letter<Of<W>>>>, Stop>
     requires sound { IsSound (cancels_of W.cancels) (B.node board.old) (B.has board.old) (B.drawn board.old) (B.clear board.old) core.old }
+    requires of_run { IsCoreOfRun W.setting core.old.cluster.shards core.old.shards core.old.live }
     requires cancel { IsCancelOfRun (cancels_of W.cancels) cancel }
     ensures sound { IsSound (cancels_of W.cancels) (B.node board.new) (B.has board.new) (B.drawn board.new) (B.clear board.new) core.new }
+    ensures of_run { IsCoreOfRun W.setting core.new.cluster.shards core.new.shards core.new.live }
     ensures own { SameSelf core.old core.new }
     ensures memory { IfErr result (λ stop. stop ≡ Stop.Memory) }
     ensures turned { IfOk result (λ posts. Tells B.rests (λ rows. post (To.Control core.old.node) (Body.Matches core.old.worker cancel (through wanted.now rows) wait)) board.old core.old posts.items core.new board.new) }

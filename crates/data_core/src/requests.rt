@@ -7,8 +7,12 @@ ghost use Rattle.node_boards.specs.Calls as call;
 ghost use Rattle.child_track.specs.Token.{Token};
 ghost use Rattle.data_core.specs.Admitting.{admission_of, child_admission_of, has_shard, has_version, may_use};
 ghost use Rattle.data_core.specs.Cores.{IsSound, SameSelf};
+ghost use Rattle.entry_facts.specs.Entries.{IsCoreOfRun};
 ghost use Rattle.data_core.specs.Letters.{page_at, rejected};
-ghost use Rattle.node_link.specs.Lawful.{IsLawfulAsk, IsPlace};
+ghost use Rattle.node_link.specs.Lawful.{IsLawfulAsk, IsPlace, is_page};
+ghost use Rattle.reply_facts.specs.Letters.{IsAskOf, IsRequestAt};
+ghost use Rattle.reply_facts.specs.Settings.{sought_at};
+ghost use Rattle.task_events.specs.Answered.{as_answered};
 ghost use Rattle.run_facts.specs.Cancels.{cancels_of};
 ghost use Rattle.task_ids.specs.Limits.{IsNode};
 
@@ -109,6 +113,7 @@ impl DataCore {
 fn rejection<W: Run>(node: u32, asked: Asked) -> Result<Post<Letter<Of<W>>>, Stop>
     requires node { IsNode node }
     requires lawful { IsPlace asked.place }
+    requires tells { IsAskOf W.setting asked }
     ensures post { IfOk result (λ post. post ≡ record { to = To.Data asked.token.parent.node; letter = Body.Answer (rejected node asked) }) }
     ensures memory { IfErr result (λ stop. stop ≡ Stop.Memory) }
 {
@@ -143,8 +148,11 @@ pub(crate) fn take_request<W: Run, B: DataBoard<Of<W>>>(
     asked: Asked,
 ) -> Result<Vec<Post<Letter<Of<W>>>>, Stop>
     requires sound { IsSound (cancels_of W.cancels) (B.node board.old) (B.has board.old) (B.drawn board.old) (B.clear board.old) core.old }
+    requires of_run { IsCoreOfRun W.setting core.old.cluster.shards core.old.shards core.old.live }
     requires lawful { IsLawfulAsk (cancels_of W.cancels) asked }
+    requires tells { IsAskOf W.setting asked }
     ensures sound { IsSound (cancels_of W.cancels) (B.node board.new) (B.has board.new) (B.drawn board.new) (B.clear board.new) core.new }
+    ensures of_run { IsCoreOfRun W.setting core.new.cluster.shards core.new.shards core.new.live }
     ensures own { SameSelf core.old core.new }
     ensures spent { result ≡ Err Stop.NumbersSpent → (core.old.live.drawn ≡ None) × B.rests board.old board.new (call.draw None) }
     ensures history { result ≡ Err Stop.HistoryFull → ⊥ }
@@ -165,11 +173,15 @@ fn start_child<W: Run, B: DataBoard<Of<W>>>(
     start: &Start,
 ) -> Result<Registered, Stop>
     requires sound { IsSound (cancels_of W.cancels) (B.node board.old) (B.has board.old) (B.drawn board.old) (B.clear board.old) core.old }
+    requires of_run { IsCoreOfRun W.setting core.old.cluster.shards core.old.shards core.old.live }
     requires place { IsPlace start.now.place }
+    requires asked { IsRequestAt W.setting start.now.place (as_answered start.now.request) }
+    requires pages { is_page (as_answered start.now.request) ≡ true → sought_at W.setting start.now.place ≡ None }
     requires admitted { admission_of core.old start.now.place start.now.request ≡ Admission.Taken }
     requires may { may_use core.old.contexts start.now.request core.old.clock.ms ≡ true }
     requires page { start.now.page ≡ option_map page_at (slices.context_for core.old.contexts start.now.request core.old.clock.ms) }
     ensures sound { IsSound (cancels_of W.cancels) (B.node board.new) (B.has board.new) (B.drawn board.new) (B.clear board.new) core.new }
+    ensures of_run { IsCoreOfRun W.setting core.new.cluster.shards core.new.shards core.new.live }
     ensures own { SameSelf core.old core.new }
     ensures spent { result ≡ Err Stop.NumbersSpent → (core.old.live.drawn ≡ None) × B.rests board.old board.new (call.draw None) }
     ensures history { result ≡ Err Stop.HistoryFull → ⊥ }
@@ -224,9 +236,12 @@ fn register_child<W: Run, B: DataBoard<Of<W>>>(
     asked: Asked,
 ) -> Result<Vec<Post<Letter<Of<W>>>>, Stop>
     requires sound { IsSound (cancels_of W.cancels) (B.node board.old) (B.has board.old) (B.drawn board.old) (B.clear board.old) core.old }
+    requires of_run { IsCoreOfRun W.setting core.old.cluster.shards core.old.shards core.old.live }
     requires lawful { IsLawfulAsk (cancels_of W.cancels) asked }
+    requires tells { IsAskOf W.setting asked }
     requires admitted { child_admission_of core.old asked ≡ Admission.Taken }
     ensures sound { IsSound (cancels_of W.cancels) (B.node board.new) (B.has board.new) (B.drawn board.new) (B.clear board.new) core.new }
+    ensures of_run { IsCoreOfRun W.setting core.new.cluster.shards core.new.shards core.new.live }
     ensures own { SameSelf core.old core.new }
     ensures spent { result ≡ Err Stop.NumbersSpent → (core.old.live.drawn ≡ None) × B.rests board.old board.new (call.draw None) }
     ensures history { result ≡ Err Stop.HistoryFull → ⊥ }
@@ -261,6 +276,8 @@ fn register_child<W: Run, B: DataBoard<Of<W>>>(
 fn again<W: Run>(to: u32, token: AskToken, start: Start) -> Post<Letter<Of<W>>>
     requires to { IsNode to }
     requires place { IsPlace start.place }
+    requires asked { IsRequestAt W.setting start.place (as_answered start.request) }
+    requires pages { is_page (as_answered start.request) ≡ true → sought_at W.setting start.place ≡ None }
     ensures { result ≡ record { to = To.Data to; letter = Body.Request (record { to = to; place = start.place; token = token; request = start.request; headers = start.headers }) } }
 {
     let Start {

@@ -6,6 +6,7 @@ ghost use Rattle.live_tasks.specs.Live.{ChangesTask};
 ghost use Rattle.data_core.specs.Turns.{Lists, OnlyTasks};
 ghost use Rattle.std.specs.Prelude.{◌≡◌, IfOk, IfErr, IsSome, All, Some, None};
 ghost use Rattle.data_core.specs.Cores.{IsSound, SameSelf};
+ghost use Rattle.entry_facts.specs.Entries.{IsCoreOfRun};
 ghost use Rattle.data_core.specs.Letters.{row_of};
 ghost use Rattle.live_tasks.specs.Live.{entry_at};
 ghost use Rattle.node_link.specs.Lawful.{IsLawfulRow};
@@ -59,8 +60,10 @@ fn look_at<W: Run, B: DataBoard<Of<W>>>(
     number: u32,
 ) -> Result<TaskInfo, Stop>
     requires sound { IsSound (cancels_of W.cancels) (B.node board.old) (B.has board.old) (B.drawn board.old) (B.clear board.old) core.old }
+    requires of_run { IsCoreOfRun W.setting core.old.cluster.shards core.old.shards core.old.live }
     requires live { IsSome (entry_at core.old.live number) }
     ensures sound { IsSound (cancels_of W.cancels) (B.node board.new) (B.has board.new) (B.drawn board.new) (B.clear board.new) core.new }
+    ensures of_run { IsCoreOfRun W.setting core.new.cluster.shards core.new.shards core.new.live }
     ensures own { SameSelf core.old core.new }
     ensures memory { IfErr result (λ stop. stop ≡ Stop.Memory) }
     ensures rest { OnlyTasks core.old core.new }
@@ -81,7 +84,9 @@ pub(crate) fn live_rows<W: Run, B: DataBoard<Of<W>>>(
     board: &mut B,
 ) -> Result<Vec<TaskInfo>, Stop>
     requires sound { IsSound (cancels_of W.cancels) (B.node board.old) (B.has board.old) (B.drawn board.old) (B.clear board.old) core.old }
+    requires of_run { IsCoreOfRun W.setting core.old.cluster.shards core.old.shards core.old.live }
     ensures sound { IsSound (cancels_of W.cancels) (B.node board.new) (B.has board.new) (B.drawn board.new) (B.clear board.new) core.new }
+    ensures of_run { IsCoreOfRun W.setting core.new.cluster.shards core.new.shards core.new.live }
     ensures own { SameSelf core.old core.new }
     ensures memory { IfErr result (λ stop. stop ≡ Stop.Memory) }
     ensures rest { OnlyTasks core.old core.new }

@@ -5,8 +5,10 @@ ghost use Rattle.task_ids.specs.declared.task_id.TaskId.{TaskId};
 ghost use Rattle.data_core.specs.Turns.{StartBecomes, Started, Registers, FindsNone, OnlyTasks};
 ghost use Rattle.std.specs.Prelude.{◌≡◌, IfOk, IfErr, Err, None, Some, Ok, Option, option_copied};
 ghost use Rattle.node_boards.specs.Calls as call;
+ghost use Rattle.reply_facts.specs.Letters.{IsStartOf, context_of_start};
 ghost use Rattle.data_core.specs.Admitting.{admission_of};
 ghost use Rattle.data_core.specs.Cores.{IsSound, SameSelf};
+ghost use Rattle.entry_facts.specs.Entries.{IsCoreOfRun};
 ghost use Rattle.data_core.specs.Letters.{registered_id, root_rejected};
 ghost use Rattle.node_link.specs.Lawful.{IsLawfulStart, IsPlace, IsCommand};
 ghost use Rattle.run_facts.specs.Cancels.{cancels_of};
@@ -26,6 +28,7 @@ use task_ids::TaskId;
 fn root_rejection<W: Run>(node: u32, start: Start) -> Result<Post<Letter<Of<W>>>, Stop>
     requires node { IsNode node }
     requires lawful { IsPlace start.place }
+    requires tells { IsStartOf W.setting start }
     ensures post { IfOk result (λ post. post ≡ record { to = To.Driver; letter = Body.RootAnswer (root_rejected node start) }) }
     ensures memory { IfErr result (λ stop. stop ≡ Stop.Memory) }
 {
@@ -57,8 +60,11 @@ pub(crate) fn take_start<W: Run, B: DataBoard<Of<W>>>(
     start: Start,
 ) -> Result<Vec<Post<Letter<Of<W>>>>, Stop>
     requires sound { IsSound (cancels_of W.cancels) (B.node board.old) (B.has board.old) (B.drawn board.old) (B.clear board.old) core.old }
+    requires of_run { IsCoreOfRun W.setting core.old.cluster.shards core.old.shards core.old.live }
     requires lawful { IsLawfulStart (cancels_of W.cancels) start }
+    requires tells { IsStartOf W.setting start }
     ensures sound { IsSound (cancels_of W.cancels) (B.node board.new) (B.has board.new) (B.drawn board.new) (B.clear board.new) core.new }
+    ensures of_run { IsCoreOfRun W.setting core.new.cluster.shards core.new.shards core.new.live }
     ensures own { SameSelf core.old core.new }
     ensures spent { result ≡ Err Stop.NumbersSpent → (core.old.live.drawn ≡ None) × B.rests board.old board.new (call.draw None) }
     ensures history { result ≡ Err Stop.HistoryFull → ⊥ }
@@ -88,15 +94,18 @@ fn start_root<W: Run, B: DataBoard<Of<W>>>(
     start: &Start,
 ) -> Result<Registered, Stop>
     requires sound { IsSound (cancels_of W.cancels) (B.node board.old) (B.has board.old) (B.drawn board.old) (B.clear board.old) core.old }
+    requires of_run { IsCoreOfRun W.setting core.old.cluster.shards core.old.shards core.old.live }
     requires lawful { IsLawfulStart (cancels_of W.cancels) start.now }
+    requires tells { IsStartOf W.setting start.now }
     requires admitted { admission_of core.old start.now.place start.now.request ≡ Admission.Taken }
     ensures sound { IsSound (cancels_of W.cancels) (B.node board.new) (B.has board.new) (B.drawn board.new) (B.clear board.new) core.new }
+    ensures of_run { IsCoreOfRun W.setting core.new.cluster.shards core.new.shards core.new.live }
     ensures own { SameSelf core.old core.new }
     ensures spent { result ≡ Err Stop.NumbersSpent → (core.old.live.drawn ≡ None) × B.rests board.old board.new (call.draw None) }
     ensures history { result ≡ Err Stop.HistoryFull → ⊥ }
     ensures rest { OnlyTasks core.old core.new }
     ensures registers { (id : TaskId) → result ≡ Ok (Registered.Task id)
-        → Registers B.rests None start.now.place start.now.request start.now.headers start.now.page (slices.context_of_start start.now.request start.now.page) id board.old core.old core.new.live board.new }
+        → Registers B.rests None start.now.place start.now.request start.now.headers start.now.page (context_of_start start.now.request start.now.page) id board.old core.old core.new.live board.new }
     ensures full { (t : Option Token) → result ≡ Ok (Registered.Full t) → FindsNone B.rests None board.old core.old core.new.live board.new }
 {
     let held = context_of(start)?;
@@ -143,9 +152,12 @@ fn register_root<W: Run, B: DataBoard<Of<W>>>(
     start: Start,
 ) -> Result<Vec<Post<Letter<Of<W>>>>, Stop>
     requires sound { IsSound (cancels_of W.cancels) (B.node board.old) (B.has board.old) (B.drawn board.old) (B.clear board.old) core.old }
+    requires of_run { IsCoreOfRun W.setting core.old.cluster.shards core.old.shards core.old.live }
     requires lawful { IsLawfulStart (cancels_of W.cancels) start }
+    requires tells { IsStartOf W.setting start }
     requires admitted { admission_of core.old start.place start.request ≡ Admission.Taken }
     ensures sound { IsSound (cancels_of W.cancels) (B.node board.new) (B.has board.new) (B.drawn board.new) (B.clear board.new) core.new }
+    ensures of_run { IsCoreOfRun W.setting core.new.cluster.shards core.new.shards core.new.live }
     ensures own { SameSelf core.old core.new }
     ensures spent { result ≡ Err Stop.NumbersSpent → (core.old.live.drawn ≡ None) × B.rests board.old board.new (call.draw None) }
     ensures history { result ≡ Err Stop.HistoryFull → ⊥ }
@@ -172,6 +184,7 @@ fn root_post<W: Run>(command: u32, task: TaskId) -> Post<Letter<Of<W>>>
 /// The start of a root, which comes to the data worker of this node again.
 fn start_again<W: Run>(node: u32, start: Start) -> Post<Letter<Of<W>>>
     requires lawful { IsLawfulStart (cancels_of W.cancels) start }
+    requires tells { IsStartOf W.setting start }
     ensures { result ≡ record { to = To.Data node; letter = Body.Start start } }
 {
     Post {

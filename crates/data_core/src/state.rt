@@ -1,10 +1,13 @@
-ghost use Rattle.std.specs.Prelude.{◌≡◌, ◌<◌, ℕ, false, IfOk, IfSome, IfNone, None, All};
+ghost use Rattle.std.specs.Prelude.{◌≡◌, ◌<◌, ℕ, List, false, is_some, IfOk, IfSome, IfNone, None, Some, All};
+ghost use Rattle.task_ids.specs.declared.doc.Doc.{Doc};
+ghost use Rattle.task_work.specs.Works.{due_in, next_of};
+ghost use Rattle.live_tasks.specs.declared.entry.Entry.{Entry};
 ghost use Rattle.std.specs.FinMap as finite;
 ghost use Rattle.task_ids.specs.Limits.{IsNode};
 ghost use Rattle.task_ids.specs.Placing.{node_of};
 ghost use Rattle.node_link.specs.Lawful.{IsWorker};
 ghost use Rattle.held_shards.specs.Held.{HasLines};
-ghost use Rattle.live_tasks.specs.Live.{entry_at, number_at, IsBeyond, HasId};
+ghost use Rattle.live_tasks.specs.Live.{count, entry_at, number_at, IsBeyond, HasId};
 ghost use Rattle.live_tasks.specs.Ties.{AreTasks};
 ghost use Rattle.data_core.specs.Cores.{IsNewDataCore};
 ghost use Rattle.data_core.specs.Plans.{does_work};
@@ -108,6 +111,25 @@ impl DataCore {
         ensures none { IfNone result ((n : ℕ) → IsBeyond task n → entry_at self.now.live n ≡ None) }
     {
         self.live.live_after(task)
+    }
+
+    /// How many tasks are live here.
+    pub fn live_count(&self) -> usize
+        ensures { result ≡ count self.now.live }
+    {
+        self.live.len()
+    }
+
+    /// Whether a live task waits for a later moment of the clock, its mark left aside. It takes no memory.
+    pub fn awaits_moment(&self, task: TaskId) -> bool
+        ensures none { entry_at self.now.live task.number ≡ None → result ≡ false }
+        ensures some { (e : Entry) (writes : List Doc) → entry_at self.now.live task.number ≡ Some e
+            → result ≡ is_some (due_in (next_of e.running.work writes self.now.clock.ms)) }
+    {
+        match self.live.get(task.number) {
+            Some(entry) => entry.running.work.due(self.clock.now()).is_some(),
+            None => false,
+        }
     }
 
     /// Whether a live task has passed and its plan, its mark left aside, is a turn of work. It takes no memory.

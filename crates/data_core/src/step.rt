@@ -9,7 +9,8 @@ ghost use Rattle.live_tasks.specs.Entries.{after_ask};
 ghost use Rattle.live_tasks.specs.Ties.{IsNew, IsPassed};
 ghost use Rattle.data_parts.specs.Places.{child_place};
 ghost use Rattle.data_parts.specs.Steps.{HasCome};
-ghost use Rattle.data_core.specs.Cores.{IsSound, SameSelf, writes_for};
+ghost use Rattle.entry_facts.specs.Entries.{IsCoreOfRun, writes_for};
+ghost use Rattle.data_core.specs.Cores.{IsSound, SameSelf};
 ghost use Rattle.data_core.specs.Plans.{plan_for, IsOpen, MayAsk, TurnsNext};
 ghost use Rattle.data_core.specs.Steps.{Stepped, Checks, DoesPlan, Asks, Looks, Works, Waits, Noted, asked_post};
 
@@ -32,8 +33,10 @@ pub fn data_step<W: Run, B: DataBoard<Of<W>>>(
     task: TaskId,
 ) -> Result<Option<Vec<Post<Letter<Of<W>>>>>, Stop>
     requires sound { IsSound (cancels_of W.cancels) (B.node board.old) (B.has board.old) (B.drawn board.old) (B.clear board.old) core.old }
+    requires of_run { IsCoreOfRun W.setting core.old.cluster.shards core.old.shards core.old.live }
     requires live { HasId task (entry_at core.old.live task.number) }
     ensures sound { IsSound (cancels_of W.cancels) (B.node board.new) (B.has board.new) (B.drawn board.new) (B.clear board.new) core.new }
+    ensures of_run { IsCoreOfRun W.setting core.new.cluster.shards core.new.shards core.new.live }
     ensures own { SameSelf core.old core.new }
     ensures memory { IfErr result (λ stop. stop ≡ Stop.Memory) }
     ensures steps { (e : Entry) → entry_at core.old.live task.number ≡ Some e → IfOk result (λ given. Stepped B.rests e board.old core.old (option_map (λ posts. posts.items) given) core.new board.new) }
@@ -58,9 +61,11 @@ fn first_step<W: Run, B: DataBoard<Of<W>>>(
     task: TaskId,
 ) -> Result<Option<Vec<Post<Letter<Of<W>>>>>, Stop>
     requires sound { IsSound (cancels_of W.cancels) (B.node board.old) (B.has board.old) (B.drawn board.old) (B.clear board.old) core.old }
+    requires of_run { IsCoreOfRun W.setting core.old.cluster.shards core.old.shards core.old.live }
     requires live { HasId task (entry_at core.old.live task.number) }
     requires new { IsNew (entry_at core.old.live task.number) }
     ensures sound { IsSound (cancels_of W.cancels) (B.node board.new) (B.has board.new) (B.drawn board.new) (B.clear board.new) core.new }
+    ensures of_run { IsCoreOfRun W.setting core.new.cluster.shards core.new.shards core.new.live }
     ensures own { SameSelf core.old core.new }
     ensures memory { IfErr result (λ stop. stop ≡ Stop.Memory) }
     ensures steps { (e : Entry) → entry_at core.old.live task.number ≡ Some e → IfOk result (λ given. Checks B.rests e board.old core.old (option_map (λ posts. posts.items) given) core.new board.new) }
@@ -78,10 +83,12 @@ fn follow_plan<W: Run, B: DataBoard<Of<W>>>(
     task: TaskId,
 ) -> Result<Option<Vec<Post<Letter<Of<W>>>>>, Stop>
     requires sound { IsSound (cancels_of W.cancels) (B.node board.old) (B.has board.old) (B.drawn board.old) (B.clear board.old) core.old }
+    requires of_run { IsCoreOfRun W.setting core.old.cluster.shards core.old.shards core.old.live }
     requires live { HasId task (entry_at core.old.live task.number) }
     requires passed { IsPassed (entry_at core.old.live task.number) }
     requires unmarked { IsOpen (entry_at core.old.live task.number) }
     ensures sound { IsSound (cancels_of W.cancels) (B.node board.new) (B.has board.new) (B.drawn board.new) (B.clear board.new) core.new }
+    ensures of_run { IsCoreOfRun W.setting core.new.cluster.shards core.new.shards core.new.live }
     ensures own { SameSelf core.old core.new }
     ensures memory { IfErr result (λ stop. stop ≡ Stop.Memory) }
     ensures steps { (e : Entry) → entry_at core.old.live task.number ≡ Some e → IfOk result (λ given. DoesPlan B.rests (plan_for core.old.shards core.old.clock e) e board.old core.old (option_map (λ posts. posts.items) given) core.new board.new) }
@@ -103,11 +110,14 @@ fn ask_next<W: Run, B: DataBoard<Of<W>>>(
     request: Request,
 ) -> Result<Option<Vec<Post<Letter<Of<W>>>>>, Stop>
     requires sound { IsSound (cancels_of W.cancels) (B.node board.old) (B.has board.old) (B.drawn board.old) (B.clear board.old) core.old }
+    requires of_run { IsCoreOfRun W.setting core.old.cluster.shards core.old.shards core.old.live }
     requires live { HasId task (entry_at core.old.live task.number) }
     requires passed { IsPassed (entry_at core.old.live task.number) }
     requires unmarked { IsOpen (entry_at core.old.live task.number) }
     requires asks { MayAsk (entry_at core.old.live task.number) }
+    requires planned { (e : Entry) → entry_at core.old.live task.number ≡ Some e → plan_for core.old.shards core.old.clock e ≡ Do.AskNext request }
     ensures sound { IsSound (cancels_of W.cancels) (B.node board.new) (B.has board.new) (B.drawn board.new) (B.clear board.new) core.new }
+    ensures of_run { IsCoreOfRun W.setting core.new.cluster.shards core.new.shards core.new.live }
     ensures own { SameSelf core.old core.new }
     ensures memory { IfErr result (λ stop. stop ≡ Stop.Memory) }
     ensures steps { (e : Entry) → entry_at core.old.live task.number ≡ Some e → IfOk result (λ given. Asks B.rests request e board.old core.old (option_map (λ posts. posts.items) given) core.new board.new) }
@@ -128,11 +138,14 @@ fn ask_child<W: Run, B: DataBoard<Of<W>>>(
     request: Request,
 ) -> Result<Option<Vec<Post<Letter<Of<W>>>>>, Stop>
     requires sound { IsSound (cancels_of W.cancels) (B.node board.now) (B.has board.now) (B.drawn board.now) (B.clear board.now) core.old }
+    requires of_run { IsCoreOfRun W.setting core.old.cluster.shards core.old.shards core.old.live }
     requires live { HasId task (entry_at core.old.live task.number) }
     requires unmarked { IsOpen (entry_at core.old.live task.number) }
     requires asks { MayAsk (entry_at core.old.live task.number) }
+    requires planned { (e : Entry) → entry_at core.old.live task.number ≡ Some e → plan_for core.old.shards core.old.clock e ≡ Do.AskNext request }
     requires node { IsNode to }
     ensures sound { IsSound (cancels_of W.cancels) (B.node board.now) (B.has board.now) (B.drawn board.now) (B.clear board.now) core.new }
+    ensures of_run { IsCoreOfRun W.setting core.new.cluster.shards core.new.shards core.new.live }
     ensures own { SameSelf core.old core.new }
     ensures memory { IfErr result (λ stop. stop ≡ Stop.Memory) }
     ensures asked { (e : Entry) → entry_at core.old.live task.number ≡ Some e → IfOk result (λ given.
@@ -166,9 +179,11 @@ fn take_turn<W: Run, B: DataBoard<Of<W>>>(
     task: TaskId,
 ) -> Result<Option<Vec<Post<Letter<Of<W>>>>>, Stop>
     requires sound { IsSound (cancels_of W.cancels) (B.node board.old) (B.has board.old) (B.drawn board.old) (B.clear board.old) core.old }
+    requires of_run { IsCoreOfRun W.setting core.old.cluster.shards core.old.shards core.old.live }
     requires live { HasId task (entry_at core.old.live task.number) }
     requires turns { TurnsNext core.old.shards (entry_at core.old.live task.number) }
     ensures sound { IsSound (cancels_of W.cancels) (B.node board.new) (B.has board.new) (B.drawn board.new) (B.clear board.new) core.new }
+    ensures of_run { IsCoreOfRun W.setting core.new.cluster.shards core.new.shards core.new.live }
     ensures own { SameSelf core.old core.new }
     ensures memory { IfErr result (λ stop. stop ≡ Stop.Memory) }
     ensures steps { (e : Entry) → entry_at core.old.live task.number ≡ Some e → IfOk result (λ given. Looks B.rests (Works B.rests e) e board.old core.old (option_map (λ posts. posts.items) given) core.new board.new) }
@@ -186,8 +201,10 @@ fn await_moment<W: Run, B: DataBoard<Of<W>>>(
     task: TaskId,
 ) -> Result<Option<Vec<Post<Letter<Of<W>>>>>, Stop>
     requires sound { IsSound (cancels_of W.cancels) (B.node board.old) (B.has board.old) (B.drawn board.old) (B.clear board.old) core.old }
+    requires of_run { IsCoreOfRun W.setting core.old.cluster.shards core.old.shards core.old.live }
     requires live { HasId task (entry_at core.old.live task.number) }
     ensures sound { IsSound (cancels_of W.cancels) (B.node board.new) (B.has board.new) (B.drawn board.new) (B.clear board.new) core.new }
+    ensures of_run { IsCoreOfRun W.setting core.new.cluster.shards core.new.shards core.new.live }
     ensures own { SameSelf core.old core.new }
     ensures memory { IfErr result (λ stop. stop ≡ Stop.Memory) }
     ensures steps { (e : Entry) → entry_at core.old.live task.number ≡ Some e → IfOk result (λ given. Looks B.rests (Waits B.rests) e board.old core.old (option_map (λ posts. posts.items) given) core.new board.new) }
@@ -205,9 +222,11 @@ fn work_on<W: Run, B: DataBoard<Of<W>>>(
     task: TaskId,
 ) -> Result<Option<Vec<Post<Letter<Of<W>>>>>, Stop>
     requires sound { IsSound (cancels_of W.cancels) (B.node board.now) (B.has board.now) (B.drawn board.now) (B.clear board.now) core.old }
+    requires of_run { IsCoreOfRun W.setting core.old.cluster.shards core.old.shards core.old.live }
     requires live { HasId task (entry_at core.old.live task.number) }
     requires turns { TurnsNext core.old.shards (entry_at core.old.live task.number) }
     ensures sound { IsSound (cancels_of W.cancels) (B.node board.now) (B.has board.now) (B.drawn board.now) (B.clear board.now) core.new }
+    ensures of_run { IsCoreOfRun W.setting core.new.cluster.shards core.new.shards core.new.live }
     ensures own { SameSelf core.old core.new }
     ensures memory { IfErr result (λ stop. stop ≡ Stop.Memory) }
     ensures works { (e : Entry) → entry_at core.old.live task.number ≡ Some e → IfOk result (λ given.

@@ -3,6 +3,7 @@ ghost use Rattle.data_core.specs.Turns.{Turned};
 ghost use Rattle.std.specs.Prelude.{◌≡◌, Err, None, IfOk, Ok, filter};
 ghost use Rattle.node_boards.specs.Calls as call;
 ghost use Rattle.data_core.specs.Cores.{IsSound, SameSelf};
+ghost use Rattle.entry_facts.specs.Entries.{IsCoreOfRun};
 ghost use Rattle.run_facts.specs.Cancels.{cancels_of};
 
 use crate::answers::take_answer;
@@ -22,7 +23,9 @@ pub fn data_turn<W: Run, B: DataBoard<Of<W>>>(
     letter: Letter<Of<W>>,
 ) -> Result<Vec<Post<Letter<Of<W>>>>, Stop>
     requires sound { IsSound (cancels_of W.cancels) (B.node board.old) (B.has board.old) (B.drawn board.old) (B.clear board.old) core.old }
+    requires of_run { IsCoreOfRun W.setting core.old.cluster.shards core.old.shards core.old.live }
     ensures sound { IsSound (cancels_of W.cancels) (B.node board.new) (B.has board.new) (B.drawn board.new) (B.clear board.new) core.new }
+    ensures of_run { IsCoreOfRun W.setting core.new.cluster.shards core.new.shards core.new.live }
     ensures own { SameSelf core.old core.new }
     ensures spent { result ≡ Err Stop.NumbersSpent → (core.old.live.drawn ≡ None) × B.rests board.old board.new (call.draw None) }
     ensures history { result ≡ Err Stop.HistoryFull → ⊥ }

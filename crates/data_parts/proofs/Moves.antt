@@ -32,6 +32,7 @@ use Rattle.task_events.specs.SliceTask.{page_from, later_page}
 use Rattle.task_work.specs.declared.work.Work.{Work}
 use Rattle.task_work.specs.declared.work.Work.TheVariants as works
 use Rattle.task_work.specs.Works.{IsNewWork, next_of, place_of, can_ask, work_with_ask, work_with_answer, HasTurned}
+use Rattle.task_work.proofs.Steps.{asking_asks, asking_ends, working_asks, working_ends}
 use Rattle.data_parts.specs.Steps.{HasLawfulReplies, AsksBelow, IsLawfulAnswered}
 use Rattle.data_parts.proofs.Replies.{all-push, answered_all, search_lawful}
 
@@ -46,25 +47,9 @@ takes (Finish reply) = false
 clash : {A : Type 0} → false ≡ true → A
 clash e = absurd (let f : false ≡ true = e in cc)
 
--- ---- a step that asks, or ends once all are answered
+-- ---- a step that asks, or ends once all are answered, takes no turn
 
 module _ (answered : Bool) (end : Reply) where
-  asking_asks : (o : Option Request) (request : Request) → ask_or_end o answered end ≡ AskNext request → o ≡ Some request
-  asking_asks (Some asked) request e = ap Some (let f : AskNext asked ≡ AskNext request = e in cc)
-  asking_asks None request e = clash (not_asking answered (ap wants_to_ask e))
-    where
-      not_asking : (b : Bool) → wants_to_ask (ask_or_end None b end) ≡ true → false ≡ true
-      not_asking true f = f
-      not_asking false f = f
-
-  asking_ends : (o : Option Request) (reply : Reply) → ask_or_end o answered end ≡ Finish reply → end ≡ reply
-  asking_ends (Some asked) reply e = clash (ap has_ended e)
-  asking_ends None reply e = by answered e
-    where
-      by : (b : Bool) → ask_or_end None b end ≡ Finish reply → end ≡ reply
-      by true f = let g : Finish end ≡ Finish reply = f in cc
-      by false f = clash (ap has_ended f)
-
   asking_turns : {A : Type 0} (o : Option Request) → ask_or_end o answered end ≡ Turn → A
   asking_turns (Some asked) e = clash (ap takes e)
   asking_turns None e = clash (by answered (ap takes e))
@@ -72,14 +57,6 @@ module _ (answered : Bool) (end : Reply) where
       by : (b : Bool) → takes (ask_or_end None b end) ≡ true → false ≡ true
       by true f = f
       by false f = f
-
-working_ends : (b : Bool) (end reply : Reply) → work_or_end b end ≡ Finish reply → end ≡ reply
-working_ends true end reply e = let f : Finish end ≡ Finish reply = e in cc
-working_ends false end reply e = clash (ap has_ended e)
-
-working_asks : {A : Type 0} (b : Bool) (end : Reply) (request : Request) → work_or_end b end ≡ AskNext request → A
-working_asks true end request e = clash (ap wants_to_ask e)
-working_asks false end request e = clash (ap wants_to_ask e)
 
 -- ---- a slice
 
@@ -133,7 +110,7 @@ module _ (s : Slicing) (now : ℕ) where
 -- ---- a reindex that is cut, and a bulk
 
 cut_asks : (c : Cutting) (request : Request) → cut_next c ≡ AskNext request → cut_may_ask c ≡ true
-cut_asks c request e = by (nat_lt c.made c.ask.slices) refl (asking_asks _ _ (option_map Slice (slice_at c.ask c.made)) request e)
+cut_asks c request e = by (nat_lt c.made c.ask.slices) refl (asking_asks (option_map Slice (slice_at c.ask c.made)) _ _ request e)
   where
     by : (b : Bool) (is : nat_lt c.made c.ask.slices ≡ b) → option_map Slice (slice_if c.ask c.made b is) ≡ Some request → nat_lt c.made c.ask.slices ≡ true
     by true is f = is
@@ -141,7 +118,7 @@ cut_asks c request e = by (nat_lt c.made c.ask.slices) refl (asking_asks _ _ (op
 
 bulk_asks : (b : Bulking) (request : Request) → bulk_next b ≡ AskNext request → bulk_may_ask b ≡ true
 bulk_asks b request e =
-    let within = slice_get_within (map BulkShard b.parts) b.made request (asking_asks _ _ (slice_get (map BulkShard b.parts) b.made) request e) in
+    let within = slice_get_within (map BulkShard b.parts) b.made request (asking_asks (slice_get (map BulkShard b.parts) b.made) _ _ request e) in
     grind (arith, nat_tests, within, length-map b.parts BulkShard)
 
 -- ---- any work
@@ -149,7 +126,7 @@ bulk_asks b request e =
 module _ (allowed : ℕ → Type 0) (writes : List Doc) (now : ℕ) where
   root_ends : (r : ReindexRoot) (reply : Reply) → root_next r now ≡ Finish reply → IsLawfulReply allowed reply
   root_ends (Alone s) reply e = slice_ends s now allowed s.phase reply e
-  root_ends (Cut c) reply e = subst (IsLawfulReply allowed) (asking_ends _ _ (option_map Slice (slice_at c.ask c.made)) reply e) tt
+  root_ends (Cut c) reply e = subst (IsLawfulReply allowed) (asking_ends (option_map Slice (slice_at c.ask c.made)) _ _ reply e) tt
 
   -- a reply is one that a letter may tell
   pub lawful_end : (w : Work) (reply : Reply) → HasLawfulReplies allowed w → next_of w writes now ≡ Finish reply → IsLawfulReply allowed reply
@@ -167,8 +144,8 @@ module _ (writes : List Doc) (now : ℕ) where
   pub may_ask : (w : Work) (request : Request) (next : ℕ) → AsksBelow next w → next_of w writes now ≡ AskNext request → can_ask w next ≡ true
   may_ask (works.Search s) request next below e = let asks : wants_to_ask (next_step s) ≡ true = ap wants_to_ask e in rw (asks, below) refl
   may_ask (works.Scroll s) request next below e = let asks : wants_to_ask (next_step s) ≡ true = ap wants_to_ask e in rw (asks, below) refl
-  may_ask (works.Query q top) request next below e = working_asks _ _ request e
-  may_ask (works.Fetch f hits) request next below e = working_asks _ _ request e
+  may_ask (works.Query q top) request next below e = absurd (working_asks _ _ request e)
+  may_ask (works.Fetch f hits) request next below e = absurd (working_asks _ _ request e)
   may_ask (works.Reindex r) request next below e = root_asks r e
     where
       root_asks : (r : ReindexRoot) → root_next r now ≡ AskNext request → root_may_ask r ≡ true
@@ -176,7 +153,7 @@ module _ (writes : List Doc) (now : ℕ) where
       root_asks (Cut c) f = cut_asks c request f
   may_ask (works.Slice s) request next below e = slice_asks s now s.phase request e
   may_ask (works.Bulk b) request next below e = bulk_asks b request e
-  may_ask (works.BulkShard w) request next below e = working_asks _ _ request e
+  may_ask (works.BulkShard w) request next below e = absurd (working_asks _ _ request e)
 
   -- where it takes a turn, it works on a shard
   pub turn_place : (w : Work) → next_of w writes now ≡ Turn → is_some (place_of w) ≡ true

@@ -15,6 +15,6 @@ child_slice parent _ = parent.slice
 abbrev pub child_shard : Request → ℕ
 child_shard request = option_map_or (λ place. min place.1 14) (kind_of request).place 0
 
--- of the parent's command, with what is asked
+-- of the parent's command, over the rows of its search, with what is asked
 abbrev pub child_place : Place → Request → Place
-child_place parent request = record { command = parent.command; slice = child_slice parent request; action = action_of request; shard = child_shard request }
+child_place parent request = record { command = parent.command; search = parent.search; slice = child_slice parent request; action = action_of request; shard = child_shard request }

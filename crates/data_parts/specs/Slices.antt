@@ -14,7 +14,6 @@ use Rattle.task_events.specs.declared.reply.Reply.{Reply}
 use Rattle.task_events.specs.declared.reply.Reply.TheVariants as replies
 use Rattle.task_events.specs.Contexts.{with_use, given_back, cursor_in, without_owned}
 use Rattle.task_events.specs.Counts.{AreCounts}
-use Rattle.node_link.specs.declared.page.Page.{Page}
 use Rattle.scroll_table.specs.Contexts.{answer_for}
 use Rattle.scroll_table.specs.declared.context.PageError.{PageError}
 use Rattle.task_work.specs.declared.work.Work.{Work}
@@ -23,17 +22,6 @@ use Rattle.node_parts.specs.Opening.{opened_by}
 
 abbrev pub Contexts : Type 0
 Contexts = FinMap task_id_cmp Context
-
--- ---- the page of a command's root
-
--- the context that a page stands for
-abbrev pub context_of_page : ScrollAsk → Page → Context
-context_of_page ask page = record { id = ask.id; ask = page.ask; shards = page.shards; after = page.after; keep_ms = None; last_ms = 0; owner = ask.owner; busy = None }
-
--- and that of a start, where it starts a scroll
-abbrev pub context_of_start : Request → Option Page → Option Context
-context_of_start (asks.Scroll ask) (Some page) = Some (context_of_page ask page)
-context_of_start _ _ = None
 
 -- ---- a page of a slice
 

@@ -3,7 +3,8 @@ ghost use Rattle.std.specs.Prelude.{◌≡◌, ◌↔◌, None, Some, false, IsT
 ghost use Rattle.std.specs.FinMap as finite;
 ghost use Rattle.task_events.specs.Contexts.{cursor_in};
 ghost use Rattle.node_parts.specs.Opening.{FitsContext};
-ghost use Rattle.data_parts.specs.Slices.{context_of_start, context_for, with_use_by, is_used_by, with_return, opens_owned, CanKeep, Opens, Settles};
+ghost use Rattle.reply_facts.specs.Letters.{context_of_start};
+ghost use Rattle.data_parts.specs.Slices.{context_for, with_use_by, is_used_by, with_return, opens_owned, CanKeep, Opens, Settles};
 
 use crate::memory::or_memory;
 use node_link::{Page, Start};

@@ -38,6 +38,7 @@ pub fn child_place(parent: &Place, request: &Request) -> Place
     };
     Place {
         command: parent.command,
+        search: parent.search,
         slice: child_slice(parent, request),
         action: action_of(request),
         shard,

@@ -12,6 +12,8 @@ use Rattle.data_core.specs.declared.state.DataCore.{DataCore}
 use Rattle.data_core.specs.Cores.{IsSound}
 use Rattle.data_core.specs.Turns.{Posts, post, Turned}
 use Rattle.data_core.specs.Steps as core
+use Rattle.reply_facts.specs.Settings.{Setting}
+use Rattle.entry_facts.specs.Entries.{IsCoreOfRun}
 use Rattle.data_worker.specs.declared.state.DataState.{DataState}
 use Rattle.data_worker.specs.Posts.{addressed}
 use Rattle.node_worker.specs.declared.post.Post.{Post}
@@ -100,3 +102,7 @@ module _ {B : Type 0} (rests : B → B → DataCall → Type 0) where
 -- the core belongs to the seat
 abbrev pub Fits : {B : Type 0} → (B → ℕ) → (B → ℕ → ℕ → Type 0) → (B → Option ℕ) → (B → ℕ → Type 0) → (ℕ → Type 0) → DataCore → B → Type 0
 Fits node has drawn clear allowed core board = IsSound allowed (node board) (has board) (drawn board) (clear board) core
+
+-- the core keeps what is known of the run
+abbrev pub IsOfRun : Setting → DataCore → Type 0
+IsOfRun run core = IsCoreOfRun run core.cluster.shards core.shards core.live

@@ -1,7 +1,7 @@
 // The data worker as a kind of worker.
 ghost use Rattle.std.specs.Prelude.{◌≡◌, false, None};
 ghost use Rattle.run_facts.specs.Cancels.{cancels_of};
-ghost use Rattle.data_worker.specs.Data.{Fits};
+ghost use Rattle.data_worker.specs.Data.{Fits, IsOfRun};
 
 use crate::state::DataState;
 use data_core::DataCore;
@@ -25,9 +25,10 @@ pub struct DataKind<'g, W: Run, B: DataBoard<Of<W>>, G: Gate> {
 }
 
 impl<'g, W: Run, B: DataBoard<Of<W>>, G: Gate> DataKind<'g, W, B, G> {
-    /// A worker that has done nothing. The core belongs to the seat.
+    /// A worker that has done nothing. The core belongs to the seat, and keeps what is known of the run.
     pub fn new(alloc: Global, core: DataCore, board: B, gate: &'g G) -> DataKind<'g, W, B, G>
         requires fits { Fits B.node B.has B.drawn B.clear (cancels_of W.cancels) core board }
+        requires of_run { IsOfRun W.setting core }
         ensures is { (result.state.core ≡ core) × (result.state.board ≡ board) × (result.state.last ≡ None) × (result.state.has_said ≡ false) }
     {
         DataKind {
@@ -49,13 +50,13 @@ impl<'g, W: Run, B: DataBoard<Of<W>>, G: Gate> Turns<Of<W>> for DataKind<'g, W, 
     ghost use Rattle.run_facts.specs.Cancels.{cancels_of};
     ghost use Rattle.node_link.specs.declared.body.Body.{Body};
     ghost use Rattle.node_worker.specs.ControlPosts.{driver_of};
-    ghost use Rattle.data_worker.specs.Data.{Does, Rests, Fits, seen};
+    ghost use Rattle.data_worker.specs.Data.{Does, Rests, Fits, IsOfRun, seen};
 
     ghost did = { λ v given posts w. Does B.rests (seen v.state) given posts (seen w.state) };
 
     ghost at_rest = { λ v. Rests (seen v.state) };
 
-    ghost fits = { λ v. Fits B.node B.has B.drawn B.clear (cancels_of W.cancels) v.state.core v.state.board };
+    ghost fits = { λ v. Fits B.node B.has B.drawn B.clear (cancels_of W.cancels) v.state.core v.state.board × IsOfRun W.setting v.state.core };
 
     fn take(&mut self, body: Body) -> Result<Vec<Post<Letter<Of<W>>>>, Stop> {
         self.state.take_in(body)
@@ -71,9 +72,10 @@ impl<'g, W: Run, B: DataBoard<Of<W>>, G: Gate> Turns<Of<W>> for DataKind<'g, W, 
         self.state.step_of(task)
     }
 
-    /// Where no task is live. A live one may wait for a moment, and looks at the board meanwhile.
+    /// Where each live task has been looked at since the last letter, and waits for letters alone. One that waits for a moment looks at the
+    /// board meanwhile.
     fn may_wait(&self) -> bool {
-        self.state.core.live_after(None).is_none()
+        self.state.is_idle()
     }
 
     fn may_leave(&self) -> bool {

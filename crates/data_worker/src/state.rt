@@ -3,8 +3,9 @@ ghost use Rattle.std.specs.Prelude.{◌≡◌, ◌↔◌, true, false, None, IfO
 ghost use Rattle.run_facts.specs.Cancels.{cancels_of};
 ghost use Rattle.node_link.specs.declared.body.Body.{Body};
 ghost use Rattle.node_link.specs.Lawful.{IsLawful};
+ghost use Rattle.reply_facts.specs.Letters.{TellsPlainly};
 ghost use Rattle.live_tasks.specs.Live.{entry_at};
-ghost use Rattle.data_worker.specs.Data.{seen, Fits, Took, Said, MaySay, Stepped, Waited, IsNextInTurn, Rests};
+ghost use Rattle.data_worker.specs.Data.{seen, Fits, IsOfRun, Took, Said, MaySay, Stepped, Waited, IsNextInTurn, Rests};
 
 use crate::posts::address;
 use data_core::{DataCore, data_step, data_turn};
@@ -28,13 +29,16 @@ pub(crate) struct DataState<W: Run, B: DataBoard<Of<W>>> {
     pub(crate) last: Option<TaskId>,
     // It has said that it has left.
     pub(crate) has_said: bool,
+    // How many steps in a row have waited for letters alone, since it took one or did anything else.
+    pub(crate) idle: usize,
     pub(crate) of: PhantomData<W>,
 }
 
 impl<W: Run, B: DataBoard<Of<W>>> DataState<W, B> {
-    // A worker that has done nothing. Its core belongs to the seat.
+    // A worker that has done nothing. Its core belongs to the seat, and keeps what is known of the run.
     pub(crate) fn new(alloc: Global, core: DataCore, board: B) -> DataState<W, B>
         requires fits { Fits B.node B.has B.drawn B.clear (cancels_of W.cancels) core board }
+        requires of_run { IsOfRun W.setting core }
         ensures is { (result.core ≡ core) × (result.board ≡ board) × (result.last ≡ None) × (result.has_said ≡ false) }
     {
         DataState {
@@ -43,6 +47,7 @@ impl<W: Run, B: DataBoard<Of<W>>> DataState<W, B> {
             board,
             last: None,
             has_said: false,
+            idle: 0,
             of: PhantomData,
         }
     }
@@ -57,6 +62,7 @@ impl<W: Run, B: DataBoard<Of<W>>> DataState<W, B> {
             board,
             last: _,
             has_said: _,
+            idle: _,
             of: _,
         } = self;
         board
@@ -66,10 +72,14 @@ impl<W: Run, B: DataBoard<Of<W>>> DataState<W, B> {
     #[tactic(auto, using(crate::proofs::Doing::took_letter))]
     pub(crate) fn take_in(&mut self, body: Body) -> Result<Vec<Post<Letter<Of<W>>>>, Stop>
         requires fits { Fits B.node B.has B.drawn B.clear (cancels_of W.cancels) self.old.core self.old.board }
+        requires of_run { IsOfRun W.setting self.old.core }
         requires lawful { IsLawful (cancels_of W.cancels) body }
+        requires tells { TellsPlainly W.setting body }
         ensures fits { Fits B.node B.has B.drawn B.clear (cancels_of W.cancels) self.new.core self.new.board }
+        ensures of_run { IsOfRun W.setting self.new.core }
         ensures did { IfOk result (λ posts. Took B.rests body posts.items (seen self.old) (seen self.new)) }
     {
+        self.idle = 0;
         let gave = data_turn(&mut self.core, &mut self.board, Letter::new(body))?;
         match address(self.alloc, self.core.nodes(), gave) {
             Ok(posts) => Ok(posts),
@@ -89,18 +99,38 @@ impl<W: Run, B: DataBoard<Of<W>>> DataState<W, B> {
         }
     }
 
+    // Notes that the step of a task waits. One that waits for a moment looks at the board again.
+    fn note_wait(&mut self, task: TaskId)
+        ensures { seen self.new ≡ seen self.old }
+    {
+        self.idle = if self.core.awaits_moment(task) {
+            0
+        } else {
+            self.idle.saturating_add(1)
+        };
+    }
+
+    // Whether only a letter lets it go on: each live task has been looked at since it took the last one, and waits for letters alone.
+    pub(crate) fn is_idle(&self) -> bool {
+        self.idle >= self.core.live_count()
+    }
+
     // Does the next step of a live task.
     #[tactic(auto, using(crate::proofs::Doing::stepped_on, crate::proofs::Doing::waited_on))]
     pub(crate) fn step_of(&mut self, task: TaskId) -> Result<Option<Vec<Post<Letter<Of<W>>>>>, Stop>
         requires fits { Fits B.node B.has B.drawn B.clear (cancels_of W.cancels) self.old.core self.old.board }
+        requires of_run { IsOfRun W.setting self.old.core }
         requires next { IsNextInTurn self.old.last task self.old.core.live }
         ensures fits { Fits B.node B.has B.drawn B.clear (cancels_of W.cancels) self.new.core self.new.board }
+        ensures of_run { IsOfRun W.setting self.new.core }
         ensures did { IfOk result (λ r. MatchOption r (Waited B.rests (seen self.old) (seen self.new)) (λ posts. Stepped B.rests posts.items (seen self.old) (seen self.new))) }
     {
         self.last = Some(task);
         let Some(gave) = data_step(&mut self.core, &mut self.board, task)? else {
+            self.note_wait(task);
             return Ok(None);
         };
+        self.idle = 0;
         match address(self.alloc, self.core.nodes(), gave) {
             Ok(posts) => Ok(Some(posts)),
             Err(stop) => Err(stop),
@@ -119,8 +149,10 @@ impl<W: Run, B: DataBoard<Of<W>>> DataState<W, B> {
     #[tactic(auto, using(crate::proofs::Doing::said_once, crate::proofs::Doing::waited_idle))]
     pub(crate) fn say_left(&mut self) -> Result<Option<Vec<Post<Letter<Of<W>>>>>, Stop>
         requires fits { Fits B.node B.has B.drawn B.clear (cancels_of W.cancels) self.old.core self.old.board }
+        requires of_run { IsOfRun W.setting self.old.core }
         requires none { (n : _) → entry_at self.old.core.live n ≡ None }
         ensures fits { Fits B.node B.has B.drawn B.clear (cancels_of W.cancels) self.new.core self.new.board }
+        ensures of_run { IsOfRun W.setting self.new.core }
         ensures did { IfOk result (λ r. MatchOption r (Waited B.rests (seen self.old) (seen self.new)) (λ posts. Said posts.items (seen self.old) (seen self.new))) }
     {
         if !self.may_say() {

@@ -33,8 +33,8 @@ exact_actions a b h = search rules
 
 exact_places : CmpEqualImpliesEq place_cmp
 exact_places a b h =
-    let same = exact_pairs nat_cmp _ exact_unsigned (exact_pairs nat_cmp _ exact_unsigned (exact_pairs action_cmp nat_cmp exact_actions exact_unsigned)) (a.command, (a.slice, (a.action, a.shard))) (b.command, (b.slice, (b.action, b.shard))) h in
-    λ i. record { command = (same i).0; slice = (same i).1.0; action = (same i).1.1.0; shard = (same i).1.1.1 }
+    let same = exact_pairs nat_cmp _ exact_unsigned (exact_pairs nat_cmp _ exact_unsigned (exact_pairs nat_cmp _ exact_unsigned (exact_pairs action_cmp nat_cmp exact_actions exact_unsigned))) (a.command, (a.search, (a.slice, (a.action, a.shard)))) (b.command, (b.search, (b.slice, (b.action, b.shard)))) h in
+    λ i. record { command = (same i).0; search = (same i).1.0; slice = (same i).1.1.0; action = (same i).1.1.1.0; shard = (same i).1.1.1.1 }
 
 pub same_place : (a b : Place) → is_at (place_cmp a) b ≡ true → a ≡ b
 same_place a b e = tells_apart exact_places a b e

@@ -3,9 +3,11 @@ use Rattle.std.specs.Prelude.{◌≡◌, ℕ, ◌-◌, true, List, [], ◌∷◌
 use Rattle.task_ids.specs.declared.task_id.TaskId.{TaskId}
 use Rattle.child_track.specs.Token.{ReceiptParts}
 use Rattle.child_track.specs.Track.{Track, Answers, with_answer, is_awaited, unanswered}
+use Rattle.task_events.specs.declared.answered.AnsweredRequest.{AnsweredRequest}
 use Rattle.task_events.specs.declared.reply.Reply.{Reply}
 use Rattle.task_ids.specs.declared.doc.Doc.{Doc}
 use Rattle.task_events.specs.declared.step.Do.TheVariants.{Turn}
+use Rattle.task_work.specs.Awaiting.{IsAskedBy}
 use Rattle.task_work.specs.Works.{work_takes, can_ask, next_of}
 use Rattle.node_parts.specs.Running.{next_number}
 use Rattle.node_boards.specs.Calls.{DataCall}
@@ -31,8 +33,14 @@ abbrev pub asker : LiveTasks → Option TaskId → Option Entry
 asker live None = None
 asker live (Some parent) = entry_at live parent.number
 
-abbrev pub Fits : LiveTasks → ReceiptParts → Place → Reply → Type 0
-Fits live receipt place reply = IsAnswer receipt reply (asker live receipt.parent) × IsOfPlace receipt place (asker live receipt.parent)
+-- and what it tells that it answers looks as what was asked for
+abbrev pub IsToAsk : ReceiptParts → AnsweredRequest → Option Entry → Type 0
+IsToAsk receipt request None = ⊥
+IsToAsk receipt request (Some e) = IsAskedBy e.running.work receipt.ask request
+
+-- the answer of the child at a place to a request is one that the live task which asked waits for
+abbrev pub Fits : LiveTasks → ReceiptParts → Place → AnsweredRequest → Reply → Type 0
+Fits live receipt place request reply = IsAnswer receipt reply (asker live receipt.parent) × IsOfPlace receipt place (asker live receipt.parent) × IsToAsk receipt request (asker live receipt.parent)
 
 -- a node, unless the task awaits an answer from there
 abbrev pub unless_awaited : Track → Option ℕ → Option ℕ

@@ -9,6 +9,6 @@ use Rattle.node_link.specs.contracts.body.PlaceOrd.TheImpl as place_ord
 abbrev pub action_cmp : Action → Action → Ordering
 action_cmp = (action_ord.ghosts).cmp
 
--- by command, then by slice, action and shard
+-- by command, then by search, slice, action and shard
 abbrev pub place_cmp : Place → Place → Ordering
 place_cmp = (place_ord.ghosts).cmp

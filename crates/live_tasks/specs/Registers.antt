@@ -6,6 +6,7 @@ use Rattle.child_track.specs.Token.{Token, token_parent}
 use Rattle.child_track.specs.Track.{new_track}
 use Rattle.task_events.specs.Answered.{as_answered}
 use Rattle.task_table.specs.TicketParts.{TicketParts}
+use Rattle.task_work.specs.Awaiting.{IsSoundSearch}
 use Rattle.task_work.specs.Plans.{IsWorkAt, no_progress}
 use Rattle.task_work.specs.declared.work.Work.{Work}
 use Rattle.task_work.specs.Works.{IsNewWork, IsBegun, IsWorkOn}
@@ -38,6 +39,7 @@ pub record IsWorkFor (id : TaskId) (wanted : Wanted) (shards : ℕ) (work : Work
   pub begun : IsBegun id wanted.request.now shards work
   pub on : (writes : List Doc) → IsWorkOn work writes
   pub at : (writes : List Doc) → IsWorkAt id wanted.request.now shards (no_progress (option_copied wanted.context)) writes work
+  pub sound : IsSoundSearch work
 
 -- What the task with this id is made of: it has done nothing, and carries what its request carries.
 pub record AreParts (id : TaskId) (parent : Option TaskId) (wanted : Wanted) (shards now : ℕ) (p : Parts) : Type 0 where

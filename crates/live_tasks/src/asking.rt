@@ -15,7 +15,7 @@ use crate::table::task;
 use child_track::{AskToken, Receipt};
 use node_boards::DataBoard;
 use node_link::Place;
-use task_events::{Reply, Stop};
+use task_events::{AnsweredRequest, Reply, Stop};
 use task_ids::BoardName;
 
 impl LiveTasks {
@@ -40,16 +40,22 @@ impl LiveTasks {
         }
     }
 
-    /// Whether an answer is to an unanswered ask of a live task, is of the place that was asked for, and is one that the ask's request
-    /// can have.
-    pub fn fits(&self, receipt: &Receipt, place: &Place, reply: &Reply) -> bool
-        ensures { IsTrue result ↔ Fits self.now receipt.now place.now reply.now }
+    /// Whether an answer is to an unanswered ask of a live task, is of the place that was asked for, tells that it answers what was
+    /// asked for, and is one that the ask's request can have.
+    pub fn fits(
+        &self,
+        receipt: &Receipt,
+        place: &Place,
+        request: &AnsweredRequest,
+        reply: &Reply,
+    ) -> bool
+        ensures { IsTrue result ↔ Fits self.now receipt.now place.now request.now reply.now }
     {
         let Some(parent) = receipt.parent() else {
             return false;
         };
         match self.get(parent.number) {
-            Some(entry) => entry.fits(receipt, place, reply),
+            Some(entry) => entry.fits(receipt, place, request, reply),
             None => false,
         }
     }

@@ -1,6 +1,6 @@
 // A live task, as its core keeps it, and what it leaves.
 ghost use Rattle.std.specs.Prelude.{◌≡◌, ◌↔◌, IsTrue, Some};
-ghost use Rattle.live_tasks.specs.Answering.{IsAnswer, IsOfPlace};
+ghost use Rattle.live_tasks.specs.Answering.{IsAnswer, IsOfPlace, IsToAsk};
 ghost use Rattle.live_tasks.specs.Entries.{ended};
 
 use crate::places::AskedPlaces;
@@ -45,15 +45,22 @@ pub struct EndedTask {
 }
 
 impl Entry {
-    /// Whether an answer is to an unanswered ask of this task, is of the place that was asked for, and is one that the ask's request can
-    /// have.
-    pub(crate) fn fits(&self, receipt: &Receipt, place: &Place, reply: &Reply) -> bool
-        ensures { IsTrue result ↔ (IsAnswer receipt.now reply.now (Some self.now) × IsOfPlace receipt.now place.now (Some self.now)) }
+    /// Whether an answer is to an unanswered ask of this task, is of the place that was asked for, tells that it answers what was asked
+    /// for, and is one that the ask's request can have.
+    pub(crate) fn fits(
+        &self,
+        receipt: &Receipt,
+        place: &Place,
+        request: &AnsweredRequest,
+        reply: &Reply,
+    ) -> bool
+        ensures { IsTrue result ↔ (IsAnswer receipt.now reply.now (Some self.now) × IsOfPlace receipt.now place.now (Some self.now) × IsToAsk receipt.now request.now (Some self.now)) }
     {
         let ask = receipt.ask();
         self.running.track.awaits(receipt)
             && self.asked.is_at(ask, place)
             && self.running.work.takes(ask, reply)
+            && self.running.work.asks_for(ask, request)
     }
 
     /// The task taken apart: its right to end, its asks, and what it leaves.

@@ -32,9 +32,9 @@ IsWorker w = w < 4
 abbrev pub IsTick : ℕ → Type 0
 IsTick ms = ms ≤ 86400000
 
--- a reindex has at most 32 slices, and an index at most 15 shards
+-- it belongs to a command's tree, and looks through a search's rows; a reindex has at most 32 slices, and an index at most 15 shards
 abbrev pub IsPlace : Place → Type 0
-IsPlace p = IsCommand p.command × (p.slice ≤ 32) × (p.shard < 15)
+IsPlace p = IsCommand p.command × IsCommand p.search × (p.slice ≤ 32) × (p.shard < 15)
 
 abbrev pub is_page : AnsweredRequest → Bool
 is_page (told.Search ask) = false

@@ -13,6 +13,9 @@ use tasks_api::Filter;
 pub struct Place {
     /// The command of its tree, from 1.
     pub command: u32,
+    /// The command whose search is looked through, from 1: of a page and what that asks for the one that opened the context, and
+    /// of any other task that of its tree.
+    pub search: u32,
     /// 1 plus its slice, or 0 without one.
     pub slice: u32,
     pub action: Action,

@@ -23,7 +23,8 @@ use task_ids::Cluster;
 
 // The core of the node's data worker, which holds both shards of the index `a`, and may have 64 live tasks.
 fn data_core(alloc: Global) -> Option<DataCore>
-    ensures { IfSome result (IsNewDataCore 1) }
+    ensures new { IfSome result (IsNewDataCore 1) }
+    ensures shards { IfSome result (λ core. core.cluster.shards ≡ 2) }
 {
     let cluster = Cluster {
         nodes: 1,

@@ -3,14 +3,26 @@ ghost use Rattle.std.specs.Prelude.{◌≤◌};
 
 use node_link::{Body, Letter, Place, Start};
 use query_match::{Query, SearchBody};
-use run_facts::Of;
+use run_facts::{Of, Run};
 use shared_value::Shared;
 use std::alloc::Global;
 use task_events::{Request, SearchAsk};
-use task_ids::{Action, AnyCancel, Headers, TaskId, Text};
+use task_ids::{Action, Headers, TaskId, Text};
 
-/// The run of these tests.
-pub type Name = Of<AnyCancel>;
+/// The run of these tests. It has each cancellation, and its indices have two shards. Nothing else is known of it.
+pub struct Plays;
+
+impl Run for Plays {
+    ghost use Rattle.std.specs.Prelude.{[]};
+    ghost use Rattle.reply_facts.specs.Settings.{only};
+
+    ghost cancels = { λ _. Unit {0} };
+
+    ghost setting = { only (record { lines = [] }) 2 };
+}
+
+/// Its name.
+pub type Name = Of<Plays>;
 
 /// Its letters.
 pub type Note = Letter<Name>;
@@ -53,6 +65,7 @@ pub fn search(alloc: Global, command: u32) -> Option<Note>
     let ask = Shared::new(alloc, ask(alloc)?).ok()?;
     let place = Place {
         command,
+        search: command,
         slice: 0,
         action: Action::Search,
         shard: 0,

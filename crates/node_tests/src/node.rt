@@ -2,7 +2,7 @@
 ghost use Rattle.std.specs.Prelude.{◌<◌, ◌≤◌};
 ghost use Rattle.task_ids.specs.Limits.{IsSlotCount};
 
-use crate::commands::{Name, Note, search};
+use crate::commands::{Name, Note, Plays, search};
 use crate::driver::{Driver, Heard};
 use es_io::{Gate, ThreadSpawner};
 use node_worker::{Turns, Worker};
@@ -11,7 +11,6 @@ use run_threads::{Workers, run_workers};
 use std::alloc::{AllocError, Global};
 use std::sync::Wait;
 use std::thread::Threads;
-use task_ids::AnyCancel;
 
 /// How large the boards and inboxes are.
 #[derive(Clone, Copy)]
@@ -113,7 +112,7 @@ pub fn run<
         },
     };
     let mut spawner = ThreadSpawner::new();
-    match run_workers::<AnyCancel, C, D, ThreadSpawner, Driver<'_, G>, R>(
+    match run_workers::<Plays, C, D, ThreadSpawner, Driver<'_, G>, R>(
         rt,
         alloc,
         workers,

@@ -9,6 +9,14 @@ use Rattle.node_link.specs.declared.body.Body.{Body}
 use Rattle.node_link.specs.declared.body.Body.TheVariants as says
 use Rattle.node_worker.specs.declared.post.Post.{Post}
 
+-- the letter asks for nothing, starts nothing and replies nothing, as those that a control worker sends
+abbrev pub IsOfControl : Body → Type 0
+IsOfControl (says.Request asked) = ⊥
+IsOfControl (says.Start start) = ⊥
+IsOfControl (says.Answer answered) = ⊥
+IsOfControl (says.RootAnswer answered) = ⊥
+IsOfControl _ = Unit {0}
+
 -- each node has two inboxes, its control worker's first, and the driver's comes after all
 abbrev pub control_of : ℕ → ℕ
 control_of node = 2 * (node - 1)

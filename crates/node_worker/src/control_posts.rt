@@ -7,7 +7,7 @@ ghost use Rattle.task_ids.specs.Limits.{IsNode};
 ghost use Rattle.node_link.specs.declared.body.Body.{Body};
 ghost use Rattle.node_link.specs.Lawful.{IsLawful};
 ghost use Rattle.control_worker.specs.Lawful.{IsLawfulAct, IsLawfulCore};
-ghost use Rattle.node_worker.specs.ControlPosts.{control_of, driver_of, is_own, to_control, to_driver, core_post, act_post, left_posts};
+ghost use Rattle.node_worker.specs.ControlPosts.{IsOfControl, control_of, driver_of, is_own, to_control, to_driver, core_post, act_post, left_posts};
 
 use crate::post::Post;
 use cancel_core::Act;
@@ -21,7 +21,7 @@ use task_ids::TaskId;
 fn to_control<N: RunName>(nodes: u32, to: u32, body: Body) -> Option<Post<Letter<N>>>
     requires nodes { IsNode nodes }
     requires lawful { IsNode to → IsLawful N.allowed body }
-    requires asks { (b : Body) → N.asks b }
+    requires asked { N.asks body }
     ensures { result ≡ to_control nodes to body }
 {
     if !(1 <= to && to <= nodes) {
@@ -37,7 +37,7 @@ fn to_control<N: RunName>(nodes: u32, to: u32, body: Body) -> Option<Post<Letter
 pub(crate) fn to_driver<N: RunName>(nodes: u32, body: Body) -> Post<Letter<N>>
     requires nodes { IsNode nodes }
     requires lawful { IsLawful N.allowed body }
-    requires asks { (b : Body) → N.asks b }
+    requires asked { N.asks body }
     ensures { result ≡ to_driver nodes body }
 {
     Post {
@@ -62,7 +62,7 @@ fn core_post<N: RunName>(nodes: u32, node: u32, act: Act) -> Option<Post<Letter<
     requires nodes { IsNode nodes }
     requires node { IsNode node }
     requires lawful { IsLawfulCore N.allowed act }
-    requires asks { (b : Body) → N.asks b }
+    requires asks { (b : Body) → IsOfControl b → N.asks b }
     ensures { result ≡ core_post nodes node act }
 {
     match act {
@@ -99,7 +99,7 @@ fn act_post<N: RunName>(nodes: u32, node: u32, act: ControlAct) -> Option<Post<L
     requires nodes { IsNode nodes }
     requires node { IsNode node }
     requires lawful { IsLawfulAct N.allowed act }
-    requires asks { (b : Body) → N.asks b }
+    requires asks { (b : Body) → IsOfControl b → N.asks b }
     ensures { result ≡ act_post nodes node act }
 {
     match act {
@@ -130,7 +130,7 @@ pub(crate) fn act_posts<N: RunName>(
     requires nodes { IsNode nodes }
     requires node { IsNode node }
     requires lawful { All (IsLawfulAct N.allowed) acts.items }
-    requires asks { (b : Body) → N.asks b }
+    requires asks { (b : Body) → IsOfControl b → N.asks b }
     ensures { IfOk result (λ posts. posts.items ≡ filter_map (act_post nodes node) acts.items) }
 {
     let mut posts = Vec::new(alloc);
@@ -150,7 +150,7 @@ pub(crate) fn left_posts<N: RunName>(
 ) -> Result<Vec<Post<Letter<N>>>, AllocError>
     requires nodes { IsNode nodes }
     requires node { IsNode node }
-    requires asks { (b : Body) → N.asks b }
+    requires asks { (b : Body) → IsOfControl b → N.asks b }
     ensures { IfOk result (λ posts. posts.items ≡ left_posts node nodes) }
 {
     let mut posts = Vec::new(alloc);

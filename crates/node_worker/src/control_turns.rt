@@ -6,6 +6,7 @@ ghost use Rattle.control_worker.specs.Together.{Together};
 ghost use Rattle.node_link.specs.declared.body.Body.{Body};
 ghost use Rattle.node_link.specs.Lawful.{IsLawful};
 ghost use Rattle.node_worker.specs.Leaving.{NobodyLeft};
+ghost use Rattle.node_worker.specs.ControlPosts.{IsOfControl};
 ghost use Rattle.node_worker.specs.Control.{seen, Took, MaySay, Said, Fits, Rests};
 
 use crate::control_posts::{act_posts, left_posts};
@@ -49,7 +50,8 @@ impl<N: RunName, B: ControlBoard<N>> ControlState<N, B> {
     pub(crate) fn take_in(&mut self, body: Body) -> Result<Vec<Post<Letter<N>>>, Stop>
         requires fits { Fits B.bans B.slots N.allowed (seen self.old) }
         requires lawful { IsLawful N.allowed body }
-        requires asks { (b : Body) → N.asks b }
+        requires asked { N.asks body }
+        requires asks { (b : Body) → IsOfControl b → N.asks b }
         ensures fits { Fits B.bans B.slots N.allowed (seen self.new) }
         ensures did { IfOk result (λ posts. Took B.rests body posts.items (seen self.old) (seen self.new)) }
     {
@@ -75,7 +77,7 @@ impl<N: RunName, B: ControlBoard<N>> ControlState<N, B> {
     #[tactic(auto, using(crate::proofs::Controlling::said_once))]
     pub(crate) fn say_left(&mut self) -> Result<Option<Vec<Post<Letter<N>>>>, Stop>
         requires fits { Fits B.bans B.slots N.allowed (seen self.old) }
-        requires asks { (b : Body) → N.asks b }
+        requires asks { (b : Body) → IsOfControl b → N.asks b }
         ensures fits { Fits B.bans B.slots N.allowed (seen self.new) }
         ensures did { IfOk result (λ r. MatchOption r ((seen self.new ≡ seen self.old) × ¬ MaySay (seen self.old)) (λ posts. Said posts.items (seen self.old) (seen self.new))) }
     {

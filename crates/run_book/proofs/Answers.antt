@@ -1,12 +1,15 @@
 -- A command that is as far as it can be stays so by each letter, and is so as it begins.
 use Rattle.std.proofs.Common.{◌≡◌, ◌⊎◌, inl, inr, ℕ, ◌+◌, ◌-◌, Bool, true, false, not, List, [], ◌∷◌, ◌++◌, length, take, Option, None, Some, refl, sym, ap, subst, ◌∙◌, arith, length-append}
-use Rattle.std.specs.Prelude.{IsSomeAnd, IfSome, is_some, slice_get, ◌==◌, ◌&&◌, ◌||◌}
+use Rattle.std.specs.Prelude.{IsSomeAnd, IfSome, is_some, option_map, slice_get, ◌==◌, ◌&&◌, ◌||◌}
 use Rattle.std.specs.Option.{option_eq}
 use Rattle.std.proofs.lemmas.Bool.{and_parts, cases_Bool}
 use Rattle.child_track.specs.Token.{ReceiptParts}
-use Rattle.node_link.specs.Lawful.{IsLawfulReply}
+use Rattle.command_roots.specs.Roots.{search_of}
+use Rattle.node_link.specs.Lawful.{IsLawfulRootAnswer}
+use Rattle.node_link.specs.declared.body.RootAnswered.{RootAnswered}
+use Rattle.reply_facts.specs.Letters.{IsAnswerAt}
+use Rattle.reply_facts.specs.Settings.{Setting, sought_by}
 use Rattle.script_lang.specs.declared.command.Command.{Command}
-use Rattle.task_events.specs.declared.reply.Reply.{Reply}
 use Rattle.task_ids.specs.declared.task_id.TaskId.{TaskId}
 use Rattle.task_ids.specs.declared.task_info.TaskInfo.{TaskInfo}
 use Rattle.task_ids.proofs.SameId.{same_id-from_test}
@@ -17,10 +20,12 @@ use Rattle.run_book.specs.declared.entry.Waits.TheVariants as waits
 use Rattle.run_book.specs.Told.{all_told, is_whole, with_part}
 use Rattle.run_book.specs.Notes.{HasCancelled, IsLast, IsReceiptOf, cancel_in, is_list, moment_after, names_one}
 use Rattle.run_book.specs.Answering as answers
-use Rattle.run_book.specs.Answering.{is_of_last, is_receipt_of, is_settled, same_bool, same_id, settled, shows_last, with_done, with_named, with_rows, without_answer}
+use Rattle.run_book.specs.Answering.{IsToState, is_of_last, is_receipt_of, is_settled, same_bool, same_id, settled, shows_last, with_done, with_named, with_rows, without_answer}
+use Rattle.run_book.specs.Contexts.{MayOpen, opening}
 use Rattle.run_book.specs.Entries.{IsState}
 use Rattle.run_book.proofs.Places.{at_end}
 use Rattle.run_book.proofs.Shown.{listed_shows}
+use Rattle.run_book.proofs.Shows.{may_open, task_note}
 
 pub some_and : {T : Type 0} (o : Option T) (P Q : T → Type 0) → ((x : T) → P x → Q x) → IsSomeAnd o P → IsSomeAnd o Q
 some_and None P Q f p = p
@@ -76,9 +81,9 @@ own_receipt : (receipt : Option ReceiptParts) (task : TaskId) → is_some receip
 own_receipt None task is own = absurd (cc)
 own_receipt (Some receipt) task is own = own
 
-module _ (allowed : ℕ → Type 0) (known : List ℕ → Bool) (script : List Command) (k : ℕ) (c : Command) where
+module _ (allowed : ℕ → Type 0) (run : Setting) (known : List ℕ → Bool) (script : List Command) (k : ℕ) (c : Command) where
   abbrev Fit : State → Type 0
-  Fit s = IsState allowed known script k c s
+  Fit s = IsState allowed run known script k c s
 
   settled_fits : (naming : Naming) → IsSomeAnd (cancel_in c) (λ t. (names_one t.0 ≡ false) × (t.1 ≡ naming.wait)) → Fit (settled naming)
   settled_fits naming asked = by_test (cases_Bool (is_settled naming))
@@ -117,7 +122,7 @@ module _ (allowed : ℕ → Type 0) (known : List ℕ → Bool) (script : List C
       by_test (inr fails) = rw fails asked
 
   pub cancelled_fits : (task : TaskId) (receipt : Option ReceiptParts) → IfSome receipt (λ r. r.task ≡ Some task) → (s : State) → Fit s → Fit (answers.after_cancelled s task receipt)
-  cancelled_fits task receipt own (states.Waits (waits.Root page)) fits = fits
+  cancelled_fits task receipt own (states.Waits (waits.Root asked)) fits = fits
   cancelled_fits task receipt own (states.Waits (waits.Cancel named wait)) fits = one_fits named wait task receipt own fits
   cancelled_fits task receipt own (states.Waits (waits.Naming naming)) fits = one_of_fits naming task receipt fits
   cancelled_fits task receipt own (states.Waits (waits.Rows rows now)) fits = fits
@@ -125,7 +130,7 @@ module _ (allowed : ℕ → Type 0) (known : List ℕ → Bool) (script : List C
   cancelled_fits task receipt own states.Told fits = fits
 
   pub not_found_fits : (s : State) → Fit s → Fit (answers.after_not_found s)
-  not_found_fits (states.Waits (waits.Root page)) fits = fits
+  not_found_fits (states.Waits (waits.Root asked)) fits = fits
   not_found_fits (states.Waits (waits.Cancel task wait)) fits = some_and (cancel_in c) (λ t. (names_one t.0 ≡ true) × (t.1 ≡ wait)) (λ t. names_one t.0 ≡ true) (λ t is. is.0) fits
   not_found_fits (states.Waits (waits.Naming naming)) fits = fits
   not_found_fits (states.Waits (waits.Rows rows now)) fits = fits
@@ -133,7 +138,7 @@ module _ (allowed : ℕ → Type 0) (known : List ℕ → Bool) (script : List C
   not_found_fits states.Told fits = fits
 
   pub named_fits : (node : ℕ) (tasks : List TaskId) (s : State) → Fit s → Fit (answers.after_named node tasks s)
-  named_fits node tasks (states.Waits (waits.Root page)) fits = fits
+  named_fits node tasks (states.Waits (waits.Root asked)) fits = fits
   named_fits node tasks (states.Waits (waits.Cancel task wait)) fits = fits
   named_fits node tasks (states.Waits (waits.Naming naming)) fits = settled_fits (with_named naming node tasks) fits
   named_fits node tasks (states.Waits (waits.Rows rows now)) fits = fits
@@ -148,20 +153,29 @@ module _ (allowed : ℕ → Type 0) (known : List ℕ → Bool) (script : List C
       by_test (inr fails) = rw fails fits
 
   pub rows_fit : (node : ℕ) (part : List TaskInfo) (s : State) → Fit s → Fit (answers.after_rows node part s)
-  rows_fit node part (states.Waits (waits.Root page)) fits = fits
+  rows_fit node part (states.Waits (waits.Root asked)) fits = fits
   rows_fit node part (states.Waits (waits.Cancel task wait)) fits = fits
   rows_fit node part (states.Waits (waits.Naming naming)) fits = fits
   rows_fit node part (states.Waits (waits.Rows rows now)) fits = list_fits (with_part rows node part) now fits
   rows_fit node part (states.Answered answer) fits = fits
   rows_fit node part states.Told fits = fits
 
-  pub root_fits : (reply : Reply) → IsLawfulReply allowed reply → (s : State) → Fit s → Fit (answers.after_root reply s)
-  root_fits reply lawful (states.Waits (waits.Root page)) fits = (fits, lawful)
-  root_fits reply lawful (states.Waits (waits.Cancel task wait)) fits = fits
-  root_fits reply lawful (states.Waits (waits.Naming naming)) fits = fits
-  root_fits reply lawful (states.Waits (waits.Rows rows now)) fits = fits
-  root_fits reply lawful (states.Answered answer) fits = fits
-  root_fits reply lawful states.Told fits = fits
+  pub root_fits : (a : RootAnswered) → IsLawfulRootAnswer allowed a → IsAnswerAt run a.place a.request a.page a.reply → run.sought a.place.command ≡ option_map sought_by (search_of c) → (s : State) → IsToState s a → Fit s → Fit (answers.after_root a.reply s)
+  root_fits a lawful tells sought (states.Waits (waits.Root asked)) to fits = task_note allowed run a lawful tells c sought asked fits to
+  root_fits a lawful tells sought (states.Waits (waits.Cancel task wait)) to fits = absurd to
+  root_fits a lawful tells sought (states.Waits (waits.Naming naming)) to fits = absurd to
+  root_fits a lawful tells sought (states.Waits (waits.Rows rows now)) to fits = absurd to
+  root_fits a lawful tells sought (states.Answered answer) to fits = absurd to
+  root_fits a lawful tells sought states.Told to fits = absurd to
+
+  -- what the awaited answer of a root may open
+  pub root_opens : (a : RootAnswered) → IsLawfulRootAnswer allowed a → IsAnswerAt run a.place a.request a.page a.reply → run.sought a.place.command ≡ option_map sought_by (search_of c) → (s : State) → IsToState s a → Fit s → MayOpen run a.place.command (opening a.request a.reply)
+  root_opens a lawful tells sought (states.Waits (waits.Root asked)) to fits = may_open allowed run a lawful tells c sought asked fits to
+  root_opens a lawful tells sought (states.Waits (waits.Cancel task wait)) to fits = absurd to
+  root_opens a lawful tells sought (states.Waits (waits.Naming naming)) to fits = absurd to
+  root_opens a lawful tells sought (states.Waits (waits.Rows rows now)) to fits = absurd to
+  root_opens a lawful tells sought (states.Answered answer) to fits = absurd to
+  root_opens a lawful tells sought states.Told to fits = absurd to
 
   pub taken_fits : (s : State) → Fit s → Fit (without_answer s)
   taken_fits (states.Waits awaited) fits = fits

@@ -1,6 +1,6 @@
 -- A command is as far as it can be as it begins.
 use Rattle.std.proofs.Common.{◌≡◌, ◌⊎◌, inl, inr, ℕ, ◌+◌, Bool, true, false, List, length, take, Option, None, Some, Result, Ok, Err, refl, sym, ap, subst, ◌∙◌, arith}
-use Rattle.std.specs.Prelude.{IsSomeAnd, is_some, slice_get}
+use Rattle.std.specs.Prelude.{IsSome, IsSomeAnd, is_some, slice_get}
 use Rattle.std.proofs.lemmas.Bool.{cases_Bool}
 use Rattle.command_roots.specs.Reindexes.{reindex_ask}
 use Rattle.command_roots.specs.Roots.{least_size}
@@ -11,6 +11,7 @@ use Rattle.query_parse.specs.Reindexes.{reindex_at}
 use Rattle.query_parse.specs.declared.fault.BodyError.{BodyError}
 use Rattle.query_parse.specs.declared.fault.ReindexError.{ReindexError}
 use Rattle.query_parse.specs.declared.reindex_body.ReindexBody.{ReindexBody}
+use Rattle.reply_facts.specs.Settings.{Setting}
 use Rattle.run_facts.specs.Cancels.{cancels_of}
 use Rattle.run_facts.specs.declared.Post.{Post}
 use Rattle.script_lang.specs.declared.command.CancelTarget.{CancelTarget}
@@ -27,17 +28,18 @@ use Rattle.run_book.specs.declared.starts.Asks.TheVariants as asked
 use Rattle.line_print.specs.declared.reply.LineReply.TheVariants as replies
 use Rattle.task_events.specs.declared.request.Request.TheVariants as requests
 use Rattle.run_book.specs.Notes.{moment_after, names_one, tick_of}
-use Rattle.run_book.specs.Begun.{Begins, cancelled, cancelled_if, cancelled_task, context_in, is_node_of, page_at, reindex_asks, scrolled, scrolled_if, search_asks, started}
+use Rattle.run_book.specs.Begun.{Begins, cancelled, cancelled_if, cancelled_task, context_in, is_node_of, opener_in, page_at, reindex_asks, scrolled, scrolled_if, search_asks, started}
 use Rattle.run_book.specs.Entries.{IsState, Keeps, is_known_to, root_of}
+use Rattle.run_book.proofs.Opened.{page_sought}
 use Rattle.run_book.proofs.Sums.{next_moment}
 
 -- a reindex whose source is known starts with what its body asks
 pub asks_for : (known : List ℕ → Bool) (slices : ℕ) (rate : Option ℕ) (read : ReindexBody) (ask : ReindexAsk) → known read.source ≡ true → reindex_ask read slices rate ≡ Some ask → reindex_asks known slices rate (Ok read) ≡ Some (asked.Task (requests.Reindex ask))
 asks_for known slices rate read ask is some = rw (is, some) refl
 
-module _ (allowed : ℕ → Type 0) (known : List ℕ → Bool) (script : List Command) (k : ℕ) where
+module _ (allowed : ℕ → Type 0) (run : Setting) (known : List ℕ → Bool) (script : List Command) (k : ℕ) where
   abbrev Fit : Command → State → Type 0
-  Fit c s = IsState allowed known script k c s
+  Fit c s = IsState allowed run known script k c s
 
   -- ---- searches
 
@@ -47,7 +49,7 @@ module _ (allowed : ℕ → Type 0) (known : List ℕ → Bool) (script : List C
   search_fits index node scroll body opaque_id (Ok read) is = by_test (cases_Bool (known index))
     where
       by_test : (known index ≡ true) ⊎ (known index ≡ false) → Fit (Search index node scroll body opaque_id) (started k (Search index node scroll body opaque_id) node (search_asks known index scroll (Ok read))).0
-      by_test (inl holds) = rw holds refl
+      by_test (inl holds) = rw (holds, is) refl
       by_test (inr fails) = rw (fails, is) (refl, fails)
 
   -- ---- reindexes
@@ -64,7 +66,7 @@ module _ (allowed : ℕ → Type 0) (known : List ℕ → Bool) (script : List C
       by_ask holds (Some ask) some =
           let it = rw (holds, some) at asked_is in
           let of : asked.Task (requests.Reindex ask) ≡ asks = cc in
-          rw (← of) refl
+          rw (← of) tt
 
       by_test : (known read.source ≡ true) ⊎ (known read.source ≡ false) → Fit (Reindex node body slices rate opaque_id) (started k (Reindex node body slices rate opaque_id) node asks).0
       by_test (inl holds) = by_ask holds (reindex_ask read slices rate) refl
@@ -75,13 +77,14 @@ module _ (allowed : ℕ → Type 0) (known : List ℕ → Bool) (script : List C
 
   -- ---- scrolls
 
-  page_fits : (context : _) (keep : Option ℕ) (opaque_id : _) (id : TaskId) (page : Option Page) → Fit (Scroll context keep opaque_id) (scrolled k (Scroll context keep opaque_id) id keep page).0
-  page_fits context keep opaque_id id None = refl
-  page_fits context keep opaque_id id (Some page) = refl
+  page_fits : (context : _) (keep : Option ℕ) (opaque_id : _) (id : TaskId) (search : ℕ) (page : Option Page) → ((p : Page) → page ≡ Some p → IsSome (run.sought search)) → Fit (Scroll context keep opaque_id) (scrolled k (Scroll context keep opaque_id) id keep search page).0
+  page_fits context keep opaque_id id search None sought = refl
+  page_fits context keep opaque_id id search (Some page) sought = sought page refl
 
-  scroll_fits : (context : _) (keep : Option ℕ) (opaque_id : _) (page_at : TaskId → Option Page) (named : Option TaskId) → Fit (Scroll context keep opaque_id) (scrolled_if k (Scroll context keep opaque_id) keep page_at named).0
-  scroll_fits context keep opaque_id page_at None = refl
-  scroll_fits context keep opaque_id page_at (Some id) = page_fits context keep opaque_id id (page_at id)
+  scroll_fits : (context : _) (keep : Option ℕ) (opaque_id : _) (opener_in : TaskId → ℕ) (page_at : TaskId → Option Page) → ((id : TaskId) (p : Page) → page_at id ≡ Some p → IsSome (run.sought (opener_in id)))
+      → (named : Option TaskId) → Fit (Scroll context keep opaque_id) (scrolled_if k (Scroll context keep opaque_id) keep opener_in page_at named).0
+  scroll_fits context keep opaque_id opener_in page_at sought None = refl
+  scroll_fits context keep opaque_id opener_in page_at sought (Some id) = page_fits context keep opaque_id id (opener_in id) (page_at id) (sought id)
 
   -- ---- cancels
 
@@ -106,25 +109,25 @@ given : {T : Type 0} (o : Option T) (P : T → Type 0) → IsSomeAnd o P → (x 
 given None P p = absurd p
 given (Some x) P p = (x, refl, p)
 
-module _ {W : Type 0} (cancels : ℕ → Type 0) (book : Book W) where
+module _ {W : Type 0} (cancels : ℕ → Type 0) (run : Setting) (book : Book W) where
   abbrev Now : ℕ → Command → State → Type 0
-  Now k c s = IsState (cancels_of cancels) (is_known_to book) book.script.now k c s
+  Now k c s = IsState (cancels_of cancels) run (is_known_to book) book.script.now k c s
 
-  moved : (c : Command) → Keeps cancels book → slice_get book.script.now (length book.entries.items) ≡ Some c → book.clock + tick_of c ≡ moment_after (take (length book.entries.items + 1) book.script.now)
+  moved : (c : Command) → Keeps cancels run book → slice_get book.script.now (length book.entries.items) ≡ Some c → book.clock + tick_of c ≡ moment_after (take (length book.entries.items + 1) book.script.now)
   moved c keeps there = ap (λ (n : ℕ). n + tick_of c) keeps.clock ∙ sym (next_moment book.script.now (length book.entries.items) c there)
 
-  stands : (c : Command) → tick_of c ≡ 0 → Keeps cancels book → slice_get book.script.now (length book.entries.items) ≡ Some c → book.clock ≡ moment_after (take (length book.entries.items + 1) book.script.now)
+  stands : (c : Command) → tick_of c ≡ 0 → Keeps cancels run book → slice_get book.script.now (length book.entries.items) ≡ Some c → book.clock ≡ moment_after (take (length book.entries.items + 1) book.script.now)
   stands c none keeps there = let it = moved c keeps there in let zero_more : book.clock + tick_of c ≡ book.clock = omega (arith, none) in sym zero_more ∙ it
 
   -- what a command comes to that begins next fits it
-  pub begins_fit : (k : ℕ) (c : Command) (state : State) (posts : List (Post Body)) → Keeps cancels book → k ≡ length book.entries.items + 1 → slice_get book.script.now (length book.entries.items) ≡ Some c → Begins book k c state posts → Now k c state
-  begins_fit k (Search index node scroll body opaque_id) state posts keeps is there begins = subst (Now k (Search index node scroll body opaque_id)) (sym begins.0) (search_fits (cancels_of cancels) (is_known_to book) book.script.now k index node scroll body opaque_id (body_at (is_some scroll) (least_size scroll) body) refl)
-  begins_fit k (Scroll context keep opaque_id) state posts keeps is there begins = subst (Now k (Scroll context keep opaque_id)) (sym begins.0) (scroll_fits (cancels_of cancels) (is_known_to book) book.script.now k context keep opaque_id (page_at book) (context_in book context))
+  pub begins_fit : (k : ℕ) (c : Command) (state : State) (posts : List (Post Body)) → Keeps cancels run book → k ≡ length book.entries.items + 1 → slice_get book.script.now (length book.entries.items) ≡ Some c → Begins book k c state posts → Now k c state
+  begins_fit k (Search index node scroll body opaque_id) state posts keeps is there begins = subst (Now k (Search index node scroll body opaque_id)) (sym begins.0) (search_fits (cancels_of cancels) run (is_known_to book) book.script.now k index node scroll body opaque_id (body_at (is_some scroll) (least_size scroll) body) refl)
+  begins_fit k (Scroll context keep opaque_id) state posts keeps is there begins = subst (Now k (Scroll context keep opaque_id)) (sym begins.0) (scroll_fits (cancels_of cancels) run (is_known_to book) book.script.now k context keep opaque_id (opener_in book k) (page_at book) (page_sought run book keeps.contexts k) (context_in book context))
   begins_fit k (ClearScroll context) state posts keeps is there begins = subst (Now k (ClearScroll context)) (sym begins.0) refl
   begins_fit k (Reindex node body slices rate opaque_id) state posts keeps is there begins =
       let it = given (reindex_asks (is_known_to book) slices rate (reindex_at body)) _ begins in
-      subst (Now k (Reindex node body slices rate opaque_id)) (sym it.2.0) (reindex_fits (cancels_of cancels) (is_known_to book) book.script.now k node body slices rate opaque_id (reindex_at body) it.0 refl it.1)
-  begins_fit k (Cancel target reason wait) state posts keeps is there begins = subst (Now k (Cancel target reason wait)) (sym begins.0) (cancel_fits (cancels_of cancels) (is_known_to book) book.script.now k target reason wait book.nodes (root_of book.entries.items))
+      subst (Now k (Reindex node body slices rate opaque_id)) (sym it.2.0) (reindex_fits (cancels_of cancels) run (is_known_to book) book.script.now k node body slices rate opaque_id (reindex_at body) it.0 refl it.1)
+  begins_fit k (Cancel target reason wait) state posts keeps is there begins = subst (Now k (Cancel target reason wait)) (sym begins.0) (cancel_fits (cancels_of cancels) run (is_known_to book) book.script.now k target reason wait book.nodes (root_of book.entries.items))
   begins_fit k (ListTasks filter group detailed) state posts keeps is there begins = subst (Now k (ListTasks filter group detailed)) (sym begins.0) (refl, rw is (stands (ListTasks filter group detailed) refl keeps there))
   begins_fit k (Tick ms) state posts keeps is there begins = subst (Now k (Tick ms)) (sym begins.0) (refl, rw is (moved (Tick ms) keeps there))
   begins_fit k (Deliver nth) state posts keeps is there begins = subst (Now k (Deliver nth)) (sym begins.0) refl

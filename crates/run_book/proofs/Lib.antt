@@ -2,7 +2,11 @@ pub mod Places
 pub mod Telling
 pub mod Sums
 pub mod Shown
+pub mod StartLetters
+pub mod Shows
+pub mod Opened
 pub mod Answers
 pub mod Keeping
+pub mod RootAnswers
 pub mod Beginning
 pub mod Paging

@@ -1,9 +1,13 @@
 -- What the letters of workers make of a command that has begun.
-use Rattle.std.specs.Prelude.{ℕ, ◌+◌, ◌-◌, ◌^◌, ◌==◌, min, not, ◌&&◌, ◌||◌, Bool, true, false, List, [], ◌∷◌, length, Option, None, Some, is_some, slice_get, if◌then◌else◌}
+use Rattle.std.specs.Prelude.{◌≡◌, ℕ, ◌+◌, ◌-◌, ◌^◌, ◌==◌, min, not, ◌&&◌, ◌||◌, Bool, true, false, List, [], ◌∷◌, length, Option, None, Some, IfSome, is_some, slice_get, if◌then◌else◌}
 use Rattle.std.specs.Option.{option_eq}
 use Rattle.std.specs.Ordering.{is_lt}
 use Rattle.child_track.specs.Token.{ReceiptParts}
 use Rattle.line_print.specs.declared.reply.LineReply.TheVariants as replies
+use Rattle.node_link.specs.declared.body.RootAnswered.{RootAnswered}
+use Rattle.node_link.specs.declared.page.Page.{Page}
+use Rattle.task_events.specs.declared.answered.AnsweredRequest.{AnsweredRequest}
+use Rattle.task_events.specs.declared.answered.AnsweredRequest.TheVariants as told
 use Rattle.task_events.specs.declared.reply.Reply.{Reply}
 use Rattle.task_events.specs.declared.request.ScrollAsk.{ScrollAsk}
 use Rattle.task_ids.specs.TaskIdOrder.{task_id_cmp}
@@ -13,6 +17,10 @@ use Rattle.run_book.specs.Told.{all_told, is_whole, with_part}
 use Rattle.run_book.specs.Listing.{listed}
 use Rattle.run_book.specs.declared.entry.Answer.{Answer}
 use Rattle.run_book.specs.declared.entry.Naming.{Naming}
+use Rattle.run_book.specs.declared.entry.PageNote.{PageNote}
+use Rattle.run_book.specs.declared.entry.RootAsk.{RootAsk}
+use Rattle.run_book.specs.declared.entry.RootAsk.TheVariants as roots
+use Rattle.run_book.specs.declared.entry.SentPage.{SentPage}
 use Rattle.run_book.specs.declared.entry.State.{State}
 use Rattle.run_book.specs.declared.entry.State.TheVariants as states
 use Rattle.run_book.specs.declared.entry.Waits.TheVariants as waits
@@ -62,7 +70,7 @@ is_settled naming = is_whole naming.named && ((naming.done == naming.tasks) && (
 abbrev pub settled : Naming → State
 settled naming =
     if is_settled naming
-    then states.Answered (record { reply = replies.Cancelled (all_told naming.named) naming.wait; receipt = naming.receipt })
+    then states.Answered (record { reply = replies.Cancelled (all_told naming.named) naming.wait; receipt = naming.receipt; page = None })
     else states.Waits (waits.Naming naming)
 
 -- a count that goes no higher than the machine's numbers
@@ -82,7 +90,7 @@ with_done naming receipt = record naming { done = counted naming.done 1; receipt
 abbrev pub with_rows : List (Option (List TaskInfo)) → ℕ → State
 with_rows rows now =
     if is_whole rows
-    then states.Answered (record { reply = replies.Listed (listed now rows) now; receipt = None })
+    then states.Answered (record { reply = replies.Listed (listed now rows) now; receipt = None; page = None })
     else states.Waits (waits.Rows rows now)
 
 -- ---- each letter
@@ -95,19 +103,19 @@ after_one_of naming receipt = if same_bool naming.wait (is_some receipt) then se
 abbrev pub after_cancelled : State → TaskId → Option ReceiptParts → State
 after_cancelled (states.Waits (waits.Cancel named wait)) task receipt =
     if same_id named task && same_bool wait (is_some receipt)
-    then states.Answered (record { reply = replies.Cancelled (task ∷ []) wait; receipt = receipt })
+    then states.Answered (record { reply = replies.Cancelled (task ∷ []) wait; receipt = receipt; page = None })
     else states.Waits (waits.Cancel named wait)
 after_cancelled (states.Waits (waits.Naming naming)) task receipt = after_one_of naming receipt
-after_cancelled (states.Waits (waits.Root page)) task receipt = states.Waits (waits.Root page)
+after_cancelled (states.Waits (waits.Root asked)) task receipt = states.Waits (waits.Root asked)
 after_cancelled (states.Waits (waits.Rows rows now)) task receipt = states.Waits (waits.Rows rows now)
 after_cancelled (states.Answered answer) task receipt = states.Answered answer
 after_cancelled states.Told task receipt = states.Told
 
 -- its node has no such task
 abbrev pub after_not_found : State → State
-after_not_found (states.Waits (waits.Cancel task wait)) = states.Answered (record { reply = replies.NotFound (Some task); receipt = None })
+after_not_found (states.Waits (waits.Cancel task wait)) = states.Answered (record { reply = replies.NotFound (Some task); receipt = None; page = None })
 after_not_found (states.Waits (waits.Naming naming)) = states.Waits (waits.Naming naming)
-after_not_found (states.Waits (waits.Root page)) = states.Waits (waits.Root page)
+after_not_found (states.Waits (waits.Root asked)) = states.Waits (waits.Root asked)
 after_not_found (states.Waits (waits.Rows rows now)) = states.Waits (waits.Rows rows now)
 after_not_found (states.Answered answer) = states.Answered answer
 after_not_found states.Told = states.Told
@@ -116,7 +124,7 @@ after_not_found states.Told = states.Told
 abbrev pub after_named : ℕ → List TaskId → State → State
 after_named node tasks (states.Waits (waits.Naming naming)) = settled (with_named naming node tasks)
 after_named node tasks (states.Waits (waits.Cancel task wait)) = states.Waits (waits.Cancel task wait)
-after_named node tasks (states.Waits (waits.Root page)) = states.Waits (waits.Root page)
+after_named node tasks (states.Waits (waits.Root asked)) = states.Waits (waits.Root asked)
 after_named node tasks (states.Waits (waits.Rows rows now)) = states.Waits (waits.Rows rows now)
 after_named node tasks (states.Answered answer) = states.Answered answer
 after_named node tasks states.Told = states.Told
@@ -126,22 +134,66 @@ abbrev pub after_rows : ℕ → List TaskInfo → State → State
 after_rows node part (states.Waits (waits.Rows rows now)) = with_rows (with_part rows node part) now
 after_rows node part (states.Waits (waits.Naming naming)) = states.Waits (waits.Naming naming)
 after_rows node part (states.Waits (waits.Cancel task wait)) = states.Waits (waits.Cancel task wait)
-after_rows node part (states.Waits (waits.Root page)) = states.Waits (waits.Root page)
+after_rows node part (states.Waits (waits.Root asked)) = states.Waits (waits.Root asked)
 after_rows node part (states.Answered answer) = states.Answered answer
 after_rows node part states.Told = states.Told
 
+-- ---- roots
+
+-- the command whose search a root looks through: the one that opened the context of its page, or its own
+abbrev pub searched : ℕ → RootAsk → ℕ
+searched command roots.Search = command
+searched command (roots.Page sent) = sent.page.search
+searched command roots.Reindex = command
+
+-- the page that it was sent, if it was sent one, and the ask by which it uses its context
+abbrev pub page_noted : RootAsk → Option PageNote
+page_noted roots.Search = None
+page_noted (roots.Page sent) = Some sent.page
+page_noted roots.Reindex = None
+
+abbrev pub page_used : RootAsk → Option ScrollAsk
+page_used roots.Search = None
+page_used (roots.Page sent) = Some sent.ask
+page_used roots.Reindex = None
+
+-- A request is for the page that was sent: of the same context, and after the same cursor where it tells one.
+pub record IsPageSent (sent : SentPage) (ask : ScrollAsk) (page : Option Page) : Type 0 where
+  pub context : ask.id ≡ sent.ask.id
+  pub cursor : IfSome page (λ p. p.after ≡ sent.page.after)
+
+-- An answer is to a request of this kind, and to the page that was sent.
+abbrev pub IsFor : RootAsk → AnsweredRequest → Option Page → Type 0
+IsFor roots.Search (told.Search ask) page = Unit {0}
+IsFor (roots.Page sent) (told.Scroll ask) page = IsPageSent sent ask page
+IsFor roots.Reindex (told.Reindex ask) page = Unit {0}
+IsFor _ _ page = ⊥
+
+-- It is to what the root was asked for.
+pub record IsAnswerTo (asked : RootAsk) (answered : RootAnswered) : Type 0 where
+  pub search : answered.place.search ≡ searched answered.place.command asked
+  pub kind : IsFor asked answered.request answered.page
+
+abbrev pub IsToState : State → RootAnswered → Type 0
+IsToState (states.Waits (waits.Root asked)) answered = IsAnswerTo asked answered
+IsToState (states.Waits (waits.Naming naming)) answered = ⊥
+IsToState (states.Waits (waits.Cancel task wait)) answered = ⊥
+IsToState (states.Waits (waits.Rows rows now)) answered = ⊥
+IsToState (states.Answered answer) answered = ⊥
+IsToState states.Told answered = ⊥
+
 -- its root has ended, or was rejected
 abbrev pub after_root : Reply → State → State
-after_root reply (states.Waits (waits.Root page)) = states.Answered (record { reply = replies.Task reply; receipt = None })
+after_root reply (states.Waits (waits.Root asked)) = states.Answered (record { reply = replies.Task reply; receipt = None; page = page_noted asked })
 after_root reply (states.Waits (waits.Naming naming)) = states.Waits (waits.Naming naming)
 after_root reply (states.Waits (waits.Cancel task wait)) = states.Waits (waits.Cancel task wait)
 after_root reply (states.Waits (waits.Rows rows now)) = states.Waits (waits.Rows rows now)
 after_root reply (states.Answered answer) = states.Answered answer
 after_root reply states.Told = states.Told
 
--- where a command waits for the end of its root, the context of which that shows a page, if it shows one
+-- of a command that waits for the end of its root, the ask by which that uses a context, if it uses one
 abbrev pub root_awaited : State → Option (Option ScrollAsk)
-root_awaited (states.Waits (waits.Root page)) = Some page
+root_awaited (states.Waits (waits.Root asked)) = Some (page_used asked)
 root_awaited (states.Waits (waits.Naming naming)) = None
 root_awaited (states.Waits (waits.Cancel task wait)) = None
 root_awaited (states.Waits (waits.Rows rows now)) = None

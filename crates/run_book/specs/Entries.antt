@@ -4,6 +4,8 @@ use Rattle.std.specs.HashSet.{contains_by}
 use Rattle.std.specs.List.{slice_set}
 use Rattle.std.specs.Option.{option_map_or}
 use Rattle.std.specs.Str.{bytes_eq}
+use Rattle.command_roots.specs.Roots.{search_of}
+use Rattle.reply_facts.specs.Settings.{Setting}
 use Rattle.run_facts.specs.Cancels.{cancels_of}
 use Rattle.task_ids.specs.Limits.{IsNode}
 use Rattle.task_ids.specs.declared.task_id.TaskId.{TaskId}
@@ -12,8 +14,9 @@ use Rattle.script_lang.specs.declared.command.CancelTarget.TheVariants as target
 use Rattle.script_lang.specs.declared.command.Command.{Command}
 use Rattle.script_lang.specs.declared.command.Command.TheVariants as commands
 use Rattle.script_lang.specs.Fits.{AllFit}
-use Rattle.script_lang.specs.Targets.{starts_task}
 use Rattle.run_book.specs.declared.entry.Entry.{Entry}
+use Rattle.run_book.specs.declared.entry.RootAsk.{RootAsk}
+use Rattle.run_book.specs.declared.entry.RootAsk.TheVariants as roots
 use Rattle.run_book.specs.declared.entry.State.{State}
 use Rattle.run_book.specs.declared.entry.State.TheVariants as states
 use Rattle.run_book.specs.declared.entry.Waits.{Waits}
@@ -21,6 +24,8 @@ use Rattle.run_book.specs.declared.entry.Waits.TheVariants as waits
 use Rattle.run_book.specs.declared.book.Book.{Book}
 use Rattle.run_book.specs.declared.book.Needs.{Needs}
 use Rattle.run_book.specs.declared.book.Needs.TheVariants as needed
+use Rattle.run_book.specs.Contexts.{AreOpened}
+use Rattle.run_book.specs.Runs.{IsSettingOf}
 use Rattle.run_book.specs.Notes.{names_one, cancel_in, is_list, moment_after, IsNote}
 
 -- ---- by the number of a command
@@ -81,41 +86,50 @@ uses_context _ = false
 
 -- ---- what the book keeps
 
--- what a command waits for is what it asked
-abbrev pub IsAwaited : List Command → ℕ → Command → Waits → Type 0
-IsAwaited script k command (waits.Root page) = starts_task command ≡ true
-IsAwaited script k command (waits.Cancel task wait) = IsSomeAnd (cancel_in command) (λ c. (names_one c.0 ≡ true) × (c.1 ≡ wait))
-IsAwaited script k command (waits.Naming naming) = IsSomeAnd (cancel_in command) (λ c. (names_one c.0 ≡ false) × (c.1 ≡ naming.wait))
-IsAwaited script k command (waits.Rows rows now) = (is_list command ≡ true) × (now ≡ moment_after (take k script))
+-- the root of a command was asked for what that is about: a page of a search of which it is known what it looks for, a search whose body has no fault, or a reindex
+abbrev pub IsRootOf : Setting → Command → RootAsk → Type 0
+IsRootOf run (commands.Search index node scroll body opaque_id) roots.Search = IsSome (search_of (commands.Search index node scroll body opaque_id))
+IsRootOf run (commands.Scroll context keep opaque_id) (roots.Page sent) = IsSome (run.sought sent.page.search)
+IsRootOf run (commands.Reindex node body slices rate opaque_id) roots.Reindex = Unit {0}
+IsRootOf run _ _ = ⊥
 
-module _ (allowed : ℕ → Type 0) (known : List ℕ → Bool) (script : List Command) where
+-- what a command waits for is what it asked
+abbrev pub IsAwaited : Setting → List Command → ℕ → Command → Waits → Type 0
+IsAwaited run script k command (waits.Root asked) = IsRootOf run command asked
+IsAwaited run script k command (waits.Cancel task wait) = IsSomeAnd (cancel_in command) (λ c. (names_one c.0 ≡ true) × (c.1 ≡ wait))
+IsAwaited run script k command (waits.Naming naming) = IsSomeAnd (cancel_in command) (λ c. (names_one c.0 ≡ false) × (c.1 ≡ naming.wait))
+IsAwaited run script k command (waits.Rows rows now) = (is_list command ≡ true) × (now ≡ moment_after (take k script))
+
+module _ (allowed : ℕ → Type 0) (run : Setting) (known : List ℕ → Bool) (script : List Command) where
   -- how far the command of this number is
   abbrev pub IsState : ℕ → Command → State → Type 0
-  IsState k command (states.Waits awaited) = IsAwaited script k command awaited
-  IsState k command (states.Answered answer) = IsNote allowed known script k command answer.reply answer.receipt
+  IsState k command (states.Waits awaited) = IsAwaited run script k command awaited
+  IsState k command (states.Answered answer) = IsNote allowed run known script k command answer.reply answer.receipt answer.page
   IsState k command states.Told = Unit {0}
 
   -- each command that has begun is as far as it can be
   abbrev pub AreEntries : List Entry → Type 0
   AreEntries entries = (place : ℕ) (e : Entry) (c : Command) → slice_get entries place ≡ Some e → slice_get script place ≡ Some c → IsState (place + 1) c e.state
 
--- the commands of a run: they are of its cluster, and each cancel is one of the run
-pub record CanDrive (cancels : ℕ → Type 0) (count : ℕ) (script : List Command) : Type 0 where
+-- the commands of a run: they are of its cluster, each cancel is one of the run, and what is known of the run is known by them
+pub record CanDrive (cancels : ℕ → Type 0) (run : Setting) (count : ℕ) (script : List Command) : Type 0 where
   pub nodes : IsNode count
   pub few : length script ≤ 65535
   pub fit : AllFit count [] script
   pub named : (place : ℕ) (c : Command) → slice_get script place ≡ Some c → IsSome (cancel_in c) → cancels (place + 1)
+  pub setting : IsSettingOf script run
 
 -- an index is known to the book
 abbrev pub is_known_to : {W : Type 0} → Book W → List ℕ → Bool
 is_known_to book index = contains_by (λ k. bytes_eq index k.now) book.known.now
 
--- What the book of a run keeps: its commands can be driven; those that have begun are the first ones, each as far as it can be; and its clock is the sum of the ticks so far.
-pub record Keeps {W : Type 0} (cancels : ℕ → Type 0) (book : Book W) : Type 0 where
-  pub can : CanDrive cancels book.nodes book.script.now
+-- What the book of a run keeps: its commands can be driven; those that have begun are the first ones, each as far as it can be; its clock is the sum of the ticks so far; and its contexts were opened by searches of the script.
+pub record Keeps {W : Type 0} (cancels : ℕ → Type 0) (run : Setting) (book : Book W) : Type 0 where
+  pub can : CanDrive cancels run book.nodes book.script.now
   pub begun : length book.entries.items ≤ length book.script.now
-  pub each : AreEntries (cancels_of cancels) (is_known_to book) book.script.now book.entries.items
+  pub each : AreEntries (cancels_of cancels) run (is_known_to book) book.script.now book.entries.items
   pub clock : book.clock ≡ moment_after (take (length book.entries.items) book.script.now)
+  pub contexts : AreOpened run book.contexts
 
 -- the book is of the same run
 pub record SameRun {W : Type 0} (v w : Book W) : Type 0 where

@@ -1,9 +1,10 @@
 pub mod Told
 pub mod Listing
+pub mod Runs
 pub mod Notes
 pub mod Answering
 pub mod Posts
-pub mod Entries
 pub mod Contexts
+pub mod Entries
 pub mod Begun
 pub mod Hearing

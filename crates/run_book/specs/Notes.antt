@@ -14,9 +14,13 @@ use Rattle.script_lang.specs.declared.command.CancelTarget.TheVariants as target
 use Rattle.script_lang.specs.declared.command.Command.{Command}
 use Rattle.script_lang.specs.declared.command.Command.TheVariants as commands
 use Rattle.script_lang.specs.Targets.{starts_task}
+use Rattle.reply_facts.specs.Settings.{Setting}
+use Rattle.task_events.specs.declared.reply.Reply.{Reply}
 use Rattle.run_book.specs.declared.entry.LineNote.{LineNote}
+use Rattle.run_book.specs.declared.entry.PageNote.{PageNote}
+use Rattle.run_book.specs.Runs.{ShowsPage, ShowsPlainly}
 use Rattle.run_book.specs.Listing.{Shows}
-use Rattle.command_roots.specs.Roots.{least_size}
+use Rattle.command_roots.specs.Roots.{least_size, search_of}
 use Rattle.line_print.specs.Lines.{fault_in}
 use Rattle.line_print.specs.declared.reply.LineReply.{LineReply}
 use Rattle.line_print.specs.declared.reply.LineReply.TheVariants as replies
@@ -99,24 +103,36 @@ pub record HasCancelled (target : CancelTarget) (wait : Bool) (tasks : List Task
   pub one : names_one target ≡ true → length tasks ≡ 1
   pub ended : wait ≡ true → (task : TaskId) → IsLast task tasks → IsReceiptOf task receipt
 
-module _ (allowed : ℕ → Type 0) (known : List ℕ → Bool) (script : List Command) where
+-- What the reply of a task of a command shows: a search the plain answer, and a scroll a page of one.
+abbrev pub ShowsFor : Setting → Command → Option PageNote → Reply → Type 0
+ShowsFor run (commands.Search index node scroll body opaque_id) page reply = IsSomeAnd (search_of (commands.Search index node scroll body opaque_id)) (λ ask. ShowsPlainly run ask reply)
+ShowsFor run (commands.Scroll context keep opaque_id) page reply = IsSomeAnd page (λ note. ShowsPage run note reply)
+ShowsFor run _ page reply = Unit {0}
+
+-- The reply of a task of a command.
+pub record IsTaskNote (allowed : ℕ → Type 0) (run : Setting) (command : Command) (page : Option PageNote) (reply : Reply) : Type 0 where
+  pub starts : starts_task command ≡ true
+  pub lawful : IsLawfulReply allowed reply
+  pub shows : ShowsFor run command page reply
+
+module _ (allowed : ℕ → Type 0) (run : Setting) (known : List ℕ → Bool) (script : List Command) where
   -- what the command of this number comes to
-  abbrev pub IsNote : ℕ → Command → LineReply → Option ReceiptParts → Type 0
-  IsNote k command (replies.Task reply) receipt = (starts_task command ≡ true) × IsLawfulReply allowed reply
-  IsNote k command (replies.BadBody fault) receipt = body_fault command ≡ Some fault
-  IsNote k command (replies.BadReindex fault) receipt = IsReindexFault command fault
-  IsNote k command (replies.NoIndex index) receipt = (index_read command ≡ Some index) × (known index ≡ false)
-  IsNote k command (replies.NoContext context) receipt = is_scroll command ≡ true
-  IsNote k command (replies.NotFound task) receipt = IsSomeAnd (cancel_in command) (λ c. names_one c.0 ≡ true)
-  IsNote k command (replies.Cancelled tasks waited) receipt = IsSomeAnd (cancel_in command) (λ c. HasCancelled c.0 c.1 tasks waited receipt)
-  IsNote k command (replies.Cleared freed) receipt = is_clear command ≡ true
-  IsNote k command (replies.Now now) receipt = (is_tick command ≡ true) × (now ≡ moment_after (take k script))
-  IsNote k command (replies.Listed rows now) receipt = (is_list command ≡ true) × Shows rows now × (now ≡ moment_after (take k script))
-  IsNote k command replies.Answered receipt = says_answered command ≡ true
+  abbrev pub IsNote : ℕ → Command → LineReply → Option ReceiptParts → Option PageNote → Type 0
+  IsNote k command (replies.Task reply) receipt page = IsTaskNote allowed run command page reply
+  IsNote k command (replies.BadBody fault) receipt page = body_fault command ≡ Some fault
+  IsNote k command (replies.BadReindex fault) receipt page = IsReindexFault command fault
+  IsNote k command (replies.NoIndex index) receipt page = (index_read command ≡ Some index) × (known index ≡ false)
+  IsNote k command (replies.NoContext context) receipt page = is_scroll command ≡ true
+  IsNote k command (replies.NotFound task) receipt page = IsSomeAnd (cancel_in command) (λ c. names_one c.0 ≡ true)
+  IsNote k command (replies.Cancelled tasks waited) receipt page = IsSomeAnd (cancel_in command) (λ c. HasCancelled c.0 c.1 tasks waited receipt)
+  IsNote k command (replies.Cleared freed) receipt page = is_clear command ≡ true
+  IsNote k command (replies.Now now) receipt page = (is_tick command ≡ true) × (now ≡ moment_after (take k script))
+  IsNote k command (replies.Listed rows now) receipt page = (is_list command ≡ true) × Shows rows now × (now ≡ moment_after (take k script))
+  IsNote k command replies.Answered receipt page = says_answered command ≡ true
 
   -- the note of the command at a place, from 0
   pub record IsNoteAt (place : ℕ) (note : LineNote) : Type 0 where
     pub number : note.command ≡ place + 1
     pub command : Command
     pub there : slice_get script place ≡ Some command
-    pub is : IsNote (place + 1) command note.reply note.receipt
+    pub is : IsNote (place + 1) command note.reply note.receipt note.page

@@ -3,6 +3,7 @@ use Rattle.std.specs.Prelude.{ℕ, zero, suc, ◌+◌, List, [], ◌∷◌, ◌+
 use Rattle.command_roots.specs.Roots.{opaque_id_in}
 use Rattle.node_link.specs.declared.body.Body.{Body}
 use Rattle.node_link.specs.declared.body.Body.TheVariants as says
+use Rattle.node_link.specs.declared.body.Place.{Place}
 use Rattle.node_link.specs.declared.body.Start.{Start}
 use Rattle.node_link.specs.declared.page.Page.{Page}
 use Rattle.run_facts.specs.declared.Post.{Post}
@@ -33,15 +34,14 @@ action_of (asks.Slice ask) = actions.Search
 action_of (asks.Bulk ask) = actions.Search
 action_of (asks.BulkShard ask) = actions.Search
 
--- what starts the root of the command of this number
-abbrev pub start_of : ℕ → Command → Request → Option Page → Start
-start_of k command request page = record {
-  place = record { command = k; slice = 0; action = action_of request; shard = 0 };
-  request = request;
-  headers = record { opaque_id = opaque_id_in command };
-  page = page;
-}
+-- the place of the root of the command of this number, which looks through what the search of a command found
+abbrev pub root_place : ℕ → ℕ → Request → Place
+root_place k search request = record { command = k; search = search; slice = 0; action = action_of request; shard = 0 }
+
+-- what starts it
+abbrev pub start_of : ℕ → ℕ → Command → Request → Option Page → Start
+start_of k search command request page = record { place = root_place k search request; request = request; headers = record { opaque_id = opaque_id_in command }; page = page }
 
 -- and it goes to the data worker of a node
-abbrev pub start_posts : ℕ → Command → ℕ → Request → Option Page → List (Post Body)
-start_posts k command node request page = post (Data node) (says.Start (start_of k command request page)) ∷ []
+abbrev pub start_posts : ℕ → ℕ → Command → ℕ → Request → Option Page → List (Post Body)
+start_posts k search command node request page = post (Data node) (says.Start (start_of k search command request page)) ∷ []

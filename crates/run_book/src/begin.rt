@@ -32,6 +32,7 @@ impl<W: Run> Begun<W> {
             state: State::Answered(Answer {
                 reply,
                 receipt: None,
+                page: None,
             }),
             posts,
         }
@@ -71,7 +72,7 @@ fn uses_context(command: &Command) -> bool
 impl<'a, W: Run> Book<'a, W> {
     /// What a command comes to as it begins.
     fn begun(&mut self, number: u32, command: &Command) -> Result<Begun<W>, AllocError>
-        requires keeps { Keeps W.cancels self.old }
+        requires keeps { Keeps W.cancels W.setting self.old }
         requires number { number ≡ length self.old.entries.items + 1 }
         requires there { slice_get self.old.script.now (length self.old.entries.items) ≡ Some command.now }
         ensures begins { IfOk result (λ b. Begins self.old number command.now b.state b.posts.items) }
@@ -151,8 +152,8 @@ impl<'a, W: Run> Book<'a, W> {
     /// The next command begins, and gives the letters that are to be sent for it. There are none where all commands have begun. It fails
     /// only for want of memory.
     pub fn begin(&mut self) -> Result<Vec<Post<Letter<Of<W>>>>, AllocError>
-        requires keeps { Keeps W.cancels self.old }
-        ensures keeps { OnOk result (Keeps W.cancels self.new) }
+        requires keeps { Keeps W.cancels W.setting self.old }
+        ensures keeps { OnOk result (Keeps W.cancels W.setting self.new) }
         ensures same { SameRun self.old self.new }
         ensures begun { length self.old.entries.items < length self.old.script.now → OnOk result (length self.new.entries.items ≡ length self.old.entries.items + 1) }
         ensures all_begun { slice_get self.old.script.now (length self.old.entries.items) ≡ None → IfOk result (λ posts. posts.items ≡ []) }

@@ -9,10 +9,10 @@ ghost use Rattle.run_book.specs.Answering.{answer_in, without_answer};
 ghost use Rattle.run_book.specs.Hearing.{with_state};
 ghost use Rattle.run_book.specs.Entries.{CanDrive, Keeps, SameRun, SameTime, Turned, entry_of, is_answered, is_known_to, knows_root, needs_of, root_of};
 
+use crate::contexts::Contexts;
 use crate::entry::{Answer, Entry, LineNote, State};
 use run_facts::Run;
 use script_lang::{CancelTarget, Command};
-use scroll_table::ScrollTable;
 use std::alloc::Global;
 use std::collections::HashSet;
 use std::marker::PhantomData;
@@ -44,7 +44,7 @@ pub struct Book<'a, W: Run> {
     /// Those of them that open or use a context, and that were not waited for.
     pub(crate) paging: Vec<u32>,
     /// The contexts of the script's searches.
-    pub(crate) contexts: ScrollTable,
+    pub(crate) contexts: Contexts,
     /// The sum of the ticks so far, in milliseconds.
     pub(crate) clock: u64,
     pub(crate) of: PhantomData<W>,
@@ -65,10 +65,10 @@ impl<'a, W: Run> Book<'a, W> {
         script: &'a [Command],
         known: &'a HashSet<&'a str>,
     ) -> Book<'a, W>
-        requires { CanDrive W.cancels cluster.now.nodes script.now }
-        ensures keeps { Keeps W.cancels result }
+        requires { CanDrive W.cancels W.setting cluster.now.nodes script.now }
+        ensures keeps { Keeps W.cancels W.setting result }
         ensures is { (result.nodes ≡ cluster.now.nodes) × (result.script.now ≡ script.now) × (result.known.now ≡ known.now) }
-        ensures none { (result.entries.items ≡ []) × (result.paging.items ≡ []) × (result.contexts ≡ empty) × (result.clock ≡ 0) }
+        ensures none { (result.entries.items ≡ []) × (result.paging.items ≡ []) × (result.contexts ≡ record { table = empty; openers = empty }) × (result.clock ≡ 0) }
     {
         Book {
             alloc,
@@ -77,7 +77,7 @@ impl<'a, W: Run> Book<'a, W> {
             known,
             entries: Vec::new(alloc),
             paging: Vec::new(alloc),
-            contexts: ScrollTable::new(alloc),
+            contexts: Contexts::new(alloc),
             clock: 0,
             of: PhantomData,
         }
@@ -105,8 +105,8 @@ impl<'a, W: Run> Book<'a, W> {
 
     /// The commands that open or use a context and that were not waited for. It leaves none.
     pub fn take_paging(&mut self) -> Vec<u32>
-        requires keeps { Keeps W.cancels self.old }
-        ensures keeps { Keeps W.cancels self.new }
+        requires keeps { Keeps W.cancels W.setting self.old }
+        ensures keeps { Keeps W.cancels W.setting self.new }
         ensures same { SameRun self.old self.new }
         ensures begun { length self.new.entries.items ≡ length self.old.entries.items }
         ensures entries { self.new.entries.items ≡ self.old.entries.items }
@@ -149,23 +149,28 @@ impl<'a, W: Run> Book<'a, W> {
 
     /// Takes the answer of a command, once it has one.
     pub fn take_note(&mut self, command: u32) -> Option<LineNote>
-        requires keeps { Keeps W.cancels self.old }
+        requires keeps { Keeps W.cancels W.setting self.old }
         requires number { 1 ≤ command }
-        ensures keeps { Keeps W.cancels self.new }
+        ensures keeps { Keeps W.cancels W.setting self.new }
         ensures same { SameRun self.old self.new }
         ensures begun { length self.new.entries.items ≡ length self.old.entries.items }
-        ensures note { IfSome result (λ note. (place : ℕ) → place + 1 ≡ command → IsNoteAt (cancels_of W.cancels) (is_known_to self.old) self.old.script.now place note) }
+        ensures note { IfSome result (λ note. (place : ℕ) → place + 1 ≡ command → IsNoteAt (cancels_of W.cancels) W.setting (is_known_to self.old) self.old.script.now place note) }
         ensures printable { IfSome result (λ note. IsPrintable note.reply) }
-        ensures taken { result ≡ option_map (λ a. record { command = command; reply = a.reply; receipt = a.receipt }) (option_and_then (λ e. answer_in e.state) (entry_of self.old.entries.items command)) }
+        ensures taken { result ≡ option_map (λ a. record { command = command; reply = a.reply; receipt = a.receipt; page = a.page }) (option_and_then (λ e. answer_in e.state) (entry_of self.old.entries.items command)) }
         ensures told { Turned (with_state without_answer) (command - 1) self.old.entries.items self.new.entries.items }
         ensures time { SameTime self.old self.new }
         ensures contexts { self.new.contexts ≡ self.old.contexts }
     {
-        let Answer { reply, receipt } = self.take_answer(command)?;
+        let Answer {
+            reply,
+            receipt,
+            page,
+        } = self.take_answer(command)?;
         Some(LineNote {
             command,
             reply,
             receipt,
+            page,
         })
     }
 

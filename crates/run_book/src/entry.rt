@@ -2,8 +2,17 @@
 use crate::parts::Parts;
 use child_track::Receipt;
 use line_print::LineReply;
-use task_events::ScrollAsk;
+use task_events::{HitKey, ScrollAsk};
 use task_ids::{TaskId, TaskInfo};
+
+/// Which page of which search a scroll asked for.
+#[derive(Drop)]
+pub struct PageNote {
+    /// The number of the command whose search opened the context, from 1.
+    pub search: u32,
+    /// The cursor: the page begins after it, in hit order. Without one it begins at the first hit.
+    pub after: Option<HitKey>,
+}
 
 /// What a command of a run came to.
 #[derive(Drop)]
@@ -13,6 +22,8 @@ pub struct LineNote {
     pub reply: LineReply,
     /// Of a cancel that waited: the receipt of the last task that it named, which was sealed as that task had ended.
     pub receipt: Option<Receipt>,
+    /// Of a scroll whose context was there: the page that it asked for.
+    pub page: Option<PageNote>,
 }
 
 /// A command's answer.
@@ -20,6 +31,22 @@ pub struct LineNote {
 pub(crate) struct Answer {
     pub(crate) reply: LineReply,
     pub(crate) receipt: Option<Receipt>,
+    pub(crate) page: Option<PageNote>,
+}
+
+/// The page that the root of a scroll was sent, and the ask by which it uses the context.
+#[derive(Drop)]
+pub(crate) struct SentPage {
+    pub(crate) ask: ScrollAsk,
+    pub(crate) page: PageNote,
+}
+
+/// What the root of a command was asked for.
+#[derive(Drop)]
+pub(crate) enum RootAsk {
+    Search,
+    Page(SentPage),
+    Reindex,
 }
 
 /// What has come of a cancel by a filter.
@@ -40,8 +67,8 @@ pub(crate) struct Naming {
 /// What a command waits for.
 #[derive(Drop)]
 pub(crate) enum Waits {
-    /// The answer of its root, which uses a context where it shows a page.
-    Root { page: Option<ScrollAsk> },
+    /// The answer of its root, which was asked for this.
+    Root(RootAsk),
     /// The answer of a cancel of this task, which waits until that has ended or not.
     Cancel { task: TaskId, wait: bool },
     /// What the nodes name, and the answers of each task that is named.

@@ -3,11 +3,12 @@ ghost use Rattle.std.specs.Prelude.{◌≡◌, ◌⊎◌, ◌-◌, [], ◌∷◌
 ghost use Rattle.node_link.specs.declared.body.Body.TheVariants as says;
 ghost use Rattle.task_events.specs.declared.stop.Stop as stops;
 ghost use Rattle.node_link.specs.Lawful.{IsLawful};
+ghost use Rattle.reply_facts.specs.Letters.{TellsPlainly};
 ghost use Rattle.run_facts.specs.Cancels.{cancels_of};
 ghost use Rattle.run_book.specs.Answering as answers;
 ghost use Rattle.run_book.specs.Answering.{same_bool};
-ghost use Rattle.run_book.specs.Entries.{Keeps, SameRun, SameTime, Turned, entry_of};
-ghost use Rattle.run_book.specs.Hearing.{ContextsAfter, Hears, by_entry, with_state};
+ghost use Rattle.run_book.specs.Entries.{Keeps, SameRun, SameTime, Turned};
+ghost use Rattle.run_book.specs.Hearing.{ContextsAfter, Hears, with_state};
 
 use crate::book::{Book, place_of};
 use crate::entry::{Answer, Naming, State, Waits};
@@ -15,11 +16,11 @@ use crate::lists::with_rows;
 use crate::naming::{with_done, with_named};
 use child_track::Receipt;
 use line_print::LineReply;
-use node_link::{Body, Letter, RootAnswered};
+use node_link::{Body, Letter};
 use run_facts::{Of, Run};
 use std::alloc::{AllocError, Global};
 use std::mem::replace;
-use task_events::{Reply, ScrollAsk, Stop};
+use task_events::Stop;
 use task_ids::{Items, TaskId, TaskInfo};
 
 /// A list of one task.
@@ -62,6 +63,7 @@ fn after_one(
             waited: wait,
         },
         receipt,
+        page: None,
     }))
 }
 
@@ -114,6 +116,7 @@ fn after_not_found(state: State) -> State
         State::Waits(Waits::Cancel { task, wait: _ }) => State::Answered(Answer {
             reply: LineReply::NotFound(Some(task)),
             receipt: None,
+            page: None,
         }),
         other => other,
     }
@@ -155,29 +158,6 @@ fn after_rows(
     }
 }
 
-/// A command after its root has ended, or was rejected.
-fn after_root(state: State, reply: Reply) -> State
-    ensures { result ≡ answers.after_root reply state }
-{
-    match state {
-        State::Waits(Waits::Root { .. }) => State::Answered(Answer {
-            reply: LineReply::Task(reply),
-            receipt: None,
-        }),
-        other => other,
-    }
-}
-
-/// Where a command waits for the end of its root, the context of which that shows a page, if it shows one.
-fn root_awaited(state: &State) -> Option<Option<ScrollAsk>>
-    ensures { result ≡ answers.root_awaited state.now }
-{
-    match state {
-        State::Waits(Waits::Root { page }) => Some(*page),
-        _ => None,
-    }
-}
-
 impl<'a, W: Run> Book<'a, W> {
     /// A command's root has an id.
     fn hear_root(&mut self, command: u32, task: TaskId)
@@ -189,39 +169,6 @@ impl<'a, W: Run> Book<'a, W> {
         if let Some(entry) = self.entries.get_mut(place_of(command)) {
             entry.root = Some(task);
         }
-    }
-
-    /// What the end of a root means for contexts, where its command waits for it: one that shows a page gives its context back, and a
-    /// search opens its own.
-    fn note_end(&mut self, answered: &RootAnswered) -> Result<(), AllocError>
-        ensures contexts { OnOk result (by_entry (entry_of self.old.entries.items answered.now.place.command) self.old.contexts self.old.clock answered.now.request answered.now.reply self.new.contexts) }
-        ensures entries { self.new.entries.items ≡ self.old.entries.items }
-        ensures same { SameTime self.old self.new }
-    {
-        let Some(entry) = self.entries.get(place_of(answered.place.command)) else {
-            return Ok(());
-        };
-        match root_awaited(&entry.state) {
-            Some(Some(ask)) => Ok(self.turn_page(ask, &answered.reply)?),
-            Some(None) => Ok(self.open(&answered.request, &answered.reply)?),
-            None => Ok(()),
-        }
-    }
-
-    /// A command's root has ended, or was rejected.
-    fn hear_root_answer(&mut self, answered: RootAnswered) -> Result<(), AllocError>
-        ensures told { OnOk result (Turned (with_state (answers.after_root answered.reply)) (answered.place.command - 1) self.old.entries.items self.new.entries.items) }
-        ensures contexts { OnOk result (by_entry (entry_of self.old.entries.items answered.place.command) self.old.contexts self.old.clock answered.request answered.reply self.new.contexts) }
-        ensures same { SameTime self.old self.new }
-        ensures begun { length self.new.entries.items ≡ length self.old.entries.items }
-    {
-        self.note_end(&answered)?;
-        let place = place_of(answered.place.command);
-        if let Some(entry) = self.entries.get_mut(place) {
-            let state = replace(&mut entry.state, State::Told);
-            entry.state = after_root(state, answered.reply);
-        }
-        Ok(())
     }
 
     /// A node tells its live tasks.
@@ -295,8 +242,9 @@ impl<'a, W: Run> Book<'a, W> {
     /// What is said in a letter to the driver.
     fn hear_body(&mut self, body: Body) -> Result<(), AllocError>
         requires lawful { IsLawful (cancels_of W.cancels) body }
-        requires keeps { Keeps W.cancels self.old }
-        ensures keeps { OnOk result (Keeps W.cancels self.new) }
+        requires tells { TellsPlainly W.setting body }
+        requires keeps { Keeps W.cancels W.setting self.old }
+        ensures keeps { OnOk result (Keeps W.cancels W.setting self.new) }
         ensures hears { OnOk result (Hears body self.old.entries.items self.new.entries.items) }
         ensures contexts { OnOk result (ContextsAfter body self.old self.new.contexts) }
         ensures same { SameTime self.old self.new }
@@ -337,8 +285,8 @@ impl<'a, W: Run> Book<'a, W> {
     ///
     /// It fails where a worker tells that it has stopped, for the cause that it tells, and for want of memory (`Memory`).
     pub fn hear(&mut self, letter: Letter<Of<W>>) -> Result<(), Stop>
-        requires keeps { Keeps W.cancels self.old }
-        ensures keeps { OnOk result (Keeps W.cancels self.new) }
+        requires keeps { Keeps W.cancels W.setting self.old }
+        ensures keeps { OnOk result (Keeps W.cancels W.setting self.new) }
         ensures hears { OnOk result (Hears letter self.old.entries.items self.new.entries.items) }
         ensures contexts { OnOk result (ContextsAfter letter self.old self.new.contexts) }
         ensures stopped { (stop : stops.Stop) → letter ≡ says.Stopped stop → result ≡ Err stop }

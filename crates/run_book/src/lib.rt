@@ -7,14 +7,17 @@
 mod begin;
 mod book;
 mod cancels;
+mod contexts;
 mod entry;
 mod hear;
 mod lists;
 mod moments;
 mod naming;
+mod openers;
 mod parts;
+mod roots;
 mod scrolls;
 mod starts;
 
 pub use book::{Book, Needs};
-pub use entry::LineNote;
+pub use entry::{LineNote, PageNote};

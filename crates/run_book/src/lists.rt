@@ -120,5 +120,6 @@ pub(crate) fn with_rows(
     Ok(State::Answered(Answer {
         reply: listed(alloc, rows, now)?,
         receipt: None,
+        page: None,
     }))
 }

@@ -39,14 +39,15 @@ impl<'a, W: Run> Book<'a, W> {
         ensures state { IfOk result (λ b. b.state ≡ answered (LineReply.Now (self.old.clock + ms))) }
         ensures posts { IfOk result (λ b. b.posts.items ≡ to_each self.old.nodes (says.Tick ms)) }
         ensures clock { OnOk result (self.new.clock ≡ self.old.clock + ms) }
-        ensures left { OnOk result ((id : TaskId) → get self.new.contexts id ≡ unexpired (self.old.clock + ms) (get self.old.contexts id)) }
+        ensures left { OnOk result ((id : TaskId) → get self.new.contexts.table id ≡ unexpired (self.old.clock + ms) (get self.old.contexts.table id)) }
+        ensures openers { self.new.contexts.openers ≡ self.old.contexts.openers }
         ensures run { SameRun self.old self.new }
         ensures entries { self.new.entries.items ≡ self.old.entries.items }
         ensures paging { self.new.paging.items ≡ self.old.paging.items }
     {
         let posts = self.tick_posts(ms)?;
         self.clock += ms;
-        let _ = self.contexts.expire(self.clock);
+        let _ = self.contexts.table.expire(self.clock);
         Ok(Begun::telling(LineReply::Now(self.clock), posts))
     }
 }

@@ -90,6 +90,7 @@ fn settled(alloc: Global, naming: Naming) -> Result<State, AllocError>
     Ok(State::Answered(Answer {
         reply: LineReply::Cancelled { tasks, waited },
         receipt,
+        page: None,
     }))
 }
 

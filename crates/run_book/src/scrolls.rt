@@ -1,18 +1,19 @@
 //! Scrolls begin and end, and contexts open and go.
-ghost use Rattle.std.specs.Prelude.{◌≡◌, ◌↔◌, [], None, IfOk, IfSome, IsSome, OnOk};
+ghost use Rattle.std.specs.Prelude.{◌≡◌, ◌↔◌, [], None, Some, IfOk, IfSome, IsSome, OnOk};
 ghost use Rattle.node_link.specs.Lawful.{IsCommand};
 ghost use Rattle.std.specs.FinMap.{get};
 ghost use Rattle.scroll_table.specs.Contexts.{answer_for};
 ghost use Rattle.task_events.specs.Counts.{AreCounts};
 ghost use Rattle.run_book.specs.Begun as begun;
-ghost use Rattle.run_book.specs.Begun.{IsOutcome, context_in, frees, page_at, scrolled_if};
+ghost use Rattle.run_book.specs.Begun.{IsOutcome, context_in, frees, opener_in, page_at, scrolled_if, sent};
 ghost use Rattle.run_book.specs.Contexts as contexts;
-ghost use Rattle.run_book.specs.Contexts.{Opens, after_page, cursor_of, turned_by};
+ghost use Rattle.run_book.specs.Contexts.{AreOpened, MayOpen, Opens, after_page, cursor_of, opening, turned_by};
 ghost use Rattle.run_book.specs.Entries.{SameTime};
 
 use crate::begin::Begun;
 use crate::book::Book;
-use crate::starts::started;
+use crate::entry::{PageNote, RootAsk, SentPage};
+use crate::starts::{Root, started};
 use line_print::LineReply;
 use node_link::Page;
 use run_facts::Run;
@@ -88,10 +89,37 @@ impl<'a, W: Run> Book<'a, W> {
     fn page_of(&self, id: TaskId) -> Result<Option<Page>, AllocError>
         ensures { IfOk result (λ page. page ≡ page_at self.now id) }
     {
-        match self.contexts.peek(id, None, self.clock) {
+        match self.contexts.table.peek(id, None, self.clock) {
             Ok(context) => Ok(Some(Page::of(context)?)),
             Err(_) => Ok(None),
         }
+    }
+
+    /// The command whose search opened a context, or this one where none did.
+    fn opener_of(&self, id: TaskId, number: u32) -> u32
+        ensures { result ≡ opener_in self.now number id }
+    {
+        self.contexts.openers.of(id).unwrap_or(number)
+    }
+
+    /// The root of a scroll, which takes along this page of a search.
+    fn page_root(&self, ask: ScrollAsk, search: u32, page: Page) -> Result<Root, AllocError>
+        ensures search { IfOk result (λ root. root.search ≡ search) }
+        ensures asked { IfOk result (λ root. root.asked ≡ RootAsk.Page (sent ask search page)) }
+        ensures request { IfOk result (λ root. root.request ≡ Request.Scroll ask) }
+        ensures page { IfOk result (λ root. root.page ≡ Some page) }
+    {
+        let after = copy_key(&page.after)?;
+        let page = Boxed::new(self.alloc, page)?;
+        Ok(Root {
+            search,
+            asked: RootAsk::Page(SentPage {
+                ask,
+                page: PageNote { search, after },
+            }),
+            request: Request::Scroll(Shared::new(self.alloc, ask)?),
+            page: Some(page),
+        })
     }
 
     /// A scroll begins. Its root starts on the node of its context, and takes the page along.
@@ -102,8 +130,9 @@ impl<'a, W: Run> Book<'a, W> {
         context: ContextTarget,
         keep: Option<u64>,
     ) -> Result<Begun<W>, AllocError>
-        requires { IsCommand number }
-        ensures { IfOk result (λ b. IsOutcome (scrolled_if number command.now keep (page_at self.now) (context_in self.now context)) b.state b.posts.items) }
+        requires number { IsCommand number }
+        requires opened { AreOpened W.setting self.now.contexts }
+        ensures { IfOk result (λ b. IsOutcome (scrolled_if number command.now keep (opener_in self.now number) (page_at self.now) (context_in self.now context)) b.state b.posts.items) }
     {
         let alloc = self.alloc;
         let named = self.context_named(context);
@@ -118,9 +147,8 @@ impl<'a, W: Run> Book<'a, W> {
             keep,
             owner: None,
         };
-        let page = Boxed::new(alloc, page)?;
-        let request = Request::Scroll(Shared::new(alloc, ask)?);
-        Ok(started(alloc, number, command, id.node, request, Some((ask, page)))?)
+        let root = self.page_root(ask, self.opener_of(id, number), page)?;
+        Ok(started(alloc, number, command, id.node, root)?)
     }
 
     /// A clear begins, and has its answer.
@@ -131,20 +159,24 @@ impl<'a, W: Run> Book<'a, W> {
         ensures freed { self.new.contexts ≡ begun.contexts_without self.old (context_in self.old context) }
     {
         let freed = match self.context_named(context) {
-            Some(id) => self.contexts.clear(id, None),
+            Some(id) => self.contexts.table.clear(id, None),
             None => false,
         };
         Begun::answered(self.alloc, LineReply::Cleared(freed))
     }
 
-    /// The root of a search has ended. Its good answer opens a context where the search has a keep-alive and no context of its id is
-    /// there.
+    /// The root of a command has ended. Where that was a search, its good answer opens a context where the search has a keep-alive and
+    /// no context of its id is there.
     pub(crate) fn open(
         &mut self,
+        command: u32,
         request: &AnsweredRequest,
         reply: &Reply,
     ) -> Result<(), AllocError>
-        ensures opens { OnOk result (Opens self.old.contexts self.old.clock request.now reply.now self.new.contexts) }
+        requires opened { AreOpened W.setting self.old.contexts }
+        requires may { MayOpen W.setting command (opening request.now reply.now) }
+        ensures opens { OnOk result (Opens self.old.contexts self.old.clock command request.now reply.now self.new.contexts) }
+        ensures opened { OnOk result (AreOpened W.setting self.new.contexts) }
         ensures same { SameTime self.old self.new }
         ensures entries { self.new.entries.items ≡ self.old.entries.items }
     {
@@ -154,11 +186,14 @@ impl<'a, W: Run> Book<'a, W> {
         let Some(id) = reply.get().context else {
             return Ok(());
         };
-        if self.contexts.get(id).is_some() {
+        if self.contexts.table.get(id).is_some() {
             return Ok(());
         }
         match opened(self.alloc, id, ask, reply.get(), self.clock)? {
-            Some(context) => Ok(self.contexts.start(context)?),
+            Some(context) => {
+                self.contexts.openers.note(id, command)?;
+                Ok(self.contexts.table.start(context)?)
+            }
             None => Ok(()),
         }
     }
@@ -174,7 +209,7 @@ impl<'a, W: Run> Book<'a, W> {
             return Ok(());
         }
         let cursor = cursor_of(reply)?;
-        use_once(&mut self.contexts, ask, cursor, self.clock);
+        use_once(&mut self.contexts.table, ask, cursor, self.clock);
         Ok(())
     }
 }

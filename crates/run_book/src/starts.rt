@@ -1,19 +1,20 @@
 //! Searches and reindexes begin.
-ghost use Rattle.std.specs.Prelude.{◌≡◌, ◌≤◌, ◌∷◌, [], Some, Ok, is_some, option_map, IfOk, IsSomeAnd};
+ghost use Rattle.std.specs.Prelude.{◌≡◌, ◌≤◌, ◌∷◌, [], Some, Ok, is_some, IfOk, IfSome, IsSomeAnd};
 ghost use Rattle.command_roots.specs.Roots.{least_size};
 ghost use Rattle.node_link.specs.Lawful.{IsCommand, is_page};
 ghost use Rattle.query_parse.specs.Bodies.{body_at};
 ghost use Rattle.query_parse.specs.Reindexes.{reindex_at};
+ghost use Rattle.reply_facts.specs.Letters.{IsStartOf};
 ghost use Rattle.script_lang.specs.Fits.{IsSliceCount, IsRate};
 ghost use Rattle.task_events.specs.Answered.{as_answered};
 ghost use Rattle.run_book.specs.Begun as begun;
-ghost use Rattle.run_book.specs.Begun.{IsOutcome, IsPlain, reindex_asks, search_asks};
+ghost use Rattle.run_book.specs.Begun.{IsOutcome, MayStart, reindex_asks, search_asks};
 ghost use Rattle.run_book.specs.Entries.{is_known_to};
 ghost use Rattle.run_book.specs.Posts.{action_of, start_of, start_posts};
 
 use crate::begin::Begun;
 use crate::book::Book;
-use crate::entry::{State, Waits};
+use crate::entry::{RootAsk, State, Waits};
 use command_roots::{headers_of, reindex_ask, search_ask};
 use line_print::LineReply;
 use node_link::{Body as Says, Letter, Page, Place, Start};
@@ -22,7 +23,7 @@ use run_facts::{Of, Post, Run, To};
 use script_lang::Command;
 use shared_value::Shared;
 use std::alloc::{AllocError, Global};
-use task_events::{Request, ScrollAsk};
+use task_events::Request;
 use task_ids::{Action, Body, Boxed, Text};
 
 /// What a command that starts a task asks of it, or why it starts none.
@@ -52,20 +53,44 @@ fn action_of(request: &Request) -> Action
     }
 }
 
+/// The kind of a request of a root that is sent no page.
+fn root_ask(request: &Request) -> RootAsk
+    ensures { result ≡ begun.root_ask request.now }
+{
+    match request {
+        Request::Reindex(_) => RootAsk::Reindex,
+        _ => RootAsk::Search,
+    }
+}
+
+/// A root that is to start.
+#[derive(Drop)]
+pub(crate) struct Root {
+    /// The command whose search it looks through.
+    pub(crate) search: u32,
+    pub(crate) asked: RootAsk,
+    pub(crate) request: Request,
+    pub(crate) page: Option<Boxed<Page>>,
+}
+
 /// The letter that starts the root of a command.
 fn start_letter<W: Run>(
     number: u32,
+    search: u32,
     command: &Command,
     request: Request,
     page: Option<Boxed<Page>>,
 ) -> Result<Letter<Of<W>>, AllocError>
     requires number { IsCommand number }
+    requires search { IsCommand search }
     requires page { is_some page ≡ is_page (as_answered request) }
-    ensures { IfOk result (λ letter. letter ≡ Says.Start (start_of number command.now request page)) }
+    requires tells { IsStartOf W.setting (start_of number search command.now request page) }
+    ensures { IfOk result (λ letter. letter ≡ Says.Start (start_of number search command.now request page)) }
 {
     let headers = headers_of(command)?;
     let place = Place {
         command: number,
+        search,
         slice: 0,
         action: action_of(&request),
         shard: 0,
@@ -84,22 +109,25 @@ pub(crate) fn started<W: Run>(
     number: u32,
     command: &Command,
     node: u32,
-    request: Request,
-    page: Option<(ScrollAsk, Boxed<Page>)>,
+    root: Root,
 ) -> Result<Begun<W>, AllocError>
     requires number { IsCommand number }
-    requires page { is_some page ≡ is_page (as_answered request) }
-    ensures state { IfOk result (λ b. b.state ≡ State.Waits (Waits.Root (option_map (λ p. p.0) page))) }
-    ensures posts { IfOk result (λ b. b.posts.items ≡ start_posts number command.now node request (option_map (λ p. p.1) page)) }
+    requires search { IsCommand root.search }
+    requires page { is_some root.page ≡ is_page (as_answered root.request) }
+    requires tells { IsStartOf W.setting (start_of number root.search command.now root.request root.page) }
+    ensures state { IfOk result (λ b. b.state ≡ State.Waits (Waits.Root root.asked)) }
+    ensures posts { IfOk result (λ b. b.posts.items ≡ start_posts number root.search command.now node root.request root.page) }
 {
-    let (used, shown) = match page {
-        Some((ask, page)) => (Some(ask), Some(page)),
-        None => (None, None),
-    };
-    let letter = start_letter(number, command, request, shown)?;
+    let Root {
+        search,
+        asked,
+        request,
+        page,
+    } = root;
+    let letter = start_letter(number, search, command, request, page)?;
     let to = To::Data(node);
     let posts = one(alloc, Post { to, letter })?;
-    Ok(Begun::waiting(Waits::Root { page: used }, posts))
+    Ok(Begun::waiting(Waits::Root(asked), posts))
 }
 
 impl<'a, W: Run> Book<'a, W> {
@@ -172,12 +200,20 @@ impl<'a, W: Run> Book<'a, W> {
         asks: Asks,
     ) -> Result<Begun<W>, AllocError>
         requires number { IsCommand number }
-        requires plain { IsPlain asks }
+        requires may { MayStart W.setting number command.now asks }
         ensures { IfOk result (λ b. IsOutcome (begun.started number command.now node asks) b.state b.posts.items) }
     {
         match asks {
             Asks::Nothing(reply) => Ok(Begun::answered(self.alloc, reply)),
-            Asks::Task(request) => Ok(started(self.alloc, number, command, node, request, None)?),
+            Asks::Task(request) => {
+                let root = Root {
+                    search: number,
+                    asked: root_ask(&request),
+                    request,
+                    page: None,
+                };
+                Ok(started(self.alloc, number, command, node, root)?)
+            }
         }
     }
 
@@ -191,7 +227,8 @@ impl<'a, W: Run> Book<'a, W> {
         scroll: Option<u64>,
         body: &Body,
     ) -> Result<Begun<W>, AllocError>
-        requires { IsCommand number }
+        requires number { IsCommand number }
+        requires may { MayStart W.setting number command.now (search_asks (is_known_to self.now) index.now scroll (body_at (is_some scroll) (least_size scroll) body.now)) }
         ensures { IfOk result (λ b. IsOutcome (begun.started number command.now node (search_asks (is_known_to self.now) index.now scroll (body_at (is_some scroll) (least_size scroll) body.now))) b.state b.posts.items) }
     {
         let asks = self.search_asked(index, scroll, body)?;
@@ -211,6 +248,7 @@ impl<'a, W: Run> Book<'a, W> {
         requires number { IsCommand number }
         requires slices { IsSliceCount slices }
         requires rate { IsRate rate }
+        requires may { IfSome (reindex_asks (is_known_to self.now) slices rate (reindex_at body.now)) (MayStart W.setting number command.now) }
         ensures { IfOk result (λ b. IsSomeAnd (reindex_asks (is_known_to self.now) slices rate (reindex_at body.now)) (λ asks. IsOutcome (begun.started number command.now node asks) b.state b.posts.items)) }
     {
         let asks = self.reindex_asked(body, slices, rate)?;

@@ -69,7 +69,7 @@ module _ {B X : Type 0} (rests : B → B → DataCall → Type 0) (f : B → X) 
   started_keeps start b old posts new c (inr (sent, full, rest)) = chain_keeps b (registering old.live.drawn full.number None false) c full.calls
 
   answers_keep : (a : Answered) (b : B) (old : DataCore) (posts : turn.Posts) (new : DataCore) (c : B) → turn.Answers rests a b old posts new c → f c ≡ f b
-  answers_keep a b old posts new c r = elim (fits_or_not a.receipt a.place a.reply (asker old.live a.receipt.parent)) [
+  answers_keep a b old posts new c r = elim (fits_or_not a.receipt a.place a.request a.reply (asker old.live a.receipt.parent)) [
     | inl (e, at, fits) ↦ chain_keeps b (untracking e.running.ticket (left_by e.running.track a.receipt.ask)) c (r.taken fits e at).1
     | inr never ↦ ap f (r.passed never).uncalled
   ]

@@ -3,9 +3,8 @@ use Rattle.std.proofs.Common.{◌≡◌, ℕ, List, [], ◌∷◌, Option, subst
 use Rattle.task_ids.specs.declared.board_name.BoardName as name
 use Rattle.race_board.specs.Checks.{IsClear}
 use Rattle.race_board.specs.Closing.{bans_out, all_tickets}
-use Rattle.race_board.specs.Seats.{seat_view, control_view, board_size}
-use Rattle.node_boards.specs.Calls.{DataCall, ControlCall}
-use Rattle.node_boards.specs.Race.{HoldsBan, HoldsTicket, unused, DataRests, ControlRests}
+use Rattle.race_board.specs.Seats.{seat_view, control_view}
+use Rattle.node_boards.specs.Race.{unused}
 use Rattle.node_boards.specs.declared.race_control.RaceControl.{RaceControl}
 use Rattle.node_boards.specs.declared.race_data.RaceData.{RaceData}
 use Rattle.live_tasks.specs.declared.entry.Entry.{Entry}
@@ -18,24 +17,11 @@ use Rattle.node_worker.specs.Control as control
 use Rattle.node_worker.specs.Job.{Begun}
 use Rattle.data_worker.specs.Data as own
 use Rattle.run_threads.specs.Jobs.{Drained}
+use Rattle.run_cluster.specs.Workers.{ControlRest, DataRest, OwnBans, OwnTickets}
 use Rattle.run_cluster.proofs.ControlStays as control_stays
 use Rattle.run_cluster.proofs.DataStays as data_stays
 use Rattle.run_cluster.proofs.Drained.{drained_keeps}
 use Rattle.run_cluster.proofs.NothingOut.{no_ban_out, none_of_all}
-
-module _ {M : Type 0} {G : name.Ghosts M} where
-  -- what a call on a race board rests on: the board stays
-  abbrev pub ControlRest : RaceControl M G → RaceControl M G → ControlCall → Type 0
-  ControlRest b c call = (c.board.now ≡ b.board.now) × ControlRests (board_size b.board.now) (control_view b.seat) (control_view c.seat) call
-
-  abbrev pub DataRest : RaceData M G → RaceData M G → DataCall → Type 0
-  DataRest b c call = (c.board.now ≡ b.board.now) × DataRests (board_size b.board.now) (seat_view b.seat) (seat_view c.seat) call
-
-  abbrev pub OwnBans : RaceControl M G → ℕ → ℕ → ℕ → Type 0
-  OwnBans b = HoldsBan (control_view b.seat)
-
-  abbrev pub OwnTickets : RaceData M G → ℕ → ℕ → Type 0
-  OwnTickets b = HoldsTicket (seat_view b.seat)
 
 module _ {M T : Type 0} {G : name.Ghosts M} where
   -- a control worker, of which this is seen
@@ -63,10 +49,10 @@ module _ {M T : Type 0} {G : name.Ghosts M} where
     no_ticket : (v : T) → own.Rests (seen v) → IsFit v → (n p : ℕ) → ¬ OwnTickets (seen v).board n p
     no_ticket v rests fits n p has = subst (λ (o : Option Entry). HasParent p o) (rests.none n) ((fits.together.seated.tickets n p).0 has)
 
-    pub data_emptied : {N : Type 0} (begun : Begun T) (rest : Rest N T) → Drained DidOwn (λ v. own.Rests (seen v)) IsFit begun rest
+    pub data_emptied : {N : Type 0} (fits : T → Type 0) (fit : (v : T) → fits v → IsFit v) (begun : Begun T) (rest : Rest N T) → Drained DidOwn (λ v. own.Rests (seen v)) fits begun rest
         → ((seen rest.worker).board.board.now ≡ (seen begun.worker).board.board.now) × (all_tickets ((seen rest.worker).board.seat ∷ []) ≡ 0)
-    data_emptied begun rest d = (
+    data_emptied fits fit begun rest d = (
       drained_keeps DidOwn (λ v. (seen v).board.board.now) (λ v given posts w done. data_stays.does_keeps DataRest (λ b. b.board.now) (λ b c call r. r.0) (seen v) given posts (seen w) done)
-          (λ v. own.Rests (seen v)) IsFit begun rest d,
-      none_of_all (seen rest.worker).board.seat (no_ticket rest.worker d.rests d.belongs),
+          (λ v. own.Rests (seen v)) fits begun rest d,
+      none_of_all (seen rest.worker).board.seat (no_ticket rest.worker d.rests (fit rest.worker d.belongs)),
     )

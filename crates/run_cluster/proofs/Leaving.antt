@@ -3,6 +3,7 @@ use Rattle.std.proofs.Common.{◌≡◌, ℕ, List, [], ◌∷◌, ◌++◌, ◌
 use Rattle.std.specs.Prelude.{map}
 use Rattle.task_ids.specs.declared.board_name.BoardName as name
 use Rattle.task_ids.specs.declared.cluster.Cluster.{Cluster}
+use Rattle.task_ids.specs.declared.corpus.Corpus.{Corpus}
 use Rattle.race_board.specs.declared.board.RaceBoard.{RaceBoard}
 use Rattle.race_board.specs.Checks.{IsClear}
 use Rattle.race_board.specs.Seats.{seat_view}
@@ -27,32 +28,33 @@ use Rattle.run_cluster.specs.declared.boards.Seats.{Seats}
 use Rattle.run_cluster.specs.Boards.{AreNewBoards}
 use Rattle.run_cluster.specs.Places.{ends_of}
 use Rattle.run_cluster.specs.Crews.{IsControlOn, IsDataOn, ControlBegins, DataBegins, AreManned, all_left}
-use Rattle.run_cluster.proofs.Emptied.{ControlRest, DataRest, OwnBans, OwnTickets, control_emptied, data_emptied}
+use Rattle.run_cluster.specs.Workers.{ControlRest, DataRest, OwnBans, OwnTickets}
+use Rattle.run_cluster.proofs.Emptied.{control_emptied, data_emptied}
 use Rattle.run_cluster.proofs.Staying.{AreDone, SameControl, SameData, ends_stay, ControlLeftOn, DataLeftOn, seats_stay}
 use Rattle.run_cluster.proofs.Through.{pairs_on, drained_ends}
 use Rattle.run_cluster.proofs.Whole.{one_seat}
 
 module _ {W N G : Type 0} {B : name.Ghosts N} where
-  abbrev ControlDid : ControlKind W (RaceControl N B) G → Given → List (Post Body) → ControlKind W (RaceControl N B) G → Type 0
+  abbrev pub ControlDid : ControlKind W (RaceControl N B) G → Given → List (Post Body) → ControlKind W (RaceControl N B) G → Type 0
   ControlDid v given posts w = control.Does ControlRest (control.seen v.state) given posts (control.seen w.state)
 
-  abbrev ControlAtRest : ControlKind W (RaceControl N B) G → Type 0
+  abbrev pub ControlAtRest : ControlKind W (RaceControl N B) G → Type 0
   ControlAtRest v = control.Rests OwnBans (control.seen v.state)
 
-  pub controls_left : (fits : ControlKind W (RaceControl N B) G → Type 0) (bs : List (RaceBoard N)) (ws : List (Begun (ControlKind W (RaceControl N B) G))) (rs : List (Rest N (ControlKind W (RaceControl N B) G))) → Pairwise IsControlOn bs ws → Pairwise (Drained ControlDid ControlAtRest fits) ws rs → Pairwise ControlLeftOn bs rs
-  controls_left fits = pairs_on IsControlOn (Drained ControlDid ControlAtRest fits) ControlLeftOn (λ b w r on d. (let s = control_emptied (λ (v : ControlKind W (RaceControl N B) G). control.seen v.state) fits w r d in (s.0 ∙ on, s.1)))
+  pub controls_left : (cluster : Cluster) (fits : ControlKind W (RaceControl N B) G → Type 0) (bs : List (RaceBoard N)) (ws : List (Begun (ControlKind W (RaceControl N B) G))) (rs : List (Rest N (ControlKind W (RaceControl N B) G))) → Pairwise (IsControlOn cluster) bs ws → Pairwise (Drained ControlDid ControlAtRest fits) ws rs → Pairwise ControlLeftOn bs rs
+  controls_left cluster fits = pairs_on (IsControlOn cluster) (Drained ControlDid ControlAtRest fits) ControlLeftOn (λ b w r on d. (let s = control_emptied (λ (v : ControlKind W (RaceControl N B) G). control.seen v.state) fits w r d in (s.0 ∙ on.over, s.1)))
 
-  abbrev DataDid : DataKind W (RaceData N B) G → Given → List (Post Body) → DataKind W (RaceData N B) G → Type 0
+  abbrev pub DataDid : DataKind W (RaceData N B) G → Given → List (Post Body) → DataKind W (RaceData N B) G → Type 0
   DataDid v given posts w = own.Does DataRest (own.seen v.state) given posts (own.seen w.state)
 
-  abbrev DataAtRest : DataKind W (RaceData N B) G → Type 0
+  abbrev pub DataAtRest : DataKind W (RaceData N B) G → Type 0
   DataAtRest v = own.Rests (own.seen v.state)
 
   abbrev DataFits : (ℕ → Type 0) → DataKind W (RaceData N B) G → Type 0
   DataFits allowed v = own.Fits (λ (b : RaceData N B). b.board.now.node) OwnTickets (λ b. unused (seat_view b.seat)) (λ b. IsClear (seat_view b.seat)) allowed v.state.core v.state.board
 
-  pub datas_left : (allowed : ℕ → Type 0) (bs : List (RaceBoard N)) (ws : List (Begun (DataKind W (RaceData N B) G))) (rs : List (Rest N (DataKind W (RaceData N B) G))) → Pairwise IsDataOn bs ws → Pairwise (Drained DataDid DataAtRest (DataFits allowed)) ws rs → Pairwise DataLeftOn bs rs
-  datas_left allowed = pairs_on IsDataOn (Drained DataDid DataAtRest (DataFits allowed)) DataLeftOn (λ b w r on d. (let s = data_emptied (λ (v : DataKind W (RaceData N B) G). own.seen v.state) allowed w r d in (s.0 ∙ on, s.1)))
+  pub datas_left : (cluster : Cluster) (corpus : Corpus) (allowed : ℕ → Type 0) (fits : DataKind W (RaceData N B) G → Type 0) (fit : (v : DataKind W (RaceData N B) G) → fits v → DataFits allowed v) (bs : List (RaceBoard N)) (ws : List (Begun (DataKind W (RaceData N B) G))) (rs : List (Rest N (DataKind W (RaceData N B) G))) → Pairwise (IsDataOn cluster corpus) bs ws → Pairwise (Drained DataDid DataAtRest fits) ws rs → Pairwise DataLeftOn bs rs
+  datas_left cluster corpus allowed fits fit = pairs_on (IsDataOn cluster corpus) (Drained DataDid DataAtRest fits) DataLeftOn (λ b w r on d. (let s = data_emptied (λ (v : DataKind W (RaceData N B) G). own.seen v.state) allowed fits fit w r d in (s.0 ∙ on.over, s.1)))
 
   -- the seats that are left are those of the new boards, and hold nothing
   pub seats_after : (cluster : Cluster) (bs : List (RaceBoard N)) (seats left : List (Seats N B)) (cs : List (Rest N (ControlKind W (RaceControl N B) G))) (ds : List (Rest N (DataKind W (RaceData N B) G))) → AreNewBoards cluster bs seats → Pairwise ControlLeftOn bs cs → Pairwise DataLeftOn bs ds

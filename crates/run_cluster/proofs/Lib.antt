@@ -1,6 +1,8 @@
+mod Alike
 mod ControlStays
 mod DataStays
 mod Dealing
+mod Decisions
 mod Drained
 mod Emptied
 mod Fitting
@@ -8,8 +10,11 @@ mod Fresh
 mod Holding
 mod Leaving
 mod Linked
+mod Mailing
 mod Manning
 mod NothingOut
+mod Running
 mod Staying
 mod Through
 mod Whole
+mod Working

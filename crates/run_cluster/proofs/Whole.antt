@@ -7,12 +7,14 @@ use Rattle.task_ids.specs.declared.cluster.Cluster.{Cluster}
 use Rattle.race_board.specs.declared.board.RaceBoard.{RaceBoard}
 use Rattle.race_board.specs.declared.views.Size.{Size}
 use Rattle.race_board.specs.Seats.{board_size}
+use Rattle.node_link.specs.declared.body.Body.{Body}
+use Rattle.run_inboxes.specs.declared.ends.Ends.{Ends}
 use Rattle.run_inboxes.proofs.Rows.{stands}
 use Rattle.run_cluster.specs.declared.boards.Seats.{Seats}
 use Rattle.run_cluster.specs.declared.notes.NodeNote.{NodeNote}
 use Rattle.run_cluster.specs.declared.notes.RunNotes.{RunNotes}
 use Rattle.run_cluster.specs.Boards.{AreNewBoards, AllHoldNothing}
-use Rattle.run_cluster.specs.Notes.{AreNotes, IsClear, AreWhole}
+use Rattle.run_cluster.specs.Notes.{AreNotes, IsClear, AreClear}
 
 module _ {N : Type 0} {G : name.Ghosts N} where
   -- each new board has one data seat
@@ -24,8 +26,8 @@ module _ {N : Type 0} {G : name.Ghosts N} where
       let s = stands seats k (omega arith) in
       ap (λ (z : Size). z.seats) (new.each k b s.0 at s.1).size
 
-  pub whole : (nodes : ℕ) (seats : List (Seats N G)) (notes : RunNotes) → length seats ≡ nodes → AllHoldNothing seats → AreNotes seats notes → AreWhole nodes notes
-  whole nodes seats notes long none are = record { count = are.count ∙ long; clear = clear; driver = are.driver }
+  pub all_clear : (nodes : ℕ) (seats : List (Seats N G)) (ends : List (Ends Body)) (notes : RunNotes) → length seats ≡ nodes → AllHoldNothing seats → AreNotes seats ends notes → AreClear nodes notes.nodes.items
+  all_clear nodes seats ends notes long none are = record { count = are.count ∙ long; clear = clear }
     where
       clear : (k : ℕ) (note : NodeNote) → slice_get notes.nodes.items k ≡ Some note → IsClear (k + 1) note
       clear k note at =
@@ -35,4 +37,4 @@ module _ {N : Type 0} {G : name.Ghosts N} where
           let s = stands seats k (omega arith) in
           let closed = one.board s.0 s.1 in
           let held = none k s.0 s.1 in
-          record { here = one.node; live = closed.live ∙ held.tickets; bans = closed.bans ∙ held.bans; control = one.control; own = one.own }
+          record { here = one.node; live = closed.live ∙ held.tickets; bans = closed.bans ∙ held.bans }

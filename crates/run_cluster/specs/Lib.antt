@@ -4,4 +4,7 @@ pub mod Places
 pub mod Shards
 pub mod Closing
 pub mod Notes
+pub mod Mail
+pub mod Workers
+pub mod Runs
 pub mod Crews

@@ -86,7 +86,7 @@ pub(crate) fn close<W: Run, R: Wait>(
     requires seats { Pairwise AreSeatsOf boards.items left.seats.items }
     requires linked { AreLinked left.ends.items }
     requires ends { length left.ends.items ≡ 2 * length boards.items + 1 }
-    ensures { IfOk result (AreNotes left.seats.items) }
+    ensures { IfOk result (AreNotes left.seats.items left.ends.items) }
 {
     let Left { seats, ends } = left;
     let inboxes = close_all(rt, alloc, ends)?;

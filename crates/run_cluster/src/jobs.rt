@@ -5,6 +5,7 @@ ghost use Rattle.task_ids.specs.Placing.{node_of};
 ghost use Rattle.race_board.specs.Board.{newcomer};
 ghost use Rattle.run_cluster.specs.Shards.{with_shard};
 ghost use Rattle.race_board.specs.Seats.{control_view, board_size, IsControlOf, IsNew};
+ghost use Rattle.run_cluster.specs.Crews.{IsControlOn, IsDataOn};
 
 use control_worker::ControlCore;
 use data_core::DataCore;
@@ -70,10 +71,11 @@ impl<'b, G: Gate> Ground<'b, G> {
         ends: Ends<Note<W>>,
     ) -> Result<Worker<Of<W>, Control<'b, W, G>>, AllocError>
         requires node { IsNode node }
+        requires own { board.now.node ≡ node }
         requires slots { (board_size board.now).slots ≡ self.now.cluster.slots }
         requires fits { IsControlOf board.now seat }
         requires new { control_view seat ≡ newcomer (board_size board.now) 1 0 }
-        ensures board { IfOk result (λ w. (w.worker.state.board.board.now ≡ board.now) × (w.worker.state.board.seat ≡ seat)) }
+        ensures new { IfOk result (IsControlOn self.now.cluster board.now) }
         ensures ends { IfOk result (λ w. (w.inbox ≡ ends.inbox) × (w.senders ≡ ends.senders.items)) }
     {
         let core = ControlCore::new(alloc, node, 1, self.cluster.slots)?;
@@ -92,10 +94,11 @@ impl<'b, G: Gate> Ground<'b, G> {
         seat: DataSeat<Of<W>>,
         ends: Ends<Note<W>>,
     ) -> Result<Worker<Of<W>, Data<'b, W, G>>, AllocError>
+        requires setting { (W.setting.corpus ≡ self.now.corpus.now) × (W.setting.shards ≡ self.now.cluster.shards) }
         requires node { IsNode node }
         requires own { board.now.node ≡ node }
         requires new { IsNew board.now seat }
-        ensures board { IfOk result (λ w. (w.worker.state.board.board.now ≡ board.now) × (w.worker.state.board.seat ≡ seat)) }
+        ensures new { IfOk result (IsDataOn self.now.cluster self.now.corpus.now board.now) }
         ensures ends { IfOk result (λ w. (w.inbox ≡ ends.inbox) × (w.senders ≡ ends.senders.items)) }
     {
         let shards = shards_on(alloc, &self.cluster, node)?;

@@ -4,7 +4,11 @@ ghost use Rattle.run_inboxes.specs.Pairs.{Pairwise};
 ghost use Rattle.run_inboxes.specs.Ends.{AreLinked};
 ghost use Rattle.run_threads.specs.Causes.{IsCauseOf};
 ghost use Rattle.run_cluster.specs.Boards.{AreNewBoards, AreSeatsOf, AllHoldNothing};
-ghost use Rattle.run_cluster.specs.Notes.{AreWhole};
+ghost use Rattle.run_cluster.specs.Crews.{AllWorked};
+ghost use Rattle.run_cluster.specs.Notes.{AreClear};
+ghost use Rattle.run_cluster.specs.Runs.{IsRunOf};
+ghost use Rattle.run_facts.specs.Cancels.{cancels_of};
+ghost use Rattle.run_facts.specs.declared.Of.{Of};
 
 use crate::boards::{Boards, Seats};
 use crate::closing::close;
@@ -33,12 +37,14 @@ impl<'b, G: Gate> Ground<'b, G> {
         spawner: &mut P,
         drive: &mut D,
     ) -> Result<Left<Of<W>>, RunStop>
+        requires setting { (W.setting.corpus ≡ self.now.corpus.now) × (W.setting.shards ≡ self.now.cluster.shards) }
         requires capacity { 0 < capacity }
         requires boards { AreNewBoards self.now.cluster boards.now seats.items }
         ensures seats { IfOk result (λ left. Pairwise AreSeatsOf boards.now left.seats.items) }
         ensures none { IfOk result (λ left. AllHoldNothing left.seats.items) }
         ensures linked { IfOk result (λ left. AreLinked left.ends.items) }
         ensures ends { IfOk result (λ left. length left.ends.items ≡ 2 * length boards.now + 1) }
+        ensures worked { IfOk result (λ left. AllWorked self.now.cluster self.now.corpus.now boards.now left.seats.items left.ends.items) }
         ensures done { OnOk result (D.done drive.old drive.new) }
         ensures cause { MatchResult result (λ _. P.faults spawner.new ≡ P.faults spawner.old) (IsCauseOf (P.faults spawner.old) (P.faults spawner.new)) }
     {
@@ -66,8 +72,10 @@ pub fn run_cluster<W: Run + Send, P: Spawner, G: Gate, D: Drive<Of<W>>, R: Threa
     gate: &G,
     drive: &mut D,
 ) -> Result<RunNotes, RunStop>
+    requires setting { (W.setting.corpus ≡ corpus.now) × (W.setting.shards ≡ cluster.now.shards) }
     requires capacity { 0 < capacity }
-    ensures notes { IfOk result (AreWhole cluster.now.nodes) }
+    ensures clear { IfOk result (λ notes. AreClear cluster.now.nodes notes.nodes.items) }
+    ensures run { IfOk result (λ notes. IsRunOf (Of W) (record { allowed = cancels_of W.cancels }) cluster.now corpus.now notes.nodes.items notes.driver) }
     ensures done { OnOk result (D.done drive.old drive.new) }
     ensures cause { MatchResult result (λ _. P.faults spawner.new ≡ P.faults spawner.old) (IsCauseOf (P.faults spawner.old) (P.faults spawner.new)) }
 {

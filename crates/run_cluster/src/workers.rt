@@ -28,10 +28,11 @@ impl<'b, G: Gate> Ground<'b, G> {
         board: &'b RaceBoard<Of<W>>,
         place: Place<Seats<Of<W>>, Ends<Note<W>>>,
     ) -> Result<(), AllocError>
+        requires setting { (W.setting.corpus ≡ self.now.corpus.now) × (W.setting.shards ≡ self.now.cluster.shards) }
         requires node { IsNode node }
         requires new { IsNewBoard self.now.cluster.slots node board.now place.seats }
-        ensures control { OnOk result ((w : _) × (crew.new.controls.items ≡ crew.old.controls.items ++ w ∷ []) × IsControlOn board.now w × BeginsWith place.control w) }
-        ensures own { OnOk result ((w : _) × (crew.new.datas.items ≡ crew.old.datas.items ++ w ∷ []) × IsDataOn board.now w × BeginsWith place.«data» w) }
+        ensures control { OnOk result ((w : _) × (crew.new.controls.items ≡ crew.old.controls.items ++ w ∷ []) × IsControlOn self.now.cluster board.now w × BeginsWith place.control w) }
+        ensures own { OnOk result ((w : _) × (crew.new.datas.items ≡ crew.old.datas.items ++ w ∷ []) × IsDataOn self.now.cluster self.now.corpus.now board.now w × BeginsWith place.«data» w) }
         ensures driver { crew.new.driver ≡ crew.old.driver }
     {
         let Place {
@@ -54,10 +55,11 @@ impl<'b, G: Gate> Ground<'b, G> {
         seats: Vec<Seats<Of<W>>>,
         ends: Vec<Ends<Note<W>>>,
     ) -> Result<Crew<'b, W, G>, AllocError>
+        requires setting { (W.setting.corpus ≡ self.now.corpus.now) × (W.setting.shards ≡ self.now.cluster.shards) }
         requires boards { AreNewBoards self.now.cluster boards.now seats.items }
         requires ends { length ends.items ≡ 2 * self.now.cluster.nodes + 1 }
-        ensures controls { IfOk result (λ crew. Pairwise IsControlOn boards.now crew.controls.items) }
-        ensures datas { IfOk result (λ crew. Pairwise IsDataOn boards.now crew.datas.items) }
+        ensures controls { IfOk result (λ crew. Pairwise (IsControlOn self.now.cluster) boards.now crew.controls.items) }
+        ensures datas { IfOk result (λ crew. Pairwise (IsDataOn self.now.cluster self.now.corpus.now) boards.now crew.datas.items) }
         ensures manned { IfOk result (λ crew. AreManned seats.items ends.items crew.controls.items crew.datas.items crew.driver) }
     {
         let Places { places, driver } = deal(alloc, seats, ends)?;

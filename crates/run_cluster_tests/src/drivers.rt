@@ -8,16 +8,35 @@ ghost use Rattle.run_inboxes.specs.Pairs.{Pairwise};
 use node_link::{Back, Body, Letter, Place, Sender, Start};
 use query_match::{Query, SearchBody};
 use run_cluster::{Drive, Ends};
-use run_facts::Of;
+use run_facts::{Of, Run};
 use shared_value::Shared;
 use std::alloc::Global;
 use std::sync::Wait;
 use std::thread;
 use task_events::{Reply, Request, SearchAsk, Stop};
-use task_ids::{Action, AnyCancel, Headers, Text};
+use task_ids::{Action, Headers, Text};
 
-/// The run of these tests.
-pub type Name = Of<AnyCancel>;
+/// The documents of the index `a`.
+pub const DOCS: &str =
+    "{\"index\":{\"_index\":\"a\",\"_id\":\"1\"}}\n{\"n\":1}\n{\"index\":{\"_index\":\"a\",\"_id\":\"2\"}}\n{\"n\":2}\n{\"index\":{\"_index\":\"a\",\"_id\":\"3\"}}\n{\"n\":3}\n{\"index\":{\"_index\":\"a\",\"_id\":\"4\"}}\n{\"n\":4}\n{\"index\":{\"_index\":\"a\",\"_id\":\"5\"}}\n{\"n\":5}\n";
+
+/// The run of these tests, over these documents in five shards. It has each cancellation. Nothing else is known of it.
+pub struct Plays;
+
+impl Run for Plays {
+    ghost use Rattle.std.specs.Str.Lines.{lines};
+    ghost use Rattle.shard_docs.specs.Corpus.{corpus_of};
+    ghost use Rattle.reply_facts.specs.Settings.{only};
+    ghost use Rattle.run_cluster_tests.specs.Docs.{docs_in};
+    ghost use Rattle.run_cluster_tests.specs.declared.drivers.TheConstants.{DOCS};
+
+    ghost cancels = { λ _. Unit {0} };
+
+    ghost setting = { only (docs_in (corpus_of (lines DOCS.now))) 5 };
+}
+
+/// Its name.
+pub type Name = Of<Plays>;
 
 /// Its letters.
 pub type Note = Letter<Name>;
@@ -92,6 +111,7 @@ fn search(alloc: Global, command: u32) -> Option<Note>
     let ask = Shared::new(alloc, ask(alloc)?).ok()?;
     let place = Place {
         command,
+        search: command,
         slice: 0,
         action: Action::Search,
         shard: 0,

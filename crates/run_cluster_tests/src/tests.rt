@@ -2,7 +2,7 @@
 ghost use Rattle.std.specs.Prelude.{◌<◌, ◌≤◌};
 ghost use Rattle.task_ids.specs.Limits.{IsNode};
 
-use crate::drivers::{GivesUp, Name, Searches, Silent};
+use crate::drivers::{DOCS, GivesUp, Name, Plays, Searches, Silent};
 use es_io::{ListSpawner, OpenGate, Spawner, ThreadSpawner};
 use run_cluster::{Drive, NodeNote, RunNotes, RunStop, run_cluster};
 use shard_docs::read_corpus;
@@ -10,11 +10,7 @@ use std::alloc::{AllocError, Global};
 use std::sync::Wait;
 use std::thread::Threads;
 use task_events::Stop;
-use task_ids::{AnyCancel, Cluster};
-
-/// The documents of the index `a`.
-const DOCS: &str =
-    "{\"index\":{\"_index\":\"a\",\"_id\":\"1\"}}\n{\"n\":1}\n{\"index\":{\"_index\":\"a\",\"_id\":\"2\"}}\n{\"n\":2}\n{\"index\":{\"_index\":\"a\",\"_id\":\"3\"}}\n{\"n\":3}\n{\"index\":{\"_index\":\"a\",\"_id\":\"4\"}}\n{\"n\":4}\n{\"index\":{\"_index\":\"a\",\"_id\":\"5\"}}\n{\"n\":5}\n";
+use task_ids::Cluster;
 
 // Runs a cluster of so many nodes, with five shards.
 fn run<P: Spawner, D: Drive<Name>, R: Threads + Wait + Sync>(
@@ -36,7 +32,7 @@ fn run<P: Spawner, D: Drive<Name>, R: Threads + Wait + Sync>(
     let Ok(read) = read_corpus(alloc, DOCS.as_bytes()) else {
         return Err(RunStop::Stopped(Stop::Memory));
     };
-    run_cluster::<AnyCancel, P, OpenGate, D, R>(
+    run_cluster::<Plays, P, OpenGate, D, R>(
         rt,
         alloc,
         &cluster,

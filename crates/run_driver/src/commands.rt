@@ -28,8 +28,8 @@ fn wait_before<W: Run, R: Wait>(
     ends: &mut Ends<Note<W>>,
     book: &mut Book<'_, W>,
 ) -> Result<(), Stop>
-    requires keeps { Keeps W.cancels book.old }
-    ensures keeps { OnOk result (Keeps W.cancels book.new) }
+    requires keeps { Keeps W.cancels W.setting book.old }
+    ensures keeps { OnOk result (Keeps W.cancels W.setting book.new) }
     ensures run { SameRun book.old book.new }
     ensures begun { length book.new.entries.items ≡ length book.old.entries.items }
     ensures ends { SameEnds ends.old ends.new }
@@ -50,8 +50,8 @@ fn do_next<W: Run, R: Wait>(
     ends: &mut Ends<Note<W>>,
     book: &mut Book<'_, W>,
 ) -> Result<(), Stop>
-    requires keeps { Keeps W.cancels book.old }
-    ensures keeps { OnOk result (Keeps W.cancels book.new) }
+    requires keeps { Keeps W.cancels W.setting book.old }
+    ensures keeps { OnOk result (Keeps W.cancels W.setting book.new) }
     ensures run { SameRun book.old book.new }
     ensures ends { SameEnds ends.old ends.new }
     ensures fails { IfErr result (IsCauseAt ends.new.inbox) }
@@ -72,9 +72,9 @@ fn do_all<W: Run, G: LineGate, R: Wait>(
     commands: usize,
     gate: &G,
 ) -> Result<(), Stop>
-    requires keeps { Keeps W.cancels book.old }
+    requires keeps { Keeps W.cancels W.setting book.old }
     requires few { commands ≤ 65535 }
-    ensures keeps { OnOk result (Keeps W.cancels book.new) }
+    ensures keeps { OnOk result (Keeps W.cancels W.setting book.new) }
     ensures run { SameRun book.old book.new }
     ensures ends { SameEnds ends.old ends.new }
     ensures fails { IfErr result (IsCauseAt ends.new.inbox) }
@@ -109,9 +109,9 @@ fn drain<W: Run, R: Wait>(
     book: &mut Book<'_, W>,
     nodes: u32,
 ) -> Result<(), Stop>
-    requires keeps { Keeps W.cancels book.old }
+    requires keeps { Keeps W.cancels W.setting book.old }
     requires nodes { nodes ≤ 15 }
-    ensures keeps { OnOk result (Keeps W.cancels book.new) }
+    ensures keeps { OnOk result (Keeps W.cancels W.setting book.new) }
     ensures run { SameRun book.old book.new }
     ensures ends { SameEnds ends.old ends.new }
     ensures fails { IfErr result (IsCauseAt ends.new.inbox) }
@@ -131,11 +131,11 @@ fn answers<W: Run, R: Wait>(
     book: &mut Book<'_, W>,
     commands: usize,
 ) -> Result<Vec<LineNote>, Stop>
-    requires keeps { Keeps W.cancels book.old }
+    requires keeps { Keeps W.cancels W.setting book.old }
     requires count { commands ≡ length book.old.script.now }
     ensures ends { SameEnds ends.old ends.new }
     ensures fails { IfErr result (IsCauseAt ends.new.inbox) }
-    ensures notes { IfOk result (λ notes. AreNotes W.cancels (is_known_to book.old) book.old.script.now notes.items) }
+    ensures notes { IfOk result (λ notes. AreNotes W.cancels W.setting (is_known_to book.old) book.old.script.now notes.items) }
 {
     let mut notes = Vec::new(alloc);
     for before in 0..commands {
@@ -167,10 +167,10 @@ pub fn drive<'a, W: Run, G: LineGate, R: Wait>(
     ends: &mut Ends<Note<W>>,
     gate: &G,
 ) -> Result<Vec<LineNote>, Stop>
-    requires can { CanDrive W.cancels cluster.now.nodes script.now }
+    requires can { CanDrive W.cancels W.setting cluster.now.nodes script.now }
     ensures ends { SameEnds ends.old ends.new }
     ensures fails { IfErr result (IsCauseAt ends.new.inbox) }
-    ensures notes { IfOk result (λ notes. AreNotes W.cancels (λ index. contains_by (λ k. bytes_eq index k.now) known.now) script.now notes.items) }
+    ensures notes { IfOk result (λ notes. AreNotes W.cancels W.setting (λ index. contains_by (λ k. bytes_eq index k.now) known.now) script.now notes.items) }
 {
     let mut book = Book::<W>::new(alloc, cluster, script, known);
     do_all(rt, ends, &mut book, script.len(), gate)?;

@@ -28,8 +28,8 @@ fn hear_some<W: Run, R: Wait>(
     ends: &mut Ends<Note<W>>,
     book: &mut Book<'_, W>,
 ) -> Result<(), Stop>
-    requires keeps { Keeps W.cancels book.old }
-    ensures keeps { OnOk result (Keeps W.cancels book.new) }
+    requires keeps { Keeps W.cancels W.setting book.old }
+    ensures keeps { OnOk result (Keeps W.cancels W.setting book.new) }
     ensures run { SameRun book.old book.new }
     ensures begun { length book.new.entries.items ≡ length book.old.entries.items }
     ensures ends { SameEnds ends.old ends.new }
@@ -51,8 +51,8 @@ fn hear_next<W: Run, R: Wait>(
     ends: &mut Ends<Note<W>>,
     book: &mut Book<'_, W>,
 ) -> Result<(), Stop>
-    requires keeps { Keeps W.cancels book.old }
-    ensures keeps { OnOk result (Keeps W.cancels book.new) }
+    requires keeps { Keeps W.cancels W.setting book.old }
+    ensures keeps { OnOk result (Keeps W.cancels W.setting book.new) }
     ensures run { SameRun book.old book.new }
     ensures begun { length book.new.entries.items ≡ length book.old.entries.items }
     ensures ends { SameEnds ends.old ends.new }
@@ -101,8 +101,8 @@ fn send_at<W: Run, R: Wait>(
     place: usize,
     letter: Note<W>,
 ) -> Result<(), Stop>
-    requires keeps { Keeps W.cancels book.old }
-    ensures keeps { OnOk result (Keeps W.cancels book.new) }
+    requires keeps { Keeps W.cancels W.setting book.old }
+    ensures keeps { OnOk result (Keeps W.cancels W.setting book.new) }
     ensures run { SameRun book.old book.new }
     ensures begun { length book.new.entries.items ≡ length book.old.entries.items }
     ensures ends { SameEnds ends.old ends.new }
@@ -127,8 +127,8 @@ fn send<W: Run, R: Wait>(
     book: &mut Book<'_, W>,
     post: Post<Note<W>>,
 ) -> Result<(), Stop>
-    requires keeps { Keeps W.cancels book.old }
-    ensures keeps { OnOk result (Keeps W.cancels book.new) }
+    requires keeps { Keeps W.cancels W.setting book.old }
+    ensures keeps { OnOk result (Keeps W.cancels W.setting book.new) }
     ensures run { SameRun book.old book.new }
     ensures begun { length book.new.entries.items ≡ length book.old.entries.items }
     ensures ends { SameEnds ends.old ends.new }
@@ -149,8 +149,8 @@ pub(crate) fn send_all<W: Run, R: Wait>(
     book: &mut Book<'_, W>,
     posts: Vec<Post<Note<W>>>,
 ) -> Result<(), Stop>
-    requires keeps { Keeps W.cancels book.old }
-    ensures keeps { OnOk result (Keeps W.cancels book.new) }
+    requires keeps { Keeps W.cancels W.setting book.old }
+    ensures keeps { OnOk result (Keeps W.cancels W.setting book.new) }
     ensures run { SameRun book.old book.new }
     ensures begun { length book.new.entries.items ≡ length book.old.entries.items }
     ensures ends { SameEnds ends.old ends.new }
@@ -170,8 +170,8 @@ pub(crate) fn wait_for_answer<W: Run, R: Wait>(
     book: &mut Book<'_, W>,
     command: u32,
 ) -> Result<(), Stop>
-    requires keeps { Keeps W.cancels book.old }
-    ensures keeps { OnOk result (Keeps W.cancels book.new) }
+    requires keeps { Keeps W.cancels W.setting book.old }
+    ensures keeps { OnOk result (Keeps W.cancels W.setting book.new) }
     ensures run { SameRun book.old book.new }
     ensures begun { length book.new.entries.items ≡ length book.old.entries.items }
     ensures ends { SameEnds ends.old ends.new }
@@ -194,8 +194,8 @@ pub(crate) fn wait_for_root<W: Run, R: Wait>(
     book: &mut Book<'_, W>,
     command: u32,
 ) -> Result<(), Stop>
-    requires keeps { Keeps W.cancels book.old }
-    ensures keeps { OnOk result (Keeps W.cancels book.new) }
+    requires keeps { Keeps W.cancels W.setting book.old }
+    ensures keeps { OnOk result (Keeps W.cancels W.setting book.new) }
     ensures run { SameRun book.old book.new }
     ensures begun { length book.new.entries.items ≡ length book.old.entries.items }
     ensures ends { SameEnds ends.old ends.new }
@@ -217,8 +217,8 @@ pub(crate) fn wait_for_pages<W: Run, R: Wait>(
     ends: &mut Ends<Note<W>>,
     book: &mut Book<'_, W>,
 ) -> Result<(), Stop>
-    requires keeps { Keeps W.cancels book.old }
-    ensures keeps { OnOk result (Keeps W.cancels book.new) }
+    requires keeps { Keeps W.cancels W.setting book.old }
+    ensures keeps { OnOk result (Keeps W.cancels W.setting book.new) }
     ensures run { SameRun book.old book.new }
     ensures begun { length book.new.entries.items ≡ length book.old.entries.items }
     ensures ends { SameEnds ends.old ends.new }
@@ -238,15 +238,15 @@ pub(crate) fn answer_of<W: Run, R: Wait>(
     book: &mut Book<'_, W>,
     command: u32,
 ) -> Result<LineNote, Stop>
-    requires keeps { Keeps W.cancels book.old }
+    requires keeps { Keeps W.cancels W.setting book.old }
     requires number { 1 ≤ command }
-    ensures keeps { OnOk result (Keeps W.cancels book.new) }
+    ensures keeps { OnOk result (Keeps W.cancels W.setting book.new) }
     ensures run { SameRun book.old book.new }
     ensures begun { length book.new.entries.items ≡ length book.old.entries.items }
     ensures ends { SameEnds ends.old ends.new }
     ensures fails { IfErr result (IsCauseAt ends.new.inbox) }
     ensures printable { IfOk result (λ note. IsPrintable note.reply) }
-    ensures note { IfOk result (λ note. (place : ℕ) → place + 1 ≡ command → IsNoteAt (cancels_of W.cancels) (is_known_to book.old) book.old.script.now place note) }
+    ensures note { IfOk result (λ note. (place : ℕ) → place + 1 ≡ command → IsNoteAt (cancels_of W.cancels) W.setting (is_known_to book.old) book.old.script.now place note) }
 {
     for _ in rt.forever() {
         if let Some(note) = book.take_note(command) {

@@ -8,19 +8,31 @@ use task_ids::{AnyCancel, BoardName};
 /// What a run is over. A program picks one where it begins, and the types below keep it.
 pub trait Run {
     ghost use Rattle.std.specs.Prelude.{ℕ};
+    ghost use Rattle.reply_facts.specs.Settings.{Setting};
 
     /// The run has a cancellation of this number.
     ghost cancels: { ℕ → Type 0 };
+
+    /// Its documents, which indices it writes, and what its searches look for.
+    ghost setting: { Setting };
 }
 
-/// A run of direct calls, which has each cancellation.
+/// A run of direct calls, which has each cancellation. Nothing else is known of it.
 impl Run for AnyCancel {
+    ghost use Rattle.reply_facts.specs.Settings.{unknown};
+
     ghost cancels = { λ _. Unit {0} };
+
+    ghost setting = { unknown };
 }
 
 /// A run of which nothing is known but that its cancellations are in range.
 impl Run for Brand {
+    ghost use Rattle.reply_facts.specs.Settings.{unknown};
+
     ghost cancels = { λ _. Unit {0} };
+
+    ghost setting = { unknown };
 }
 
 /// The name of a run, as its boards and letters have it. It has no bytes.
@@ -35,9 +47,11 @@ impl<W: Run> BoardName for Of<W> {
     ghost allowed = { cancels_of W.cancels };
 }
 
-/// Nothing is asked of its letters besides.
+/// Its letters tell plainly what is asked, and what is replied by its documents.
 impl<W: Run> RunName for Of<W> {
-    ghost asks = { λ _. Unit {0} };
+    ghost use Rattle.reply_facts.specs.Letters.{TellsPlainly};
+
+    ghost asks = { TellsPlainly W.setting };
 }
 
 /// The worker into whose inbox a letter goes, or the driver. A node has one data worker.

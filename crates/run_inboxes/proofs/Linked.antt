@@ -1,5 +1,5 @@
 -- The ends of all inboxes, as they are made and as they are closed.
-use Rattle.std.proofs.Common.{◌≡◌, ℕ, List, [], length, Some, sym, refl, ap, ◌∙◌, subst, arith}
+use Rattle.std.proofs.Common.{◌≡◌, ℕ, List, [], ◌∷◌, length, Some, sym, refl, ap, ◌∙◌, subst, arith}
 use Rattle.std.specs.Prelude.{slice_get, map, Option}
 use Rattle.std.specs.Global.{Vec}
 use Rattle.std.proofs.lemmas.Option.{slice_get_within, slice_get-map}
@@ -8,18 +8,25 @@ use Rattle.node_link.specs.declared.ends.Sender.{Sender}
 use Rattle.node_link.specs.declared.ends.Receiver.{Receiver}
 use Rattle.node_link.specs.declared.ends.SenderEnd.{SenderEnd}
 use Rattle.node_link.specs.declared.ends.Tally.{Tally}
-use Rattle.node_link.specs.Inbox.{put, LeadsTo, LeftBy}
+use Rattle.node_link.specs.Inbox.{put, sent_by, sent_total, LeadsTo, LeftBy}
 use Rattle.node_link.proofs.Counts.{Some_injective}
 use Rattle.run_inboxes.specs.declared.ends.Ends.{Ends}
 use Rattle.run_inboxes.specs.Pairs.{Pairwise, Threewise}
 use Rattle.run_inboxes.specs.Rows.{HasWidth, IsTurned}
 use Rattle.run_inboxes.specs.Ends.{IsWhole, AreLinked, AreNew, IsOpened}
-use Rattle.run_inboxes.specs.Closed.{AllLeft, MayFinish, IsFinished, IsClosed, AreClosed}
+use Rattle.node_link.specs.Rule.{total}
+use Rattle.run_inboxes.specs.Closed.{AllLeft, MayFinish, IsFinished, put_by, sent_into, IsClosed, AreClosed}
 use Rattle.run_inboxes.proofs.Pairs.{pairs_length, pairs_right, pairs_left, pairs_from, threes_length, threes_at}
 use Rattle.run_inboxes.proofs.Rows.{stands}
 
 mapped : {A B : Type 0} (f : A → B) (xs : List A) (ys : List B) (k : ℕ) (x : A) → map f xs ≡ ys → slice_get xs k ≡ Some x → slice_get ys k ≡ Some (f x)
 mapped f xs ys k x is at = ap (λ l. slice_get l k) (sym is) ∙ slice_get-map f xs k ∙ ap (Rattle.std.specs.Prelude.option_map f) at
+
+totals_same : {A B : Type 0} (f : A → ℕ) (g : B → ℕ) (xs : List A) (ys : List B) → Pairwise (λ x y. f x ≡ g y) xs ys → total f xs ≡ total g ys
+totals_same f g [] [] p = refl
+totals_same f g [] (y ∷ ys) p = absurd p
+totals_same f g (x ∷ xs) [] p = absurd p
+totals_same f g (x ∷ xs) (y ∷ ys) p = let h = totals_same f g xs ys p.1 in let e = p.0 in omega arith
 
 module _ {L : Type 0} where
   module _ (capacity count : ℕ) (inboxes : List (Receiver L)) (rows columns : List (Vec (Sender L))) (all : List (Ends L))
@@ -107,6 +114,17 @@ module _ {L : Type 0} where
               let same = Some_injective f.0.inbox r (sym (mapped (λ e. e.inbox) all (map (λ e. e.inbox) all) i f.0 refl f.1) ∙ at) in
               subst (λ x. MayFinish x column) same (may_finish i f.0 column f.1 there)
 
+      -- as much was left for this inbox as the ends sent into it
+      sent_alike : (i : ℕ) (column : Vec (SenderEnd L)) → slice_get columns i ≡ Some column → sent_total column.items ≡ total (λ d. length (sent_into i d)) all
+      sent_alike i column at = totals_same (λ e. length (sent_by e)) (λ d. length (sent_into i d)) column.items all
+          (pairs_from (λ e d. length (sent_by e) ≡ length (sent_into i d)) column.items all (sym (turned.long i column at ∙ pairs_length AllLeft all rows left)) each)
+        where
+          each : (k : ℕ) (e : SenderEnd L) (d : Ends L) → slice_get column.items k ≡ Some e → slice_get all k ≡ Some d → length (sent_by e) ≡ length (sent_into i d)
+          each k e d is there =
+              let t = end_at i k column e at is in
+              let same = Some_injective t.0 d (sym t.2 ∙ there) in
+              ap length (t.4.0 ∙ sym (ap put_by t.3) ∙ ap (sent_into i) same)
+
       pub all_closed : (inboxes : List (Receiver L)) (tallies : List Tally) → inboxes ≡ map (λ e. e.inbox) all → Threewise IsFinished inboxes columns tallies → AreClosed all tallies
       all_closed inboxes tallies is finished = record {
         count = threes_length IsFinished inboxes columns tallies finished ∙ ap length is ∙ length-map all (λ e. e.inbox);
@@ -119,6 +137,7 @@ module _ {L : Type 0} where
             whole = λ same k d s there here. (let e = left_at i k column d s at there here in f.all same k e.0 e.1 ∙ e.2.0);
             most = f.most;
             taken = f.taken;
+            sent = f.sent ∙ sent_alike i column at;
           }
 
           each : (i : ℕ) (e : Ends L) (t : Tally) → slice_get all i ≡ Some e → slice_get tallies i ≡ Some t → IsClosed all i e.inbox t

@@ -10,19 +10,20 @@ use task_events::Stop;
 pub enum RunStop {
     /// A worker could not be given a thread.
     NoThread,
-    /// A worker or the driver had to stop.
+    /// Memory ran out before all workers were started, or after all of them had drained.
+    NoMemory,
+    /// All workers were started, and one of them or the driver had to stop.
     Stopped(Stop),
 }
 
 impl From<AllocError> for RunStop {
     ghost use Rattle.std.specs.Prelude.{◌≡◌};
-    ghost use Rattle.task_events.specs.declared.stop.Stop.TheVariants.{Memory};
-    ghost use Rattle.run_threads.specs.declared.cause.RunStop.TheVariants.{Stopped};
+    ghost use Rattle.run_threads.specs.declared.cause.RunStop.TheVariants.{NoMemory};
 
-    ghost from_gives = { λ _ cause. cause ≡ Stopped Memory };
+    ghost from_gives = { λ _ cause. cause ≡ NoMemory };
 
     fn from(_: AllocError) -> RunStop {
-        RunStop::Stopped(Stop::Memory)
+        RunStop::NoMemory
     }
 }
 
@@ -30,7 +31,7 @@ impl RunStop {
     /// What the workers are told where a run stops for this cause.
     pub(crate) fn told(self) -> Stop {
         match self {
-            RunStop::NoThread => Stop::Memory,
+            RunStop::NoThread | RunStop::NoMemory => Stop::Memory,
             RunStop::Stopped(stop) => stop,
         }
     }

@@ -2,7 +2,8 @@
 ghost use Rattle.std.specs.Prelude.{◌≡◌, ◌++◌, ◌∷◌, [], ◌≤◌, List, None, Some, MatchOption, IfSome};
 ghost use Rattle.node_worker.specs.declared.worker.WorkerOut.TheVariants.{Drained as drained_with};
 ghost use Rattle.run_inboxes.specs.Pairs.{Pairwise};
-ghost use Rattle.run_threads.specs.Causes.{IsNoLater};
+ghost use Rattle.node_worker.specs.Job.{Gives};
+ghost use Rattle.run_threads.specs.Causes.{IsNoLater, cause_of, AllEnded};
 ghost use Rattle.run_threads.specs.Jobs.{jobs_of, Drained};
 
 use crate::cause::also;
@@ -14,7 +15,8 @@ use task_events::Stop;
 
 // Takes what a worker left, where it drained, and tells the cause for which it did not, or that memory ran out.
 fn keep<R: Drop>(rests: &mut Vec<R>, out: WorkerOut<R>) -> Option<Stop>
-    ensures { result ≡ None → (rest : R) × (out ≡ drained_with rest) × (rests.new.items ≡ rests.old.items ++ rest ∷ []) }
+    ensures none { result ≡ None → (rest : R) × (out ≡ drained_with rest) × (rests.new.items ≡ rests.old.items ++ rest ∷ []) }
+    ensures cause { IsNoLater (cause_of out) result }
 {
     match out {
         WorkerOut::Drained(rest) => match rests.push(rest) {
@@ -29,6 +31,7 @@ fn keep<R: Drop>(rests: &mut Vec<R>, out: WorkerOut<R>) -> Option<Stop>
 fn keep_also<R: Drop>(rests: &mut Vec<R>, out: WorkerOut<R>, met: Option<Stop>) -> Option<Stop>
     ensures none { result ≡ None → (met ≡ None) × ((rest : R) × (out ≡ drained_with rest) × (rests.new.items ≡ rests.old.items ++ rest ∷ [])) }
     ensures kept { IsNoLater met result }
+    ensures cause { IsNoLater (cause_of out) result }
 {
     match keep(rests, out) {
         Some(stop) => Some(also(met, stop)),
@@ -47,6 +50,7 @@ pub(crate) fn finish_all<'s, 'c, N: RunName + Send, T: Turns<N> + Send + Drop, R
     requires { rests.old.items ≡ [] }
     ensures none { result ≡ None → (met ≡ None) × Pairwise (Drained T.did T.at_rest T.fits) (jobs_of started.entry.items) rests.new.items }
     ensures kept { IsNoLater met result }
+    ensures ended { AllEnded (Gives {N = N} T.did T.at_rest T.fits) (jobs_of started.entry.items) result }
 {
     let mut met = met;
     for thread in started {

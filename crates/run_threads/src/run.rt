@@ -1,9 +1,11 @@
 // Workers in threads, with a driver.
-ghost use Rattle.std.specs.Prelude.{◌≡◌, [], IfOk, IfErr, IfNone, OnOk, MatchResult};
+ghost use Rattle.std.specs.Prelude.{◌≡◌, [], Some, IfOk, IfErr, IfNone, OnOk, MatchResult};
 ghost use denote.Param.Send.{IsSend};
 ghost use Rattle.run_inboxes.specs.Ends.{SameEnds};
 ghost use Rattle.run_inboxes.specs.Pairs.{Pairwise};
-ghost use Rattle.run_threads.specs.Causes.{IsCauseOf};
+ghost use Rattle.node_worker.specs.Job.{Gives};
+ghost use Rattle.run_facts.specs.declared.Of.{Of};
+ghost use Rattle.run_threads.specs.Causes.{AllEnded, IfStopped, IsCauseOf};
 ghost use Rattle.run_threads.specs.Jobs.{jobs_of, Drained};
 
 use crate::cause::RunStop;
@@ -101,7 +103,7 @@ fn driven<W: Run, V: Drive<Of<W>>, R: Wait>(
 }
 
 // Starts the workers, drives them, and waits until they have ended.
-#[tactic(auto, using(run_inboxes::proofs::Same::ends_on))]
+#[tactic(auto, using(run_inboxes::proofs::Same::ends_on, crate::proofs::Ended::all_ended))]
 fn run_in<
     's,
     'c: 's,
@@ -125,6 +127,8 @@ fn run_in<
     ensures datas { IfOk result (λ rest. Pairwise (Drained D.did D.at_rest D.fits) workers.datas.items rest.datas.items) }
     ensures driver { IfOk result (λ rest. SameEnds workers.driver rest.driver) }
     ensures done { OnOk result (V.done drive.old drive.new) }
+    ensures first_controls { IfErr result (IfStopped (λ stop. AllEnded (Gives {N = Of W} C.did C.at_rest C.fits) workers.controls.items (Some stop))) }
+    ensures first_datas { IfErr result (IfStopped (λ stop. AllEnded (Gives {N = Of W} D.did D.at_rest D.fits) workers.datas.items (Some stop))) }
     ensures cause { MatchResult result (λ _. P.faults spawner.new ≡ P.faults spawner.old) (IsCauseOf (P.faults spawner.old) (P.faults spawner.new)) }
 {
     let Workers {
@@ -157,7 +161,8 @@ fn run_in<
             None => Ok(rest),
             Some(stop) => Err(RunStop::Stopped(stop)),
         },
-        Err(cause) => Err(cause),
+        Err(RunStop::NoThread) => Err(RunStop::NoThread),
+        Err(_) => Err(RunStop::NoMemory),
     }
 }
 
@@ -191,6 +196,8 @@ fn run_lent<
     ensures datas { IfOk result.0 (λ rest. Pairwise (Drained D.did D.at_rest D.fits) workers.datas.items rest.datas.items) }
     ensures driver { IfOk result.0 (λ rest. SameEnds workers.driver rest.driver) }
     ensures done { OnOk result.0 (V.done drive.old result.2.now) }
+    ensures first_controls { IfErr result.0 (IfStopped (λ stop. AllEnded (Gives {N = Of W} C.did C.at_rest C.fits) workers.controls.items (Some stop))) }
+    ensures first_datas { IfErr result.0 (IfStopped (λ stop. AllEnded (Gives {N = Of W} D.did D.at_rest D.fits) workers.datas.items (Some stop))) }
     ensures cause { MatchResult result.0 (λ _. P.faults result.1.now ≡ P.faults spawner.old) (IsCauseOf (P.faults spawner.old) (P.faults result.1.now)) }
     ensures back { (result.1.ghost_name ≡ spawner.entry.ghost_name) × (result.2.ghost_name ≡ drive.entry.ghost_name) }
 {
@@ -200,7 +207,8 @@ fn run_lent<
 
 /// Runs these workers, each in a thread of its own, with a driver. Once the driver has every answer, they are told to leave, and what they
 /// left is handed back. Where a worker could not be started, or one of them or the driver had to stop, all that were started are told to
-/// stop and have ended when this comes back, and the first cause that was met is told, in the order NoThread, NumbersSpent, Memory.
+/// stop and have ended when this comes back. Where all were started, each has ended as its job owes, and of the causes for which some had to
+/// stop, the first is told, in the order NumbersSpent, Memory.
 pub fn run_workers<
     W: Run + Send,
     C: Turns<Of<W>> + Send + Drop,
@@ -219,6 +227,8 @@ pub fn run_workers<
     ensures datas { IfOk result (λ rest. Pairwise (Drained D.did D.at_rest D.fits) workers.datas.items rest.datas.items) }
     ensures driver { IfOk result (λ rest. SameEnds workers.driver rest.driver) }
     ensures done { OnOk result (V.done drive.old drive.new) }
+    ensures first_controls { IfErr result (IfStopped (λ stop. AllEnded (Gives {N = Of W} C.did C.at_rest C.fits) workers.controls.items (Some stop))) }
+    ensures first_datas { IfErr result (IfStopped (λ stop. AllEnded (Gives {N = Of W} D.did D.at_rest D.fits) workers.datas.items (Some stop))) }
     ensures cause { MatchResult result (λ _. P.faults spawner.new ≡ P.faults spawner.old) (IsCauseOf (P.faults spawner.old) (P.faults spawner.new)) }
 {
     let count = AtomicU32::new(0);
@@ -232,6 +242,8 @@ pub fn run_workers<
             ensures datas { IfOk result.0 (λ rest. Pairwise (Drained D.did D.at_rest D.fits) workers.datas.items rest.datas.items) }
             ensures driver { IfOk result.0 (λ rest. SameEnds workers.driver rest.driver) }
             ensures done { OnOk result.0 (V.done drive.entry.now result.2.now) }
+            ensures first_controls { IfErr result.0 (IfStopped (λ stop. AllEnded (Gives {N = Of W} C.did C.at_rest C.fits) workers.controls.items (Some stop))) }
+            ensures first_datas { IfErr result.0 (IfStopped (λ stop. AllEnded (Gives {N = Of W} D.did D.at_rest D.fits) workers.datas.items (Some stop))) }
             ensures cause { MatchResult result.0 (λ _. P.faults result.1.now ≡ P.faults spawner.entry.now) (IsCauseOf (P.faults spawner.entry.now) (P.faults result.1.now)) }
             ensures back { (result.1.ghost_name ≡ spawner.entry.ghost_name) × (result.2.ghost_name ≡ drive.entry.ghost_name) }
         { run_lent(rt, scope, alloc, workers, done, spawner, drive) },

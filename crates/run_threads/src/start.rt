@@ -10,7 +10,6 @@ use es_io::{Job, Spawner, Started};
 use std::sync::Wait;
 use std::sync::atomic::AtomicU32;
 use std::thread::{Scope, Threads};
-use task_events::Stop;
 
 /// A job that runs in a thread, and is counted when it is done.
 pub(crate) type Thread<'s, 'c, J> = Started<'s, Counted<'c, J>>;
@@ -30,7 +29,7 @@ pub(crate) fn start_all<'s, 'c: 's, E, J: Job + 's, P: Spawner, R: Wait + Sync>(
 {
     for job in jobs {
         if started.reserve(1).is_err() {
-            return Err(RunStop::Stopped(Stop::Memory));
+            return Err(RunStop::NoMemory);
         }
         match spawner.start(rt, scope, Counted { job, done }) {
             Ok(thread) => started.push_reserved(thread),

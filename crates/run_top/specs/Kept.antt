@@ -1,7 +1,12 @@
 -- What the status of a call of `run_top` says of the input, of what is kept, and of what was written.
-use Rattle.std.specs.Prelude.{◌≡◌, ◌+◌, ◌<◌, ◌⊎◌, ℕ, List, [], Option, Some, is_some, true, length, take, slice_get}
+use Rattle.std.specs.Prelude.{◌≡◌, ◌<◌, ◌⊎◌, ℕ, List, [], Option, Some, is_some, true, length, take}
+use Rattle.std.specs.declared.marker.Brand.{Brand}
 use Rattle.es_io.specs.Bytes.{Appends}
 use Rattle.task_ids.specs.declared.cluster.Cluster.{Cluster}
+use Rattle.task_ids.specs.declared.corpus.Corpus.{Corpus}
+use Rattle.node_link.specs.declared.ends.Tally.{Tally}
+use Rattle.run_facts.specs.declared.Of.{Of}
+use Rattle.run_facts.specs.Cancels.{cancels_of}
 use Rattle.script_lang.specs.declared.command.Command.{Command}
 use Rattle.script_lang.specs.declared.command.Mode.TheVariants.{Run}
 use Rattle.script_lang.specs.Targets.{is_at}
@@ -10,9 +15,11 @@ use Rattle.top_parts.specs.declared.status.Status.{Status}
 use Rattle.top_parts.specs.declared.status.Status.TheVariants.{Done, Usage, Refused, ReadFault, WriteFault, Memory, NoThread, HistoryFull, NumbersSpent}
 use Rattle.top_parts.specs.Reading.{Reads, Refuses}
 use Rattle.run_book.specs.Notes.{cancel_in}
+use Rattle.run_book.specs.Runs.{setting_of}
 use Rattle.run_driver.specs.Drives.{AreNotes}
 use Rattle.run_cluster.specs.declared.notes.NodeNote.{NodeNote}
-use Rattle.run_cluster.specs.Notes.{IsClear}
+use Rattle.run_cluster.specs.Notes.{AreClear}
+use Rattle.run_cluster.specs.Runs.{IsRunOf}
 use Rattle.run_top.specs.declared.kept.RunKept.{RunKept}
 use Rattle.run_top.specs.Lines.{printed}
 
@@ -31,15 +38,15 @@ pub record IsNothing (kept : RunKept) : Type 0 where
   pub no_script : kept.script.commands ≡ []
   pub unrun : IsUnrun kept
 
--- there is a note for each node, in their order, and nothing stands on any board
-pub record AreClear (nodes : ℕ) (notes : List NodeNote) : Type 0 where
-  pub count : length notes ≡ nodes
-  pub clear : (k : ℕ) (note : NodeNote) → slice_get notes k ≡ Some note → IsClear (k + 1) note
+-- the nodes of a run with these cancellations ran so, and of the driver's inbox something was told
+abbrev pub HaveRun : (W : Type 0) → (ℕ → Type 0) → Cluster → Corpus → List NodeNote → Type 0
+HaveRun W cancels cluster corpus nodes = (driver : Tally) × IsRunOf (Of W) (record { allowed = cancels_of cancels }) cluster corpus nodes driver
 
--- A whole run: each command has its note, which is what such a command may come to, and nothing is left on any node.
+-- A whole run: each command has its note, which is what such a command may come to; nothing is left on any node, and the workers of each did what such workers do.
 pub record IsWhole (cluster : Cluster) (kept : RunKept) : Type 0 where
-  pub lines : AreNotes (IsCancelOf kept.script.commands) (is_known kept.corpus kept.script.commands) kept.script.commands kept.lines
+  pub lines : AreNotes (IsCancelOf kept.script.commands) (setting_of cluster kept.corpus kept.script.commands) (is_known kept.corpus kept.script.commands) kept.script.commands kept.lines
   pub nodes : AreClear cluster.nodes kept.nodes
+  pub ran : HaveRun Brand (IsCancelOf kept.script.commands) cluster kept.corpus kept.nodes
 
 module _ (cluster : Cluster) where
   -- the input was read as what is kept

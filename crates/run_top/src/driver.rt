@@ -40,13 +40,13 @@ impl<'s, W: Run> Model for Task<'s, W> {
 
     ghost view = { λ task. task.script.now };
 
-    ghost invariant = { λ task. CanDrive W.cancels task.cluster.nodes task.script.now };
+    ghost invariant = { λ task. CanDrive W.cancels W.setting task.cluster.nodes task.script.now };
 }
 
 impl<'s, W: Run> Task<'s, W> {
     /// A script on its cluster.
     pub(crate) fn new(cluster: &Cluster, script: &'s [Command]) -> Task<'s, W>
-        requires { CanDrive W.cancels cluster.now.nodes script.now }
+        requires { CanDrive W.cancels W.setting cluster.now.nodes script.now }
         ensures { result ≡ script.now }
     {
         Task {
@@ -66,7 +66,7 @@ impl<'s, W: Run> Task<'s, W> {
         gate: &L,
     ) -> Result<Vec<LineNote>, Stop>
         ensures ends { SameEnds ends.old ends.new }
-        ensures notes { IfOk result (λ notes. AreNotes W.cancels (λ index. contains_by (λ k. bytes_eq index k.now) known.now) self.now notes.items) }
+        ensures notes { IfOk result (λ notes. AreNotes W.cancels W.setting (λ index. contains_by (λ k. bytes_eq index k.now) known.now) self.now notes.items) }
     {
         drive(rt, alloc, &self.cluster, known, self.script, ends, gate)
     }
@@ -88,7 +88,7 @@ impl<'k, 'd, 's, W: Run, L: LineGate + Drop> Drive<Of<W>> for ScriptDriver<'k, '
     ghost use Rattle.std.specs.Str.{bytes_eq};
     ghost use Rattle.run_driver.specs.Drives.{AreNotes};
 
-    ghost done = { λ old new. AreNotes W.cancels (λ index. contains_by (λ k. bytes_eq index k.now) old.known.now) old.task new.notes.items };
+    ghost done = { λ old new. AreNotes W.cancels W.setting (λ index. contains_by (λ k. bytes_eq index k.now) old.known.now) old.task new.notes.items };
 
     fn drive<R: Wait>(&mut self, rt: &R, ends: &mut Ends<Letter<Of<W>>>) -> Result<(), Stop> {
         self.notes = self

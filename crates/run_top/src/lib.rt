@@ -8,6 +8,6 @@ mod running;
 mod top;
 
 pub use kept::RunKept;
-pub use run_book::LineNote;
+pub use run_book::{LineNote, PageNote};
 pub use run_cluster::NodeNote;
 pub use top::run_top;

@@ -2,12 +2,15 @@
 ghost use Rattle.std.specs.Prelude.{◌≡◌, ◌≤◌, [], length, IfOk, MatchResult};
 ghost use Rattle.std.specs.HashSet.{contains_by};
 ghost use Rattle.std.specs.Str.{bytes_eq};
+ghost use Rattle.std.specs.declared.marker.Brand.{Brand};
 ghost use Rattle.script_lang.specs.Fits.{AllFit};
 ghost use Rattle.command_roots.specs.Known.{is_known};
 ghost use Rattle.run_driver.specs.Drives.{AreNotes};
 ghost use Rattle.run_book.specs.Entries.{CanDrive};
+ghost use Rattle.run_book.specs.Runs.{setting_of};
 ghost use Rattle.run_threads.specs.Causes.{IsCauseOf};
-ghost use Rattle.run_top.specs.Kept.{AreClear, IsCancelOf};
+ghost use Rattle.run_cluster.specs.Notes.{AreClear};
+ghost use Rattle.run_top.specs.Kept.{HaveRun, IsCancelOf};
 
 use crate::driver::{ScriptDriver, Task};
 use command_roots::dests_of;
@@ -46,9 +49,11 @@ fn run_named<W: Run + Send, P: Spawner, G: Gate, R: Threads + Wait + Sync>(
     spawner: &mut P,
     gate: &G,
 ) -> Result<Ran, RunStop>
-    requires can { CanDrive W.cancels cluster.now.nodes script.now }
-    ensures lines { IfOk result (λ ran. AreNotes W.cancels (λ index. contains_by (λ k. bytes_eq index k.now) known.now) script.now ran.lines.items) }
+    requires setting { (W.setting.corpus ≡ corpus.now) × (W.setting.shards ≡ cluster.now.shards) }
+    requires can { CanDrive W.cancels W.setting cluster.now.nodes script.now }
+    ensures lines { IfOk result (λ ran. AreNotes W.cancels W.setting (λ index. contains_by (λ k. bytes_eq index k.now) known.now) script.now ran.lines.items) }
     ensures nodes { IfOk result (λ ran. AreClear cluster.now.nodes ran.nodes.items) }
+    ensures ran { IfOk result (λ ran. HaveRun W W.cancels cluster.now corpus.now ran.nodes.items) }
     ensures cause { MatchResult result (λ _. P.faults spawner.new ≡ P.faults spawner.old) (IsCauseOf (P.faults spawner.old) (P.faults spawner.new)) }
 {
     let mut driver = ScriptDriver::<W, DriverGate<'_, G>> {
@@ -88,8 +93,9 @@ fn run_known<P: Spawner, G: Gate, R: Threads + Wait + Sync>(
 ) -> Result<Ran, RunStop>
     requires fits { AllFit cluster.now.nodes [] script.now }
     requires few { length script.now ≤ 65535 }
-    ensures lines { IfOk result (λ ran. AreNotes (IsCancelOf script.now) (λ index. contains_by (λ k. bytes_eq index k.now) known.now) script.now ran.lines.items) }
+    ensures lines { IfOk result (λ ran. AreNotes (IsCancelOf script.now) (setting_of cluster.now corpus.now script.now) (λ index. contains_by (λ k. bytes_eq index k.now) known.now) script.now ran.lines.items) }
     ensures nodes { IfOk result (λ ran. AreClear cluster.now.nodes ran.nodes.items) }
+    ensures ran { IfOk result (λ ran. HaveRun Brand (IsCancelOf script.now) cluster.now corpus.now ran.nodes.items) }
     ensures cause { MatchResult result (λ _. P.faults spawner.new ≡ P.faults spawner.old) (IsCauseOf (P.faults spawner.old) (P.faults spawner.new)) }
 {
     run_named::<Brand, P, G, R>(rt, alloc, cluster, corpus, known, script, spawner, gate)
@@ -107,8 +113,9 @@ pub(crate) fn run_script<P: Spawner, G: Gate, R: Threads + Wait + Sync>(
 ) -> Result<Ran, RunStop>
     requires fits { AllFit cluster.now.nodes [] script.now }
     requires few { length script.now ≤ 65535 }
-    ensures lines { IfOk result (λ ran. AreNotes (IsCancelOf script.now) (is_known corpus.now script.now) script.now ran.lines.items) }
+    ensures lines { IfOk result (λ ran. AreNotes (IsCancelOf script.now) (setting_of cluster.now corpus.now script.now) (is_known corpus.now script.now) script.now ran.lines.items) }
     ensures nodes { IfOk result (λ ran. AreClear cluster.now.nodes ran.nodes.items) }
+    ensures ran { IfOk result (λ ran. HaveRun Brand (IsCancelOf script.now) cluster.now corpus.now ran.nodes.items) }
     ensures cause { MatchResult result (λ _. P.faults spawner.new ≡ P.faults spawner.old) (IsCauseOf (P.faults spawner.old) (P.faults spawner.new)) }
 {
     let dests = dests_of(alloc, script)?;

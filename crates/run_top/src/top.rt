@@ -1,13 +1,16 @@
 // The top call.
 ghost use Rattle.std.specs.Prelude.{◌<◌, ◌≡◌, ◌≤◌, ◌↔◌, ℕ, List, [], length, IfSome, Some};
+ghost use Rattle.std.specs.declared.marker.Brand.{Brand};
 ghost use Rattle.es_io.specs.Bytes.{IfGave};
 ghost use Rattle.script_lang.specs.declared.command.Mode.TheVariants.{Run};
 ghost use Rattle.script_lang.specs.Fits.{AllFit};
 ghost use Rattle.command_roots.specs.Known.{is_known};
 ghost use Rattle.top_parts.specs.Reading.{max_input, Reads};
 ghost use Rattle.top_parts.specs.Status.{IsReadWhole, TellsFault};
+ghost use Rattle.run_book.specs.Runs.{setting_of};
 ghost use Rattle.run_driver.specs.Drives.{AreNotes};
-ghost use Rattle.run_top.specs.Kept.{AnswersInput, AreClear, IsAfterReading, IsCancelOf, RanAsRead, WritesLines};
+ghost use Rattle.run_cluster.specs.Notes.{AreClear};
+ghost use Rattle.run_top.specs.Kept.{AnswersInput, HaveRun, IsAfterReading, IsCancelOf, RanAsRead, WritesLines};
 
 use crate::kept::RunKept;
 use crate::lines::print_notes;
@@ -57,7 +60,10 @@ pub fn run_top<S: Source, K: Sink, P: Spawner, G: Gate, R: Threads + Wait + Sync
     ensures sink_told { TellsFault (K.faults out.old) (K.faults out.new) (result.0 ≡ Status.WriteFault) }
     // In a whole run each command has its note, and each is what such a command may come to: a reply is cancelled only by a cancel of the
     // script, a cancel that waits has the receipt of its last task, a tick tells the sum of the ticks, and a list each row once. Nothing
-    // stands on any node's board then. Of any other run nothing is kept.
+    // stands on any node's board then. The control worker and the data worker of each node made turns, each of which is what such a worker
+    // does; they are over all letters that its inbox took, in order, and what they gave for each inbox is what it sent there, in order. What
+    // an inbox took of each sender is a beginning of what that one sent there, in its order, and all of it where the numbers of its tally are
+    // equal. Of any other run nothing is kept.
     ensures run { RanAsRead cluster.now result.0 result.1 }
     // Where the sink tells its bytes: they grew by the lines of the commands, each by its note.
     ensures output { WritesLines cluster.now (K.written out.old) (K.written out.new) result.0 result.1 }
@@ -109,7 +115,9 @@ fn run_and_print<K: Sink, P: Spawner, G: Gate, R: Threads + Wait + Sync>(
             (Status::NumbersSpent, RunKept::unrun(alloc, corpus, script))
         }
         // No run over threads has a history that could be full, so memory ran out.
-        Err(RunStop::Stopped(_)) => (Status::Memory, RunKept::unrun(alloc, corpus, script)),
+        Err(RunStop::NoMemory | RunStop::Stopped(_)) => {
+            (Status::Memory, RunKept::unrun(alloc, corpus, script))
+        }
     }
 }
 
@@ -122,8 +130,9 @@ fn write_lines<K: Sink>(
     ran: Ran,
     out: &mut K,
 ) -> (Status, RunKept)
-    requires lines { AreNotes (IsCancelOf script.commands) (is_known corpus script.commands) script.commands ran.lines.items }
+    requires lines { AreNotes (IsCancelOf script.commands) (setting_of cluster.now corpus script.commands) (is_known corpus script.commands) script.commands ran.lines.items }
     requires nodes { AreClear cluster.now.nodes ran.nodes.items }
+    requires ran { HaveRun Brand (IsCancelOf script.commands) cluster.now corpus ran.nodes.items }
     ensures status { IsAfterReading result.0 }
     ensures input { (bytes : List ℕ) → Reads Run cluster.now bytes corpus script → AnswersInput cluster.now bytes result.0 result.1 }
     ensures thread { result.0 ≡ Status.NoThread → ⊥ }

@@ -4,6 +4,7 @@ pub mod Asks
 pub mod CountsFit
 pub mod CursorCuts
 pub mod Cut
+pub mod EachRequest
 pub mod FetchAnswers
 pub mod FetchTurns
 pub mod Filtered

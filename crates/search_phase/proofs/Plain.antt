@@ -26,7 +26,7 @@ use Rattle.search_phase.proofs.QueryTops.{top_at}
 use Rattle.search_phase.proofs.PlainCounts.{version_of, IsPlainTop, IsQueryAnswer, counts_are_plain, versions_are, honest_tops, winners_are_plain}
 use Rattle.search_phase.proofs.PlainHits.{IsFetchAnswer, IsFetchReply, hits_are_plain}
 
-is_given : (o : Option Reply) → is_some o ≡ true → (reply : Reply) × (o ≡ Some reply)
+pub is_given : (o : Option Reply) → is_some o ≡ true → (reply : Reply) × (o ≡ Some reply)
 is_given None e = absurd cc
 is_given (Some reply) e = (reply, refl)
 

@@ -1,6 +1,6 @@
 //! A search of all shards of an index, and a page of one.
 
-ghost use Rattle.std.specs.Prelude.{◌≡◌, ◌<◌, ◌≤◌, ◌↔◌, ℕ, List, Option, IfOk, OnOk, OnErr, Some, is_some, true, IsTrue, length, position, slice_get, slice_set, vec_capacity, option_copied};
+ghost use Rattle.std.specs.Prelude.{◌≡◌, ◌<◌, ◌≤◌, ◌↔◌, ℕ, List, Option, IfOk, OnOk, OnErr, IsSomeAnd, Some, is_some, true, IsTrue, length, position, slice_get, slice_set, vec_capacity, option_copied};
 ghost use Rattle.task_ids.specs.declared.doc.Doc.{Doc};
 ghost use Rattle.task_ids.specs.declared.task_id.TaskId.{TaskId};
 ghost use Rattle.task_ids.specs.Limits.{IsShardCount};
@@ -11,9 +11,9 @@ ghost use Rattle.task_events.specs.declared.step.Asked.{Asked};
 ghost use Rattle.task_events.specs.Kinds.{can_have};
 ghost use Rattle.task_events.specs.Readings.{search_reading, page_reading};
 ghost use Rattle.task_events.specs.Searches.{are_answered};
-ghost use Rattle.search_phase.specs.Searching.{reading_for, new_search, next_request, next_step, is_open, wants_to_ask, has_ended, does_wait, is_above, with_ask, takes, with_answer, AllHonest, plain_reply, answer_of, reply_with};
+ghost use Rattle.search_phase.specs.Searching.{IsSearching, reading_for, new_search, next_request, next_step, is_open, wants_to_ask, has_ended, does_wait, is_above, with_ask, awaited, takes, with_answer, AllHonest, plain_reply, answer_of, reply_with};
 ghost use Rattle.search_phase.specs.Plans.{plan_of};
-ghost use Rattle.search_phase.specs.Awaiting.{IsOfReading, awaited_answer};
+ghost use Rattle.search_phase.specs.Awaiting.{LooksAlike};
 
 use crate::answer::answer;
 use crate::asking::{can_answer, has_request, request_at};
@@ -99,7 +99,8 @@ impl SearchRoot {
         shards: u32,
         context: Option<&Context>,
     ) -> Result<SearchRoot, AllocError>
-        ensures { IfOk result (λ root. root ≡ new_search (reading_for task ask.now shards (option_copied context.entry))) }
+        ensures search { IfOk result (λ root. root ≡ new_search (reading_for task ask.now shards (option_copied context.entry))) }
+        ensures sound { IfOk result IsSearching }
     {
         let reading = Reading::new(alloc, task, ask, shards, context)?;
         let shards = reading.shards().len();
@@ -176,11 +177,10 @@ impl SearchRoot {
         }
     }
 
-    /// Whether a request is the one that the ask of this number awaits an answer to. It compares the shard, the version, the cursor
-    /// and the places; that the request is over the search's own index, body and slice is the caller's to know. It takes no memory.
+    /// Whether a request looks as the one that the ask of this number awaits an answer to. It compares the shard, the version, the
+    /// cursor and the places; that the request is over the search's own index, body and slice is the caller's to know. It takes no memory.
     pub fn asks_for(&self, ask: u32, request: &AnsweredRequest) -> bool
-        ensures { IsOfReading self.now.reading request.now
-            → (IsTrue result ↔ (awaited_answer self.now ask ≡ Some request.now)) }
+        ensures { IsTrue result ↔ IsSomeAnd (awaited self.now ask) (λ own. LooksAlike own request.now) }
     {
         match place_of(self.asked.as_slice(), ask) {
             Some(place) => is_request_at(&self.reading, &self.fetching, place, request),

@@ -1,11 +1,9 @@
 //! Whether a request, as its answer tells it, is the one that a search asks for at a place.
 
-ghost use Rattle.std.specs.Prelude.{◌≡◌, ◌↔◌, IsTrue, Some, option_map};
+ghost use Rattle.std.specs.Prelude.{◌↔◌, IsSomeAnd, IsTrue};
 ghost use Rattle.task_events.specs.declared.request.Request.TheVariants as asks;
-ghost use Rattle.task_events.specs.Answered.{as_answered};
-ghost use Rattle.task_events.specs.Readings as readings;
 ghost use Rattle.task_events.specs.Searches.{query_of};
-ghost use Rattle.search_phase.specs.Awaiting.{IsOfReading, IsQueryOf, IsSameFetch, AreOver};
+ghost use Rattle.search_phase.specs.Awaiting.{IsSameFetch, IsSameQuery, LooksAlike};
 ghost use Rattle.search_phase.specs.FetchPhase.{request_by};
 
 use crate::asking::fetch_at;
@@ -15,7 +13,7 @@ use task_events::{AnsweredRequest, FetchAsk, ShardAsk, ShardRead, is_same_cursor
 
 /// Whether a query is of this shard, at the version and after the cursor that are read.
 fn is_query_of(reading: &Reading, at: ShardRead, ask: &ShardAsk) -> bool
-    ensures { IsTrue result ↔ IsQueryOf reading.now at ask.now }
+    ensures { IsTrue result ↔ IsSameQuery ask.now (query_of reading.now at) }
 {
     ask.shard == shard_read(at)
         && ask.version == version_read(at)
@@ -33,8 +31,7 @@ fn is_same_fetch(one: &FetchAsk, other: &FetchAsk) -> bool
 
 /// Whether a request is the query of this shard.
 fn is_its_query(reading: &Reading, at: ShardRead, request: &AnsweredRequest) -> bool
-    ensures { IsOfReading reading.now request.now
-        → (IsTrue result ↔ (as_answered (asks.Query (query_of reading.now at)) ≡ request.now)) }
+    ensures { IsTrue result ↔ LooksAlike (asks.Query (query_of reading.now at)) request.now }
 {
     match request {
         AnsweredRequest::Query(ask) => is_query_of(reading, at, ask.get()),
@@ -44,8 +41,7 @@ fn is_its_query(reading: &Reading, at: ShardRead, request: &AnsweredRequest) -> 
 
 /// Whether a request is this fetch.
 fn is_its_fetch(fetch: &FetchAsk, request: &AnsweredRequest) -> bool
-    ensures { (r : readings.Reading) → fetch.now.index ≡ r.ask.index → IsOfReading r request.now
-        → (IsTrue result ↔ (as_answered (asks.Fetch fetch.now) ≡ request.now)) }
+    ensures { IsTrue result ↔ LooksAlike (asks.Fetch fetch.now) request.now }
 {
     match request {
         AnsweredRequest::Fetch(ask) => is_same_fetch(fetch, ask.get()),
@@ -60,8 +56,7 @@ pub(crate) fn is_request_at(
     place: usize,
     request: &AnsweredRequest,
 ) -> bool
-    ensures { IsOfReading reading.now request.now → AreOver reading.now.ask.index fetching.now
-        → (IsTrue result ↔ (option_map as_answered (request_by reading.now fetching.now place) ≡ Some request.now)) }
+    ensures { IsTrue result ↔ IsSomeAnd (request_by reading.now fetching.now place) (λ own. LooksAlike own request.now) }
 {
     let shards = reading.shards();
     if let Some(at) = shards.get(place) {

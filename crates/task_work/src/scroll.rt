@@ -2,7 +2,7 @@
 
 ghost use Rattle.std.specs.Prelude.{◌≡◌, IfOk};
 ghost use Rattle.task_events.specs.Readings.{page_reading};
-ghost use Rattle.search_phase.specs.Searching.{new_search};
+ghost use Rattle.search_phase.specs.Searching.{IsSearching, new_search};
 
 use search_phase::{Context, SearchRoot};
 use std::alloc::{AllocError, Global};
@@ -15,7 +15,8 @@ pub(crate) fn new_page(
     shards: u32,
     context: &Context,
 ) -> Result<SearchRoot, AllocError>
-    ensures { IfOk result (λ root. root ≡ new_search (page_reading context.now)) }
+    ensures search { IfOk result (λ root. root ≡ new_search (page_reading context.now)) }
+    ensures sound { IfOk result IsSearching }
 {
     SearchRoot::new(alloc, task, context.ask.get(), shards, Some(context))
 }

@@ -1,9 +1,10 @@
-ghost use Rattle.std.specs.Prelude.{◌≡◌, ℕ, ◌<◌, ◌^◌, ◌+◌, ◌++◌, List, length, IfOk, OnOk, OnErr, true, is_some, option_map, option_copied};
+ghost use Rattle.std.specs.Prelude.{◌≡◌, ℕ, ◌<◌, ◌^◌, ◌+◌, ◌++◌, ◌↔◌, List, length, IfOk, OnOk, OnErr, IsTrue, true, is_some, option_map, option_copied};
 ghost use Rattle.task_ids.specs.declared.doc.Doc.{Doc};
 ghost use Rattle.task_ids.specs.declared.task_id.TaskId.{TaskId};
 ghost use Rattle.task_events.specs.declared.request.Request.{Request};
 ghost use Rattle.task_events.specs.Kind.{Progress};
 ghost use Rattle.task_events.specs.Kinds.{kind_of};
+ghost use Rattle.task_work.specs.Awaiting.{IsAskedBy, IsSoundSearch};
 ghost use Rattle.task_work.specs.Plans.{IsWorkAt, no_progress, progress_with_ask, progress_with_answer, progress_with_turn, AsPlanned};
 ghost use Rattle.task_work.specs.Works.{is_page, IsNewWork, IsBegun, IsWorkOn, HasTurned, BrokeOff, next_of, with_turn, can_ask, work_with_ask, work_takes, work_with_answer, EndsPlainly, does_wait, due_in, place_of, docs_next, work_notes, counts_of};
 
@@ -17,7 +18,7 @@ use search_phase::{Context, SearchRoot, ShardFetch, ShardQuery};
 use shard_docs::Shard;
 use shared_value::Shared;
 use std::alloc::{AllocError, Global};
-use task_events::{Counts, Do, Hit, Reply, Request, ShardTop, Tally, WriteNote};
+use task_events::{AnsweredRequest, Counts, Do, Hit, Reply, Request, ShardTop, Tally, WriteNote};
 use task_ids::{Cluster, Items, TaskId, Text};
 
 /// The work of a task.
@@ -58,6 +59,7 @@ impl Work {
         ensures tied { IfOk result (λ work. IsBegun task request.now cluster.now.shards work) }
         ensures at { (writes : List Doc) → IfOk result (λ work.
             IsWorkAt task request.now cluster.now.shards (no_progress (option_copied context.entry)) writes work) }
+        ensures sound { IfOk result IsSoundSearch }
     {
         match request {
             Request::Search(ask) => {
@@ -188,6 +190,18 @@ impl Work {
             Work::Slice(slice) => slice.takes(ask, reply),
             Work::Bulk(bulk) => bulk.takes(ask, reply),
             Work::Query(_, _) | Work::Fetch(_, _) | Work::BulkShard(_) => false,
+        }
+    }
+
+    /// Whether a request looks as the one that the ask of this number awaits an answer to. A search and a page compare the shard,
+    /// the version, the cursor and the places of a query or a fetch; other work takes any. It takes no memory.
+    pub fn asks_for(&self, ask: u32, request: &AnsweredRequest) -> bool
+        ensures { IsTrue result ↔ IsAskedBy self.now ask request.now }
+    {
+        match self {
+            Work::Search(root) | Work::Scroll(root) => root.asks_for(ask, request),
+            Work::Query(_, _) | Work::Fetch(_, _) => true,
+            Work::Reindex(_) | Work::Slice(_) | Work::Bulk(_) | Work::BulkShard(_) => true,
         }
     }
 

@@ -57,12 +57,3 @@ all_left P (x ∷ xs) (suc i) a = (a.0, all_left P xs i a.1)
 pub all_push : {X : Type 0} (P : X → Type 0) (xs : List X) (x : X) → AllByRecursion P xs → P x → AllByRecursion P (xs ++ x ∷ [])
 all_push P [] x a p = (p, tt)
 all_push P (y ∷ xs) x a p = (a.0, all_push P xs x a.1 p)
-
-pub all_mapped : {X Y : Type 0} (P : Y → Type 0) (f : X → Y) (xs : List X) → AllByRecursion (λ x. P (f x)) xs → AllByRecursion P (map f xs)
-all_mapped P f [] a = tt
-all_mapped P f (x ∷ xs) a = (a.0, all_mapped P f xs a.1)
-
--- what is so at each place is so of all
-pub all_by_place : {X : Type 0} (P : X → Type 0) (xs : List X) → ((i : ℕ) (x : X) → slice_get xs i ≡ Some x → P x) → AllByRecursion P xs
-all_by_place P [] each = tt
-all_by_place P (x ∷ xs) each = (each zero x refl, all_by_place P xs (λ i y at. each (suc i) y at))

@@ -14,8 +14,7 @@ use Rattle.task_events.specs.Readings.{Reading, shard_read, version_read}
 use Rattle.task_events.specs.Searches.{query_of, top_of, tops_in, winners_among, has_winner, fetch_of, fetches_of, has_queried, requests_of, counted, counts_in}
 use Rattle.search_phase.proofs.Sorting.{by_test}
 use Rattle.world_moves.specs.Reads.{Oldest}
-use Rattle.task_ids.proofs.Each.{all_joined, all_here}
-use Rattle.world_moves.proofs.ByPlace.{all_mapped}
+use Rattle.task_ids.proofs.Each.{all_here, all_joined, all_mapped}
 
 -- a request of a shard reads no version of it below this
 abbrev pub RequestReadsFrom : Oldest → Request → Type 0

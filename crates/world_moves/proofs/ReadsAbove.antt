@@ -50,7 +50,7 @@ use Rattle.world_moves.specs.SearchRuns.{SearchesFor, RunsPage}
 use Rattle.world_moves.specs.Ties.{Ties, WorksFor, IsTied, progress_from, task_at, version_from}
 use Rattle.world_moves.proofs.AsksCounted.{awaited_at, requested_at}
 use Rattle.world_moves.proofs.AsksFor.{answer_told}
-use Rattle.world_moves.proofs.ByPlace.{all_by_place, all_mapped}
+use Rattle.task_ids.proofs.Each.{all_mapped, all_placed}
 use Rattle.world_moves.proofs.Children.{child_request}
 use Rattle.world_moves.proofs.KindLaws.{asks_something}
 use Rattle.world_moves.proofs.NoParts.{LooksAtShard, root_asks, asks_no_shard, slice_takes_none, cut_takes_none, bulk_takes_none}
@@ -72,13 +72,13 @@ reads_none oldest (asks.BulkShard ask) none = tt
 
 -- a search reads its shards as they are
 pub newest_from : (oldest : Oldest) (r : Reading) (shards : List ℕ) → AllByRecursion (IsReadFrom oldest r) (map Newest shards)
-newest_from oldest r shards = all_mapped (IsReadFrom oldest r) Newest shards (all_by_place (λ shard. IsReadFrom oldest r (Newest shard)) shards (λ i shard at v e. absurd (cc)))
+newest_from oldest r shards = all_mapped (IsReadFrom oldest r) Newest shards (all_placed (λ shard. IsReadFrom oldest r (Newest shard)) shards (λ i shard at v e. absurd (cc)))
 
 -- and a page as its context keeps them
 pub kept_from : (oldest : Oldest) (c : Context) → KeepsFrom oldest c → AllByRecursion (IsReadFrom oldest (page_reading c)) (map Kept c.shards)
 kept_from oldest c keeps =
     all_mapped (IsReadFrom oldest (page_reading c)) Kept c.shards
-    (all_by_place (λ n. IsReadFrom oldest (page_reading c) (Kept n)) c.shards (λ i n at v e. let same : n.version ≡ v = cc in subst (λ v. oldest c.ask.index n.shard ≤ v) same (keeps i n at)))
+    (all_placed (λ n. IsReadFrom oldest (page_reading c) (Kept n)) c.shards (λ i n at v e. let same : n.version ≡ v = cc in subst (λ v. oldest c.ask.index n.shard ≤ v) same (keeps i n at)))
 
 module _ (cluster : Cluster) (corpus : Corpus) (script : Script) (h : List Event) (tasks : TaskId → Option Running) (tables : List Table) (flight : List Sent) (ties : Ties cluster corpus script h tasks tables flight)
     (oldest : Oldest) (reads : ReadsFrom oldest cluster corpus script h) where

@@ -31,8 +31,7 @@ use Rattle.world_moves.specs.Good.{IsGoodReply, IsShardWithin, IsWithin, written
 use Rattle.world_moves.proofs.AsksCounted.{length-grown}
 use Rattle.world_moves.proofs.KindLaws.{AsksOwn, part_owns}
 use Rattle.world_moves.proofs.SearchParts.{plan_parts}
-use Rattle.task_ids.proofs.Each.{all_joined, all_here}
-use Rattle.world_moves.proofs.ByPlace.{all_mapped, all_by_place}
+use Rattle.task_ids.proofs.Each.{all_here, all_joined, all_mapped, all_placed}
 
 -- ---- what a search asks for
 
@@ -186,7 +185,7 @@ module _ (cluster : Cluster) (corpus : Corpus) (r : Reading) where
     all_within : AllByRecursion (IsWithin cluster corpus) (requests_of r asked)
     all_within =
         all_joined (IsWithin cluster corpus) _ _
-        (all_mapped (IsWithin cluster corpus) (λ at. asks.Query (query_of r at)) r.shards (all_by_place (λ at. IsShardWithin cluster corpus r.ask.index (shard_read at) (version_read at)) r.shards x.within))
+        (all_mapped (IsWithin cluster corpus) (λ at. asks.Query (query_of r at)) r.shards (all_placed (λ at. IsShardWithin cluster corpus r.ask.index (shard_read at) (version_read at)) r.shards x.within))
         (later_within (has_queried (length r.shards) asked))
 
 pub asks_within : (cluster : Cluster) (corpus : Corpus) (r : Reading) (asked : List Asked) (requests : List Request) (awaited : List (Option ℕ)) (request : Request) (s : Searching)

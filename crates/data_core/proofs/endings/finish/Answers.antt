@@ -9,11 +9,15 @@ use Rattle.live_tasks.specs.Answering.{IsAnsweredFully}
 use Rattle.live_tasks.specs.Live.{entry_at, ChangesAt}
 use Rattle.data_parts.specs.Endings.{reply_of}
 use Rattle.data_parts.specs.Slices.{Settles}
+use Rattle.entry_facts.proofs.Cores.{task_at, task_changed}
+use Rattle.entry_facts.proofs.Letters.{ending_tells}
+use Rattle.entry_facts.proofs.Live.{each_at}
+use Rattle.data_core.specs.Cores.{IsGoodEntry}
 use Rattle.data_core.specs.Steps.{shown_by}
 use Rattle.data_core.proofs.Cases.{id_there, told_of_run}
-use Rattle.data_core.proofs.Ending.{ending_lawful, end_lawful}
-use Rattle.data_core.proofs.Good.{good_at}
+use Rattle.data_core.proofs.Ending.{ending_lawful, end_lawful, left_tells}
 use Rattle.data_core.proofs.Kept.{gone_sound}
+use Rattle.data_core.proofs.Planning.{moment}
 use Rattle.data_core.proofs.Sound.{contexts_sound}
 use Rattle.data_core.proofs.Stepping.{found_is, its_id}
 use Rattle.data_core.proofs.Turned.{ends_so}
@@ -43,6 +47,29 @@ returns-clause-sound g c =
     contexts_sound _ _ _ _ _ _ c.settle.new.contexts
     (gone_sound _ _ _ _ _ _ _ _ _ c.args.core.now c.end-ended.new.self c.args.task.number c.requires.sound c.end-ended.ensures.together c.end-ended.ensures.core c.end-ended.ensures.gone)
 
+pub returns-in_err-reply-clause-of_run : goal.returns-in_err-reply-clause-of_run
+returns-in_err-reply-clause-of_run g c = task_changed g.W.Run.setting _ c.args.core.now.shards c.args.core.now.live c.requires.of_run c.end-ended.new.self c.args.task.number None c.end-ended.ensures.gone tt
+
+pub returns-in_err-settle-clause-of_run : goal.returns-in_err-settle-clause-of_run
+returns-in_err-settle-clause-of_run g c = task_changed g.W.Run.setting _ c.args.core.now.shards c.args.core.now.live c.requires.of_run c.end-ended.new.self c.args.task.number None c.end-ended.ensures.gone tt
+
+pub returns-in_err-letters_of-clause-of_run : goal.returns-in_err-letters_of-clause-of_run
+returns-in_err-letters_of-clause-of_run g c = task_changed g.W.Run.setting _ c.args.core.now.shards c.args.core.now.live c.requires.of_run c.end-ended.new.self c.args.task.number None c.end-ended.ensures.gone tt
+
+pub returns-clause-of_run : goal.returns-clause-of_run
+returns-clause-of_run g c = task_changed g.W.Run.setting _ c.args.core.now.shards c.args.core.now.live c.requires.of_run c.end-ended.new.self c.args.task.number None c.end-ended.ensures.gone tt
+
+pub letters_of-requires-clause-tells : goal.letters_of-requires-clause-tells
+letters_of-requires-clause-tells g c =
+    let run = g.W.Run.setting in
+    let old = c.args.core.now in
+    let h = c.requires.of_run in
+    let there = id_there c.args.task (entry_at old.live c.args.task.number) c.requires.live in
+    let e = there.0 in
+    let ended = c.end-ended.result in
+    let tells = ending_tells run old.shards e (task_at run old.cluster.shards old.shards old.live h c.args.task.number e there.1) (moment old.shards old.clock e) c.args.ending ended.0.mark h.steady (c.requires.planned e there.1) in
+    left_tells run e ended.1 c.args.task c.args.ending ended.0.mark c.in_ok-reply.reply (c.end-ended.ensures.left e there.1) there.2 c.in_ok-reply.ensures.reply tells
+
 pub letters_of-requires-clause-task : goal.letters_of-requires-clause-task
 letters_of-requires-clause-task g c =
     let there = id_there c.args.task (entry_at c.args.core.now.live c.args.task.number) c.requires.live in
@@ -54,7 +81,7 @@ letters_of-requires-clause-lawful g c =
     let allowed = cancels_of g.W.Run.cancels in
     let there = id_there c.args.task (entry_at old.live c.args.task.number) c.requires.live in
     let e = there.0 in
-    let good = good_at allowed old.shards old.live c.args.task.number e c.requires.sound.good there.1 in
+    let good = each_at (IsGoodEntry allowed old.shards) old.live c.requires.sound.good c.args.task.number e there.1 in
     let ended = c.end-ended.result in
     let lawful = ending_lawful allowed c.args.task c.args.ending ended.0.mark ended.1.work c.requires.ending (told_of_run g.W.Run.cancels ended.0.mark c.end-ended.ensures.allowed) in
     end_lawful allowed old.shards e ended.1 c.in_ok-reply.reply good (c.end-ended.ensures.left e there.1) (subst (IsLawfulReply allowed) {x = reply_of c.args.task c.args.ending ended.0.mark ended.1.work} (sym c.in_ok-reply.ensures.reply) lawful)

@@ -22,6 +22,7 @@ loop-task-preserved g c =
     let items = c.push_reserved.ensures.items ∙ ap (λ l. l ++ row ∷ []) c.reserve.ensures.items in
     record {
       sound = c.look_at.ensures.sound;
+      of_run = c.look_at.ensures.of_run;
       own = then_self c.args.core.now at.core core at.invariant.own c.look_at.ensures.own;
       rest = then_tasks c.args.core.now at.core core at.invariant.rest c.look_at.ensures.rest;
       lawful = subst (All (IsLawfulRow (cancels_of g.W.Run.cancels))) (sym items) (All-push (IsLawfulRow (cancels_of g.W.Run.cancels)) at.rows.items row at.invariant.lawful c.in_ok-row.ensures.row);

@@ -2,6 +2,8 @@
 use Rattle.std.specs.Prelude.{IsSome}
 use Rattle.std.proofs.Common.{refl, sym, subst}
 use Rattle.live_tasks.specs.Entries.{after_look}
+use Rattle.entry_facts.proofs.Cores.{task_goes_on}
+use Rattle.entry_facts.proofs.Entries.{looked_of_run}
 use Rattle.data_core.proofs.Cases.{some_there, told_of_run}
 use Rattle.data_core.proofs.Good.{looked_good}
 use Rattle.data_core.proofs.Kept.{change_sound}
@@ -25,6 +27,24 @@ returns-in-Err-clause-sound g c =
     let mark = c.look-mark.result in
     change_sound _ _ _ _ _ _ _ _ _ old c.look-mark.new.self c.args.number e (after_look e mark) c.requires.sound c.look-mark.ensures.together c.look-mark.ensures.core there.1 (c.look-mark.ensures.looked e there.1)
     (looked_good _ old.shards e mark (told_of_run g.W.Run.cancels mark c.look-mark.ensures.allowed))
+
+pub returns-in-Ok-clause-of_run : goal.returns-in-Ok-clause-of_run
+returns-in-Ok-clause-of_run g c =
+    let old = c.args.core.now in
+    let run = g.W.Run.setting in
+    let there = some_there _ c.requires.live in
+    let e = there.0 in
+    let mark = c.look-mark.result in
+    task_goes_on run _ old.shards old.live c.requires.of_run c.look-mark.new.self c.args.number e (after_look e mark) there.1 (c.look-mark.ensures.looked e there.1) (looked_of_run run old.shards e mark)
+
+pub returns-in-Err-clause-of_run : goal.returns-in-Err-clause-of_run
+returns-in-Err-clause-of_run g c =
+    let old = c.args.core.now in
+    let run = g.W.Run.setting in
+    let there = some_there _ c.requires.live in
+    let e = there.0 in
+    let mark = c.look-mark.result in
+    task_goes_on run _ old.shards old.live c.requires.of_run c.look-mark.new.self c.args.number e (after_look e mark) there.1 (c.look-mark.ensures.looked e there.1) (looked_of_run run old.shards e mark)
 
 pub returns-in-Ok-clause-looked : goal.returns-in-Ok-clause-looked
 returns-in-Ok-clause-looked g c = λ e at.

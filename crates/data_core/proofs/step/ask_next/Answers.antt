@@ -4,13 +4,15 @@ use Rattle.std.proofs.lemmas.Result.{IfOk-weaker}
 use Rattle.task_ids.specs.Limits.{IsNode}
 use Rattle.live_tasks.specs.Entries.{closed}
 use Rattle.live_tasks.specs.Live.{entry_at}
+use Rattle.entry_facts.proofs.Cores.{task_goes_on}
+use Rattle.entry_facts.proofs.Entries.{closed_of_run}
 use Rattle.data_core.specs.Plans.{IsOpen, MayAsk}
 use Rattle.data_core.proofs.Asking.{node_there}
 use Rattle.data_core.proofs.Cases.{id_there, of_run}
 use Rattle.data_core.proofs.Good.{closed_good}
 use Rattle.data_core.proofs.Kept.{change_sound}
 use Rattle.data_core.proofs.Sound.{then_self}
-use Rattle.data_core.proofs.Stepping.{its_id, still_live, stays_so, tasks_self, marked_so, asks_so}
+use Rattle.data_core.proofs.Stepping.{its_id, still_live, stays_so, stays_back, tasks_self, marked_so, asks_so}
 use Rattle.data_core.proofs.step.ask_next.Goals as goal
 
 pub track-requires-clause-node : goal.track-requires-clause-node
@@ -28,8 +30,10 @@ finish-requires g c =
     let change = c.in-Cancelled.ensures.tracked e there.1 in
     record {
       sound = change_sound _ _ _ _ _ _ _ _ _ old live t.number e (closed e cancel) c.requires.sound c.track.ensures.together c.track.ensures.core there.1 change (closed_good _ old.shards e cancel of);
+      of_run = task_goes_on g.W.Run.setting _ old.shards old.live c.requires.of_run live t.number e (closed e cancel) there.1 change (closed_of_run g.W.Run.setting old.shards e cancel);
       live = still_live old.live live t (closed e cancel) change there.2;
       ending = of;
+      planned = λ f at. tt;
     }
 
 pub returns-in-Cancelled : goal.returns-in-Cancelled
@@ -40,6 +44,7 @@ returns-in-Cancelled g c =
     let cancel = c.in-Cancelled.cancel in
     record {
       sound = c.finish.ensures.sound;
+      of_run = c.finish.ensures.of_run;
       own = then_self old _ c.finish.new.core (tasks_self old live c.track.ensures.core) c.finish.ensures.own;
       memory = c.finish.ensures.memory;
       steps = λ e at.
@@ -59,9 +64,11 @@ ask_child-requires g c =
     let change = c.in-Cleared.ensures.tracked e there.1 in
     record {
       sound = change_sound _ _ _ _ _ _ _ _ _ old live t.number e e c.requires.sound c.track.ensures.together c.track.ensures.core there.1 change (λ good. good);
+      of_run = task_goes_on g.W.Run.setting _ old.shards old.live c.requires.of_run live t.number e e there.1 change (λ h. h);
       live = still_live old.live live t e change there.2;
       unmarked = stays_so IsOpen old.live live t.number e there.1 change c.requires.unmarked;
       asks = stays_so MayAsk old.live live t.number e there.1 change c.requires.asks;
+      planned = λ f at. c.requires.planned f (stays_back old.live live t.number e f there.1 change at);
       node = subst IsNode (sym c.node_for-to.ensures) (node_there old.cluster t c.args.request);
     }
 
@@ -72,6 +79,7 @@ returns-in-Cleared g c =
     let live = c.track.new.self in
     record {
       sound = c.ask_child.ensures.sound;
+      of_run = c.ask_child.ensures.of_run;
       own = then_self old _ c.ask_child.new.core (tasks_self old live c.track.ensures.core) c.ask_child.ensures.own;
       memory = c.ask_child.ensures.memory;
       steps = λ e at.

@@ -3,6 +3,8 @@ use Rattle.std.proofs.Common.{None, Some, refl}
 use Rattle.std.proofs.lemmas.Result.{IfOk-weaker}
 use Rattle.live_tasks.specs.Entries.{after_look}
 use Rattle.live_tasks.specs.Live.{entry_at}
+use Rattle.entry_facts.proofs.Cores.{task_goes_on}
+use Rattle.entry_facts.proofs.Entries.{looked_of_run}
 use Rattle.data_core.specs.Steps.{Waits}
 use Rattle.data_core.proofs.Cases.{id_there, of_run}
 use Rattle.data_core.proofs.Good.{looked_good}
@@ -23,8 +25,10 @@ finish-requires g c =
     let change = c.in-Some.ensures.looked e there.1 in
     record {
       sound = change_sound _ _ _ _ _ _ _ _ _ old live t.number e (after_look e (Some cancel)) c.requires.sound c.look.ensures.together c.look.ensures.core there.1 change (looked_good _ old.shards e (Some cancel) of);
+      of_run = task_goes_on g.W.Run.setting _ old.shards old.live c.requires.of_run live t.number e (after_look e (Some cancel)) there.1 change (looked_of_run g.W.Run.setting old.shards e (Some cancel));
       live = still_live old.live live t (after_look e (Some cancel)) change there.2;
       ending = of;
+      planned = λ f at. tt;
     }
 
 pub returns-in-Some : goal.returns-in-Some
@@ -35,6 +39,7 @@ returns-in-Some g c =
     let cancel = c.in-Some.cancel in
     record {
       sound = c.finish.ensures.sound;
+      of_run = c.finish.ensures.of_run;
       own = then_self old _ c.finish.new.core (tasks_self old live c.look.ensures.core) c.finish.ensures.own;
       memory = c.finish.ensures.memory;
       steps = λ e at.
@@ -53,6 +58,7 @@ returns-in-None g c =
     let e = there.0 in
     record {
       sound = change_sound _ _ _ _ _ _ _ _ _ old live t.number e e c.requires.sound c.look.ensures.together c.look.ensures.core there.1 (c.in-None.ensures.looked e there.1) (λ good. good);
+      of_run = task_goes_on g.W.Run.setting _ old.shards old.live c.requires.of_run live t.number e e there.1 (c.in-None.ensures.looked e there.1) (λ h. h);
       own = tasks_self old live c.look.ensures.core;
       memory = tt;
       steps = λ f at. looks_so g.B.DataBoard.rests f c.args.board.now c.look.new.board old live t (its_id t _ f c.requires.live at) None _ c.look.new.board (Waits g.B.DataBoard.rests) None (c.in-None.ensures.rests f at) (c.in-None.ensures.looked f at)

@@ -6,8 +6,9 @@ use Rattle.node_link.specs.Lawful.{IsCancelOfRun}
 use Rattle.run_facts.specs.Cancels.{cancels_of}
 use Rattle.live_tasks.specs.declared.entry.Entry.{Entry}
 use Rattle.live_tasks.specs.Ties.{IsNew, IsPassed}
+use Rattle.entry_facts.proofs.Live.{each_at}
+use Rattle.data_core.specs.Cores.{IsGoodEntry}
 use Rattle.data_core.specs.Plans.{IsOpen}
-use Rattle.data_core.proofs.Good.{good_at}
 use Rattle.data_core.proofs.Stepping.{found_is, new_step, marked_step, planned_step}
 use Rattle.data_core.proofs.step.data_step.Goals as goal
 
@@ -24,8 +25,11 @@ pub finish-requires-clause-ending : goal.finish-requires-clause-ending
 finish-requires-clause-ending g c =
     let old = c.args.core.now in
     let allowed = cancels_of g.W.Run.cancels in
-    let good = good_at allowed old.shards old.live c.args.task.number c.in-Some.entry.now c.requires.sound.good (sym c.in-Some.ensures) in
+    let good = each_at (IsGoodEntry allowed old.shards) old.live c.requires.sound.good c.args.task.number c.in-Some.entry.now (sym c.in-Some.ensures) in
     subst (λ o. IfSome o (IsCancelOfRun allowed)) (sym c.in-Some-closed.ensures.number) good.mark
+
+pub finish-requires-clause-planned : goal.finish-requires-clause-planned
+finish-requires-clause-planned g c = λ e at. tt
 
 pub returns-then-is_new-clause-steps : goal.returns-then-is_new-clause-steps
 returns-then-is_new-clause-steps g c = λ e at.

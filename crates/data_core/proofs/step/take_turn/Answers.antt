@@ -3,6 +3,8 @@ use Rattle.std.proofs.Common.{None, Some}
 use Rattle.std.proofs.lemmas.Result.{IfOk-weaker}
 use Rattle.live_tasks.specs.Entries.{after_look}
 use Rattle.live_tasks.specs.Live.{entry_at}
+use Rattle.entry_facts.proofs.Cores.{task_goes_on}
+use Rattle.entry_facts.proofs.Entries.{looked_of_run}
 use Rattle.data_core.specs.Plans.{TurnsNext}
 use Rattle.data_core.specs.Steps.{Works}
 use Rattle.data_core.proofs.Cases.{id_there, of_run}
@@ -24,8 +26,10 @@ finish-requires g c =
     let change = c.in-Some.ensures.looked e there.1 in
     record {
       sound = change_sound _ _ _ _ _ _ _ _ _ old live t.number e (after_look e (Some cancel)) c.requires.sound c.look.ensures.together c.look.ensures.core there.1 change (looked_good _ old.shards e (Some cancel) of);
+      of_run = task_goes_on g.W.Run.setting _ old.shards old.live c.requires.of_run live t.number e (after_look e (Some cancel)) there.1 change (looked_of_run g.W.Run.setting old.shards e (Some cancel));
       live = still_live old.live live t (after_look e (Some cancel)) change there.2;
       ending = of;
+      planned = λ f at. tt;
     }
 
 pub work_on-requires : goal.work_on-requires
@@ -38,6 +42,7 @@ work_on-requires g c =
     let change = c.in-None.ensures.looked e there.1 in
     record {
       sound = change_sound _ _ _ _ _ _ _ _ _ old live t.number e e c.requires.sound c.look.ensures.together c.look.ensures.core there.1 change (λ good. good);
+      of_run = task_goes_on g.W.Run.setting _ old.shards old.live c.requires.of_run live t.number e e there.1 change (λ h. h);
       live = still_live old.live live t e change there.2;
       turns = stays_so (TurnsNext old.shards) old.live live t.number e there.1 change c.requires.turns;
     }
@@ -50,6 +55,7 @@ returns-in-Some g c =
     let cancel = c.in-Some.cancel in
     record {
       sound = c.finish.ensures.sound;
+      of_run = c.finish.ensures.of_run;
       own = then_self old _ c.finish.new.core (tasks_self old live c.look.ensures.core) c.finish.ensures.own;
       memory = c.finish.ensures.memory;
       steps = λ e at.
@@ -66,6 +72,7 @@ returns-in-None g c =
     let live = c.look.new.self in
     record {
       sound = c.work_on.ensures.sound;
+      of_run = c.work_on.ensures.of_run;
       own = then_self old _ c.work_on.new.core (tasks_self old live c.look.ensures.core) c.work_on.ensures.own;
       memory = c.work_on.ensures.memory;
       steps = λ e at.

@@ -7,4 +7,5 @@ returns-in-Ok c = record {
   begun = c.in-Ok.ensures.tied;
   on = c.in-Ok.ensures.begun;
   at = c.in-Ok.ensures.at;
+  sound = c.in-Ok.ensures.sound;
 }

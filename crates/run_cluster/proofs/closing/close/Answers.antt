@@ -1,7 +1,5 @@
 use Rattle.std.proofs.Common.{◌≡◌, ℕ, ◌+◌, ◌*◌, List, length, sym, ap, ◌∙◌, arith}
-use Rattle.std.proofs.lemmas.Option.{slice_get_within}
 use Rattle.run_inboxes.proofs.Pairs.{pairs_length, pairs_get}
-use Rattle.run_inboxes.proofs.Rows.{stands}
 use Rattle.run_cluster.specs.Boards.{AreSeatsOf}
 use Rattle.run_cluster.specs.Closing.{IsClosedBoard}
 use Rattle.run_cluster.proofs.closing.close.Goals as goal
@@ -26,11 +24,8 @@ returns g c =
     let told = c.in_ok-inboxes.ensures in
     let notes = c.in_ok-notes.ensures in
     let same = c.as_slice.ensures.value in
-    let tally = λ (k : ℕ) (t : _) (at : Rattle.std.specs.Prelude.slice_get c.in_ok-inboxes.inboxes.items k ≡ Rattle.std.specs.Prelude.Some t).
-    let low = slice_get_within c.in_ok-inboxes.inboxes.items k t at in
-    let count = told.count in
-    let e = stands c.args.left.ends.items k (omega arith) in
-    (told.each k e.0 t e.1 at).most in
+    let tally = λ (k : ℕ) (t : _) (at : Rattle.std.specs.Prelude.slice_get c.in_ok-inboxes.inboxes.items k ≡ Rattle.std.specs.Prelude.Some t) (e : _) (there : Rattle.std.specs.Prelude.slice_get c.args.left.ends.items k ≡ Rattle.std.specs.Prelude.Some e).
+    told.each k e t there at in
     let here = λ (k : ℕ). ap (λ (l : List _). Rattle.std.specs.Prelude.slice_get l k) (sym same) in
     record {
       count = notes.count ∙ pairs_length IsClosedBoard _ _ c.in_ok-boards.ensures;
@@ -40,5 +35,5 @@ returns g c =
         control = tally (2 * k) note.control (here (2 * k) ∙ n.control);
         own = tally (2 * k + 1) note.«data» (here (2 * k + 1) ∙ n.own);
       });
-      driver = tally (2 * length c.in_ok-boards.boards.items) c.in_ok-notes.notes.driver (here _ ∙ notes.driver);
+      driver = tally (2 * length c.args.left.seats.items) c.in_ok-notes.notes.driver (here _ ∙ ap (λ (n : ℕ). Rattle.std.specs.Prelude.slice_get c.as_slice.result.now (2 * n)) (sym (pairs_length IsClosedBoard _ _ c.in_ok-boards.ensures)) ∙ notes.driver);
     }

@@ -5,5 +5,5 @@ use Rattle.run_driver.proofs.commands.answers.Given as goal
 
 abbrev pub invariant-loop-before : goal.invariant-loop-before
 invariant-loop-before g l =
-    Keeps g.W.Run.cancels l.book × SameRun l.initial.book l.book × SameEnds l.initial.ends l.ends
-    × AreFirst g.W.Run.cancels (is_known_to l.initial.book) l.initial.book.script.now l.before l.notes.items
+    Keeps g.W.Run.cancels g.W.Run.setting l.book × SameRun l.initial.book l.book × SameEnds l.initial.ends l.ends
+    × AreFirst g.W.Run.cancels g.W.Run.setting (is_known_to l.initial.book) l.initial.book.script.now l.before l.notes.items

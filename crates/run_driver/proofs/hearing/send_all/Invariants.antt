@@ -5,4 +5,4 @@ use Rattle.run_driver.proofs.hearing.send_all.Given as goal
 
 abbrev pub invariant-loop-post : goal.invariant-loop-post
 invariant-loop-post g l =
-    Keeps g.W.Run.cancels l.book × SameRun l.initial.book l.book × (length l.book.entries.items ≡ length l.initial.book.entries.items) × SameEnds l.initial.ends l.ends
+    Keeps g.W.Run.cancels g.W.Run.setting l.book × SameRun l.initial.book l.book × (length l.book.entries.items ≡ length l.initial.book.entries.items) × SameEnds l.initial.ends l.ends

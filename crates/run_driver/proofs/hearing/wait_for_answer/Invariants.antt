@@ -6,4 +6,4 @@ use Rattle.run_driver.proofs.hearing.wait_for_answer.Given as goal
 abbrev pub invariant-loop : goal.invariant-loop
 invariant-loop g l =
     (goal.iterator-loop g).can_next l.iterator' × (goal.iterator-loop g).is_finite l.iterator'
-    × Keeps g.W.Run.cancels l.book × SameRun l.initial.book l.book × (length l.book.entries.items ≡ length l.initial.book.entries.items) × SameEnds l.initial.ends l.ends
+    × Keeps g.W.Run.cancels g.W.Run.setting l.book × SameRun l.initial.book l.book × (length l.book.entries.items ≡ length l.initial.book.entries.items) × SameEnds l.initial.ends l.ends

@@ -7,6 +7,9 @@ use Rattle.node_worker.proofs.WorkerSends.{worker_send, out_send}
 use Rattle.run_inboxes.specs.Pairs.{Pairwise}
 use Rattle.run_threads.specs.Jobs.{jobs_of, Drained}
 use Rattle.run_threads.proofs.Causes.{later_on}
+use Rattle.node_worker.specs.Job.{Gives}
+use Rattle.run_threads.specs.Causes.{AllEnded}
+use Rattle.run_threads.proofs.Ended.{ended_more}
 use Rattle.run_threads.proofs.Threads.{jobs_push, drained_more}
 use Rattle.run_threads.proofs.finish.finish_all.Goals as goal
 
@@ -36,4 +39,6 @@ loop-thread-preserved g c =
             subst (λ (l : List _). Pairwise (Drained did at_rest fits) l c.keep_also-met.new.rests.items) (sym (jobs_push before t))
                 (drained_more did at_rest fits (jobs_of before) c.loop-thread.rests.items c.keep_also-met.new.rests.items (job_of t).job c.finish.result k.1.0 all.1 c.finish.ensures k.1.1 k.1.2),
           ),
+      subst (λ (l : List _). AllEnded (Gives {N = g.row.N.Denot} did at_rest fits) l c.keep_also-met.result) (sym (jobs_push before t))
+          (ended_more (Gives {N = g.row.N.Denot} did at_rest fits) (jobs_of before) (job_of t).job c.finish.result c.loop-thread.met c.keep_also-met.result i.5 kept.kept c.finish.ensures kept.cause),
     )

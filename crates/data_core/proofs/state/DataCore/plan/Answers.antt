@@ -4,7 +4,7 @@ use Rattle.std.specs.Prelude.{IfOk}
 use Rattle.task_work.specs.Works.{place_of}
 use Rattle.live_tasks.specs.declared.entry.Entry.{Entry}
 use Rattle.data_parts.specs.Steps.{HasCome}
-use Rattle.data_core.specs.Cores.{writes_for}
+use Rattle.entry_facts.specs.Entries.{writes_for}
 use Rattle.data_core.specs.Plans.{plan_for}
 use Rattle.data_core.proofs.Stepping.{found_is}
 use Rattle.data_core.proofs.state.DataCore.plan.Goals as goal

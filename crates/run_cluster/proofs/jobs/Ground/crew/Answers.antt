@@ -79,8 +79,8 @@ loop-place-preserved g c =
       ap (λ (m : ℕ). m + 1) same ∙ sym (length-append before (x ∷ [])),
       subst (λ (l : List _). Pairwise ControlBegins (before ++ x ∷ []) l) (sym one.1) (pairs_push ControlBegins before old.controls.items x one.0 i.4 one.3),
       subst (λ (l : List _). Pairwise DataBegins (before ++ x ∷ []) l) (sym own.1) (pairs_push DataBegins before old.datas.items x own.0 i.5 own.3),
-      subst (λ (l : List _). AreOn IsControlOn boards l) (sym one.1) (one_on IsControlOn boards old.controls.items one.0 b first one.2 i.6),
-      subst (λ (l : List _). AreOn IsDataOn boards l) (sym own.1) (one_on IsDataOn boards old.datas.items own.0 b second own.2 i.7),
+      subst (λ (l : List _). AreOn (IsControlOn c.args.self.now.cluster) boards l) (sym one.1) (one_on (IsControlOn c.args.self.now.cluster) boards old.controls.items one.0 b first one.2 i.6),
+      subst (λ (l : List _). AreOn (IsDataOn c.args.self.now.cluster c.args.self.now.corpus.now) boards l) (sym own.1) (one_on (IsDataOn c.args.self.now.cluster c.args.self.now.corpus.now) boards old.datas.items own.0 b second own.2 i.7),
     )
 
 pub returns-clause-controls : goal.returns-clause-controls
@@ -93,7 +93,7 @@ returns-clause-controls g c =
     let many = c.requires.boards.boards_count in
     let seats = c.requires.boards.seats_count in
     let made = pairs_length ControlBegins before c.loop-place.crew.controls.items i.4 in
-    all_on IsControlOn c.args.boards.now c.loop-place.crew.controls.items (omega arith) i.6
+    all_on (IsControlOn c.args.self.now.cluster) c.args.boards.now c.loop-place.crew.controls.items (omega arith) i.6
 
 pub returns-clause-datas : goal.returns-clause-datas
 returns-clause-datas g c =
@@ -105,7 +105,7 @@ returns-clause-datas g c =
     let many = c.requires.boards.boards_count in
     let seats = c.requires.boards.seats_count in
     let made = pairs_length DataBegins before c.loop-place.crew.datas.items i.5 in
-    all_on IsDataOn c.args.boards.now c.loop-place.crew.datas.items (omega arith) i.7
+    all_on (IsDataOn c.args.self.now.cluster c.args.self.now.corpus.now) c.args.boards.now c.loop-place.crew.datas.items (omega arith) i.7
 
 pub returns-clause-manned : goal.returns-clause-manned
 returns-clause-manned g c =

@@ -12,5 +12,5 @@ invariant-loop-place g l =
     × (l.before ≡ length l.yielded)
     × Pairwise ControlBegins l.yielded l.crew.controls.items
     × Pairwise DataBegins l.yielded l.crew.datas.items
-    × AreOn IsControlOn l.fn.boards l.crew.controls.items
-    × AreOn IsDataOn l.fn.boards l.crew.datas.items
+    × AreOn (IsControlOn l.fn.self.cluster) l.fn.boards l.crew.controls.items
+    × AreOn (IsDataOn l.fn.self.cluster l.fn.self.corpus.now) l.fn.boards l.crew.datas.items

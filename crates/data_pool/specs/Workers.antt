@@ -1,0 +1,24 @@
+-- Which data worker of a node does what.
+use Rattle.std.specs.Prelude.{ℕ, ◌/◌, ◌%◌, ◌==◌, ◌&&◌, Bool, List, filter}
+use Rattle.std.specs.List.{range_with_len}
+use Rattle.std.specs.Option.{option_map_or}
+use Rattle.task_ids.specs.Placing.{node_of}
+use Rattle.task_events.specs.Kinds.{kind_of}
+use Rattle.task_events.specs.declared.request.Request.{Request}
+use Rattle.data_pool.specs.declared.pool.Pool.{Pool}
+
+-- The worker of a shard, on the shard's node: the shards of a node go to its workers in turn.
+abbrev pub worker_of_shard : Pool → ℕ → ℕ
+worker_of_shard pool shard = shard / pool.nodes % pool.workers
+
+-- the worker of the task that a request asks for, on its node: that of its shard, or 0 where it works on none
+abbrev pub worker_of : Pool → Request → ℕ
+worker_of pool request = option_map_or (λ place. worker_of_shard pool place.1) (kind_of request).place 0
+
+-- a shard lies on this node, and this is its worker there
+abbrev pub is_held : Pool → ℕ → ℕ → ℕ → Bool
+is_held pool node worker shard = (node_of shard pool.nodes == node) && (worker_of_shard pool shard == worker)
+
+-- the shards of a worker of a node, ascending
+abbrev pub shards_of : Pool → ℕ → ℕ → List ℕ
+shards_of pool node worker = filter (is_held pool node worker) (range_with_len 0 pool.shards)

@@ -1,0 +1,5 @@
+pub mod Live
+pub mod Shards
+pub mod Entries
+pub mod Letters
+pub mod Cores

@@ -1,0 +1,4 @@
+pub mod Settings
+pub mod Plainly
+pub mod Letters
+pub mod Example

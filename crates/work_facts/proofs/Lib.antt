@@ -1,0 +1,10 @@
+pub mod Searches
+pub mod Whole
+pub mod Own
+pub mod Ends
+pub mod Looks
+pub mod Told
+pub mod New
+pub mod Moves
+pub mod Asks
+pub mod Replies
