@@ -1,4 +1,4 @@
-//! The plays on both kinds of boards, of node 1 with one slot and one place.
+//! The plays on both kinds of boards, of node 1 with one place. Each board has one slot, but for the race board that keeps a ban back.
 ghost use Rattle.std.specs.Prelude.{◌≡◌, IfOk, length, All};
 
 use crate::bans::{cancels_a_child, keeps_a_ban_back};
@@ -20,7 +20,7 @@ fn a_plain_board_keeps_a_ban_back(rt: HostRuntime) -> Result<(), Fail> {
     } = PlainBoard::<AnyCancel>::new(alloc, 1, 1, 1, 1)?;
     let mut data = PlainData::new(&rt, &board, seats.pop().ok_or(AllocError)?);
     let mut control = PlainControl::new(&rt, &board, control);
-    let mut core = new_core(alloc, &control)?;
+    let mut core = new_core(alloc, &control, 1)?;
     assert!(rt; keeps_a_ban_back(&mut core, &mut control)?);
     assert!(rt; cancels_a_child(alloc, &mut data, &mut core, &mut control)?);
     Ok(())
@@ -33,10 +33,10 @@ fn a_race_board_keeps_a_ban_back(rt: HostRuntime) -> Result<(), Fail> {
         board,
         control,
         mut seats,
-    } = RaceBoard::<AnyCancel>::new(alloc, 1, 1, 1, 1)?;
+    } = RaceBoard::<AnyCancel>::new(alloc, 1, 4, 1, 1)?;
     let mut data = RaceData::new(&board, seats.pop().ok_or(AllocError)?);
     let mut control = RaceControl::new(&board, control);
-    let mut core = new_core(alloc, &control)?;
+    let mut core = new_core(alloc, &control, 4)?;
     assert!(rt; keeps_a_ban_back(&mut core, &mut control)?);
     assert!(rt; cancels_a_child(alloc, &mut data, &mut core, &mut control)?);
     Ok(())
@@ -52,7 +52,7 @@ fn a_plain_board_cancels_a_root(rt: HostRuntime) -> Result<(), Fail> {
     } = PlainBoard::<AnyCancel>::new(alloc, 1, 1, 1, 1)?;
     let mut data = PlainData::new(&rt, &board, seats.pop().ok_or(AllocError)?);
     let mut control = PlainControl::new(&rt, &board, control);
-    let mut core = new_core(alloc, &control)?;
+    let mut core = new_core(alloc, &control, 1)?;
     assert!(rt; cancels_a_root(alloc, &mut data, &mut core, &mut control)?);
     Ok(())
 }
@@ -67,7 +67,7 @@ fn a_race_board_cancels_a_root(rt: HostRuntime) -> Result<(), Fail> {
     } = RaceBoard::<AnyCancel>::new(alloc, 1, 1, 1, 1)?;
     let mut data = RaceData::new(&board, seats.pop().ok_or(AllocError)?);
     let mut control = RaceControl::new(&board, control);
-    let mut core = new_core(alloc, &control)?;
+    let mut core = new_core(alloc, &control, 1)?;
     assert!(rt; cancels_a_root(alloc, &mut data, &mut core, &mut control)?);
     Ok(())
 }

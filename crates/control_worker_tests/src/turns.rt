@@ -1,6 +1,6 @@
 //! One turn, and what it gave.
 ghost use Rattle.std.specs.Prelude.{◌≡◌, IfOk};
-ghost use Rattle.task_ids.specs.Limits.{IsCancel};
+ghost use Rattle.task_ids.specs.Limits.{IsCancel, IsSlotCount};
 ghost use Rattle.node_link.specs.Lawful.{IsLawful};
 ghost use Rattle.node_boards.specs.Seats.{HasNoBan};
 ghost use Rattle.control_worker.specs.View.{view_of};
@@ -13,16 +13,18 @@ use node_link::{Body, Letter};
 use std::alloc::{AllocError, Global};
 use task_ids::AnyCancel;
 
-/// A new core of node 1 with one data worker, which belongs to this seat of a board with one slot.
+/// A new core of node 1 with one data worker, which belongs to this seat of a board with so many slots.
 pub(crate) fn new_core<C: ControlBoard<AnyCancel>>(
     alloc: Global,
     control: &C,
+    slots: u32,
 ) -> Result<ControlCore, AllocError>
     requires fresh { HasNoBan (C.bans control.now) }
-    requires slots { C.slots control.now ≡ 1 }
+    requires count { IsSlotCount slots }
+    requires slots { C.slots control.now ≡ slots }
     ensures { IfOk result (λ core. Together (C.bans control.now) (C.slots control.now) IsCancel (view_of core)) }
 {
-    let core = ControlCore::new(alloc, 1, 1, 1)?;
+    let core = ControlCore::new(alloc, 1, 1, slots)?;
     Ok(core)
 }
 

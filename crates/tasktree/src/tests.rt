@@ -1,72 +1,10 @@
-//! What a run of the built program does not show: inputs in pieces, calls that fail, and each status. What it shows is compared by the
-//! cases of the folder `tests` at the top.
+//! What a run of the built program does not show: an input that is made while writes fail, and each status. What it shows is compared by
+//! the cases of the folder `tests` at the top; inputs in pieces and calls that fail are tried by `hostile_tests` and `run_tests`.
 
-ghost use Rattle.std.specs.Prelude.{◌<◌};
-
-use es_io::{MemSink, MemSource};
+use es_io::MemSink;
 use std::alloc::Global;
-use task_ids::{Cause, Cluster};
-use task_top::{Status, gen_top, sim_top};
-
-/// Two documents and a search for both.
-const FIRST_SEARCH: &str = r#"{"index":{"_index":"a","_id":"1"}}
-{"v":7}
-{"index":{"_index":"a","_id":"2"}}
-{"v":8,"t":"x"}
---
-{"search":{"index":"a","body":{"query":{"match_all":{}}}}}
-"#;
-
-/// Its one line.
-const FIRST_LINE: &str =
-    r#"{"command":1,"reply":{"_shards":{"failed":0,"successful":1,"total":1},"hits":{"hits":[{"_id":"1","_index":"a","_source":{"v":7}},{"_id":"2","_index":"a","_source":{"t":"x","v":8}}],"total":{"relation":"eq","value":2}}}}
-"#;
-
-const CLUSTER: Cluster = Cluster {
-    nodes: 1,
-    shards: 1,
-    slots: 256,
-};
-
-/// How a run of the first search ends whose input comes in pieces of so many bytes, with a read and a write that fail at these
-/// calls (0 is none), and how many bytes of its line it writes. A write takes five bytes.
-fn run(
-    alloc: Global,
-    piece: usize,
-    failing_read: u64,
-    failing_write: u64,
-) -> Option<(Status, usize)>
-    requires { 0 < piece }
-{
-    let input = Vec::from_slice(alloc, FIRST_SEARCH.as_bytes()).ok()?;
-    let failing_read = Vec::from_slice(alloc, &[failing_read]).ok()?;
-    let failing_write = Vec::from_slice(alloc, &[failing_write]).ok()?;
-    let mut source = MemSource::new(input, piece, failing_read);
-    let mut out = MemSink::new(alloc, 5, failing_write);
-    let (status, _) = sim_top(alloc, &CLUSTER, &mut source, &mut out);
-    if !FIRST_LINE.as_bytes().starts_with(out.bytes()) {
-        return None;
-    }
-    Some((status, out.bytes().len()))
-}
-
-#[test]
-fn streams_give_and_take_pieces(rt: HostRuntime) {
-    let all = FIRST_LINE.len();
-    assert!(rt; run(rt.alloc(), 1, 0, 0) == Some((Status::Done, all)));
-    assert!(rt; run(rt.alloc(), 7, 0, 0) == Some((Status::Done, all)));
-    assert!(rt; run(rt.alloc(), 64, 0, 0) == Some((Status::Done, all)));
-    assert!(rt; run(rt.alloc(), 64, 2, 0) == Some((Status::ReadFault, 0)));
-}
-
-#[test]
-fn a_failing_write_leaves_the_pieces_before_it(rt: HostRuntime) {
-    for before in 0..20_u8 {
-        let call = u64::from(before) + 1;
-        let sent = 5 * usize::from(before);
-        assert!(rt; run(rt.alloc(), 4096, 0, call) == Some((Status::WriteFault, sent)));
-    }
-}
+use task_ids::Cause;
+use task_top::{Status, gen_top};
 
 /// The first lines of the input that 1 makes.
 const FIRST_LINES: &str = r#"{"index":{"_index":"g","_id":"0"}}
