@@ -7,6 +7,7 @@ use Rattle.std.specs.Str.{bytes_eq}
 use Rattle.std.proofs.lemmas.Bool.{cases_Bool, cases_lt, ne_eqb}
 use Rattle.std.proofs.lemmas.List.{take_all, drop_all, length-take, length-drop}
 use Rattle.std.proofs.lemmas.Slice.Eq.{bytes_eq-Decides}
+use Rattle.task_ids.proofs.Each.{all_joined}
 use Rattle.task_ids.specs.declared.doc.Doc.{Doc}
 use Rattle.task_ids.specs.Rows.{Row, has_id, is_alive, living_rows}
 use Rattle.shard_docs.specs.Candidates.{living_row}
@@ -192,10 +193,6 @@ noted_as_update index shard change writes h = ap (λ alive. record { index = ind
 abbrev pub IsUpdate : WriteNote → Type 0
 IsUpdate note = note.created ≡ false
 
-all_append : {X : Type 0} (P : X → Type 0) (xs ys : List X) → AllByRecursion P xs → AllByRecursion P ys → AllByRecursion P (xs ++ ys)
-all_append P [] ys all more = more
-all_append P (x ∷ xs) ys all more = (all.0, all_append P xs ys all.1 more)
-
 one_updates : (index : List ℕ) (shard : ℕ) (change : Change) (writes : List Doc) (b : Bool) → is_in_conflict change writes ≡ b → AllByRecursion IsUpdate (notes_of index shard writes (cond b [] (doc_of change ∷ [])))
 one_updates index shard change writes true h = tt
 one_updates index shard change writes false h = (ap not (alive_there change writes h), tt)
@@ -205,7 +202,7 @@ all_update index shard writes [] = tt
 all_update index shard writes (change ∷ changes) =
     let here = rewritten change writes in
     subst (AllByRecursion IsUpdate) (sym (notes_of-append index shard writes here (docs_written (writes ++ here) changes)))
-    (all_append IsUpdate (notes_of index shard writes here) (notes_of index shard (writes ++ here) (docs_written (writes ++ here) changes)) (one_updates index shard change writes (is_in_conflict change writes) refl) (all_update index shard (writes ++ here) changes))
+    (all_joined IsUpdate (notes_of index shard writes here) (notes_of index shard (writes ++ here) (docs_written (writes ++ here) changes)) (one_updates index shard change writes (is_in_conflict change writes) refl) (all_update index shard (writes ++ here) changes))
 
 -- ---- who comes second
 

@@ -34,6 +34,7 @@ pub struct UpdateAsk {
 /// One slice of such a rewriting.
 #[derive(Drop)]
 pub struct UpdateSliceAsk {
+    /// The rewriting of which it is a slice.
     pub update: UpdateAsk,
     /// The slice, from 0 and below the number of slices.
     pub slice: u32,
@@ -45,6 +46,7 @@ pub struct UpdateSliceAsk {
 pub struct UpdateBulkAsk {
     /// The index in which they lie.
     pub index: Shared<Text>,
+    /// What becomes of each, in the order in which they were read.
     pub changes: Items<Change>,
 }
 
@@ -55,6 +57,7 @@ pub struct UpdateShardAsk {
     pub index: Shared<Text>,
     /// The shard, from 0.
     pub shard: u32,
+    /// What becomes of each, in the order in which they are looked at.
     pub changes: Items<Change>,
 }
 

@@ -1,3 +1,5 @@
+//! Documents that are to be rewritten.
+
 ghost use Rattle.std.specs.Prelude.{◌≡◌, IfOk};
 
 use shared_value::Shared;

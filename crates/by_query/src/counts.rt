@@ -1,3 +1,5 @@
+//! What an update has done.
+
 ghost use Rattle.std.specs.Prelude.{◌≡◌};
 ghost use Rattle.by_query.specs.NoUpdates.{no_updates};
 

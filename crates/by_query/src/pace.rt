@@ -1,3 +1,5 @@
+//! When the next batch of a slice is due.
+
 ghost use Rattle.std.specs.Prelude.{◌≡◌, ◌≤◌, ◌<◌, ◌^◌, None};
 ghost use Rattle.throttle.specs.Waits.{per_second};
 ghost use Rattle.by_query.specs.Paces.{new_pace, after_batch, with_rate, due_of};
