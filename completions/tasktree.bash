@@ -8,13 +8,15 @@ _tasktree() {
     case $before in
     --nodes | --shards) words="1 2 3 4 5 6 7 8 9 10 11 12 13 14 15" ;;
     --slots) words="1 2 4 16 64 256 1024" ;;
+    --data) words="1 2 3 4" ;;
     gen) words="1" ;;
     *)
         if [ "$COMP_CWORD" -eq 1 ]; then
             words="sim run gen --help --version"
         elif [ "${COMP_WORDS[1]}" = sim ] || [ "${COMP_WORDS[1]}" = run ]; then
-            local option
-            for option in --nodes --shards --slots; do
+            local option options="--nodes --shards --slots"
+            if [ "${COMP_WORDS[1]}" = run ]; then options="$options --data"; fi
+            for option in $options; do
                 case " ${COMP_WORDS[*]} " in
                 *" $option "*) ;;
                 *) words="$words $option" ;;

@@ -20,6 +20,3 @@ pub use laws::{the_fastest_rate_counts, the_second_change_conflicts};
 pub use overlays::overlay;
 pub use pace::Pace;
 pub use shard_work::UpdateShardWork;
-
-#[cfg(test)]
-mod tests;

@@ -1,5 +1,5 @@
 -- What `get_one` reads of an argument that has its number.
-use Rattle.std.proofs.Common.{◌≡◌, ◌∙◌, ℕ, ◌<◌, ◌≤◌, ◌^◌, List, Option, Some, None, Result, Ok, Err, refl, sym, ap, subst, arith}
+use Rattle.std.proofs.Common.{◌≡◌, ◌∙◌, ◌⊎◌, inl, inr, ℕ, ◌<◌, ◌≤◌, ◌^◌, List, Option, Some, None, Result, Ok, Err, refl, sym, ap, subst, arith}
 use Rattle.std.specs.Prelude.{codes, option_map}
 use Rattle.std.specs.Str.Parse.{ParsesUnsigned, digits_value, without_leading_plus}
 use Rattle.std.proofs.lemmas.Option.{none-some, same_Some}
@@ -11,7 +11,7 @@ use Rattle.clap.specs.declared.parser.matches.Found.{Found}
 use Rattle.clap.proofs.CallerReads.{signed_reads}
 use Rattle.clap.proofs.WalkLemmas.{one_text-rows}
 use Rattle.command_line.specs.Plan.{number_of}
-use Rattle.command_line.specs.Takes.{HasNumber, HasUpTo}
+use Rattle.command_line.specs.Takes.{HasNumber, HasUpTo, MayHaveUpTo}
 
 abbrev number_in : List ℕ → ℕ
 number_in text = digits_value 10 (without_leading_plus text)
@@ -50,3 +50,13 @@ module _ {E : Type 0} (G : List ℕ → Result ℕ E → Type 0) (k : ℕ) (only
   option_none most name f r small has reads is =
       let got = option_read most name f r small has reads in
       none-some got.0 (sym is ∙ got.1)
+
+  -- an option that may be left out
+  pub given : (most : ℕ) (name : List ℕ) (f : Found) (r : Option ℕ) (n : ℕ) → most < 2 ^ k → MayHaveUpTo most name (rows_of f) → (one_text f name ≡ None → r ≡ None) → ((t : List ℕ) → one_text f name ≡ Some t → ReadsOne G t r) → r ≡ Some n
+      → (1 ≤ n) × (n ≤ most) × (number_of name (rows_of f) ≡ Some n)
+  given most name f r n small (inl left) none reads is = absurd (none-some n (sym (none (one_text-rows f name ∙ left)) ∙ is))
+  given most name f r n small (inr has) none reads is = option_some most name f r n small has reads is
+
+  pub left_out : (most : ℕ) (name : List ℕ) (f : Found) (r : Option ℕ) → most < 2 ^ k → MayHaveUpTo most name (rows_of f) → ((t : List ℕ) → one_text f name ≡ Some t → ReadsOne G t r) → r ≡ None → number_of name (rows_of f) ≡ None
+  left_out most name f r small (inl left) reads is = ap (option_map number_in) left
+  left_out most name f r small (inr has) reads is = absurd (option_none most name f r small has reads is)

@@ -357,6 +357,14 @@ there_by_default rows a text e = go (has_row a.id rows) refl
         subst (λ defaults. has_row a.id (default_rows a.id (reading_by a) defaults rows) ≡ true) (sym e)
         (subst (λ rows. has_row a.id rows ≡ true) (sym (put_last a.id (reading_by a) DefaultValue (text ∷ []) rows new)) (any_last _ rows _ (same_bytes a.id)))
 
+pub no_text : (id : Text) (rows : List Row) → has_row id rows ≡ false → one_of id rows ≡ None
+no_text id [] e = refl
+no_text id (r ∷ rows) e = go (bytes_eq r.id id) e (no_text id rows)
+  where
+    go : (b : Bool) → (b || has_row id rows) ≡ false → (has_row id rows ≡ false → one_of id rows ≡ None) → option_and_then row_text (cond b (Some r) (find (λ r. bytes_eq r.id id) rows)) ≡ None
+    go true e later = absurd (true≢false e)
+    go false e later = later e
+
 pub there_if_given : (id : Text) (rows : List Row) → is_given id rows ≡ true → has_row id rows ≡ true
 there_if_given id [] e = absurd (true≢false (sym e))
 there_if_given id (r ∷ rows) e = go (bytes_eq r.id id) e (there_if_given id rows)

@@ -4,6 +4,7 @@ use Rattle.std.specs.Prelude.{option_map, option_and_then}
 use Rattle.std.specs.List.{find, list_any}
 use Rattle.std.specs.Option.{option_map_or}
 use Rattle.std.specs.Str.{bytes_eq}
+use Rattle.std.proofs.lemmas.Bool.{cases_Bool}
 use Rattle.clap.specs.Faults.{is_simple_and_free, check_fault, defaults_fault, entered_fault, level_fault, settle_fault, walk_fault}
 use Rattle.clap.specs.Kinds.{IsAmong, Kinds, check_kinds}
 use Rattle.clap.specs.Matches.{found_of, subcommand_name_of}
@@ -15,18 +16,18 @@ use Rattle.clap.proofs.OnLiterals.{clap_on_literals}
 use Rattle.clap.specs.declared.parser.matches.ArgMatches.{ArgMatches}
 use Rattle.clap.specs.Simple.{is_simple, subcommand_rows_of, App, Shape, built, entered, filled, label_of, names_of, rows_at, subcommand_of, with_index}
 use Rattle.clap.specs.Takes.{is_given}
-use Rattle.clap.specs.Walk.{Held, Names, is_empty, rows_of, Row, Rule, Text, answers_to, arg_by_id, finished, has_row, nothing_held, rows_after, settled, stop_after, walk, walk_from, with_default}
+use Rattle.clap.specs.Walk.{Held, Names, is_empty, one_of, rows_of, Row, Rule, Text, answers_to, arg_by_id, finished, has_row, nothing_held, rows_after, settled, stop_after, walk, walk_from, with_default}
 use Rattle.clap.specs.Values.{read_as, reading_of}
 use Rattle.clap.specs.ValueTests.{accepts}
 use Rattle.clap.specs.Facts.{explicit_source, parser_of_value}
 use Rattle.clap.specs.declared.builder.value_parser.ValueParser.{ValueParser}
 use Rattle.clap.specs.declared.error.kind.ErrorKind.{ErrorKind}
 use Rattle.clap.proofs.ValueTestLemmas.{accepts-Accepts}
-use Rattle.command_line.specs.Command.{number_option, number_argument, tasktree}
+use Rattle.command_line.specs.Command.{number_option, number_argument, optional_number, tasktree}
 use Rattle.std.specs.Prelude.{if◌then◌else◌}
-use Rattle.command_line.specs.Plan.{Size, Takes, asked, asked_by, asked_in, number_of, size_in, to_make, to_replay, to_run}
-use Rattle.command_line.specs.Takes.{HasMatches, IsFound, HasSize, HasNumber, HasText}
-use Rattle.command_line.proofs.TakenMatches.{Each, IsOption, AreGood, found_in, level_keeps, first_empty, next_empty, stays_there, text_of, there_by_default, there_if_given}
+use Rattle.command_line.specs.Plan.{Asked, Size, Takes, asked, asked_by, asked_in, number_of, run_in, size_in, to_make, to_replay}
+use Rattle.command_line.specs.Takes.{HasMatches, IsFound, HasRun, HasSize, HasNumber, HasText}
+use Rattle.command_line.proofs.TakenMatches.{Each, IsOption, AreGood, found_in, level_keeps, first_empty, next_empty, no_text, stays_there, text_of, there_by_default, there_if_given}
 
 -- ---- the parts of one level
 
@@ -95,6 +96,53 @@ cluster_told s rules again words e =
       slots = text_in cluster_rules all slots_rule _ good slots refl refl refl;
     })
 
+-- ---- the subcommand that runs a script, which may have a number of data workers besides
+
+abbrev data_rule : Rule
+data_rule = with_index 1 (filled (optional_number (codes "data") 4))
+
+abbrev pub run_rules : List Rule
+run_rules = nodes_rule ∷ shards_rule ∷ slots_rule ∷ data_rule ∷ []
+
+run_options : Each (IsOption run_rules) run_rules
+run_options = (
+  record { set = refl; range = refl; found = refl; default = tt },
+  (
+    record { set = refl; range = refl; found = refl; default = tt },
+    (
+      record { set = refl; range = refl; found = refl; default = tt },
+      (record { set = refl; range = refl; found = refl; default = tt }, tt),
+    ),
+  ),
+)
+
+text_if_there : (c : List Rule) (rows : List Row) (a : Rule) (parser : ValueParser) → AreGood c rows → arg_by_id c a.id ≡ Some a → a.parser ≡ Some parser → a.ignore_case ≡ false → (one_of a.id rows ≡ None) ⊎ HasText parser a.id rows
+text_if_there c rows a parser good found is plain = by_row (cases_Bool (has_row a.id rows))
+  where
+    by_row : (has_row a.id rows ≡ true) ⊎ (has_row a.id rows ≡ false) → (one_of a.id rows ≡ None) ⊎ HasText parser a.id rows
+    by_row (inl there) = inr (text_in c rows a parser good there found is plain)
+    by_row (inr none) = inl (no_text a.id rows none)
+
+run_told : (s : Shape) → s.rules ≡ run_rules → s.args_override_self ≡ false → (words : List Text) → level_fault s [] nothing_held words false [] ≡ [] → HasRun (rows_after s.rules [] words)
+run_told s rules again words e =
+    let good = level_keeps run_rules s rules again run_options (λ x. refl) words e in
+    let walked = (settled run_rules (walk run_rules [] nothing_held words).held).rows in
+    let first = with_default walked nodes_rule in
+    let second = with_default first shards_rule in
+    let third = with_default second slots_rule in
+    let all = rows_after run_rules [] words in
+    let nodes = stays_there nodes_rule.id third data_rule (stays_there nodes_rule.id second slots_rule (stays_there nodes_rule.id first shards_rule (there_by_default walked nodes_rule _ refl))) in
+    let shards = stays_there shards_rule.id third data_rule (stays_there shards_rule.id second slots_rule (there_by_default first shards_rule _ refl)) in
+    let slots = stays_there slots_rule.id third data_rule (there_by_default second slots_rule _ refl) in
+    subst (λ r. HasRun (rows_after r [] words)) (sym rules) (record {
+      size = record {
+        nodes = text_in run_rules all nodes_rule _ good nodes refl refl refl;
+        shards = text_in run_rules all shards_rule _ good shards refl refl refl;
+        slots = text_in run_rules all slots_rule _ good slots refl refl refl;
+      };
+      workers = text_if_there run_rules all data_rule _ good refl refl refl;
+    })
+
 -- ---- the subcommand with a number
 
 abbrev number_rule : Rule
@@ -135,7 +183,7 @@ IsTold s = (words : List Text) → level_fault s [] nothing_held words false [] 
 
 all_told : Each IsTold (built tasktree).subs
 unfolding tasktree
-all_told = (λ words e. inl (refl, cluster_told _ refl refl words e), (λ words e. inr (inl (refl, cluster_told _ refl refl words e)), (λ words e. inr (inr (refl, gen_told _ refl refl refl refl refl words e)), tt)))
+all_told = (λ words e. inl (refl, cluster_told _ refl refl words e), (λ words e. inr (inl (refl, run_told _ refl refl words e)), (λ words e. inr (inr (refl, gen_told _ refl refl refl refl refl words e)), tt)))
 
 at_stop : (a : App) → Each IsTold a.subs → (stop : Option (Text × List Text)) → is_some (entered a stop) ≡ true → entered_fault a stop ≡ [] → IsFound (entered a stop)
 at_stop a told None there e = absurd (true≢false (sym there))
@@ -190,15 +238,15 @@ pub asked_gen : (found : Option (Text × List Row)) (p : Text × List Row) (n : 
 unfolding asked_by
 asked_gen found p n met name is = ap asked_in met ∙ ap (λ name. asked_by name p.1) name ∙ ap (option_map to_make) is
 
-pub asked_run : (found : Option (Text × List Row)) (p : Text × List Row) (size : Size) → found ≡ Some p → p.0 ≡ codes "run" → size_in p.1 ≡ Some size → asked_in found ≡ Some (to_run size)
+pub asked_run : (found : Option (Text × List Row)) (p : Text × List Row) (is_asked : Asked) → found ≡ Some p → p.0 ≡ codes "run" → run_in p.1 ≡ Some is_asked → asked_in found ≡ Some is_asked
 unfolding asked_by
-asked_run found p size met name is = ap asked_in met ∙ ap (λ name. asked_by name p.1) name ∙ ap (option_map to_run) is
+asked_run found p is_asked met name is = ap asked_in met ∙ ap (λ name. asked_by name p.1) name ∙ is
 
 -- ---- by the name of the subcommand
 
 pub is_sim : (p : Text × List Row) → HasMatches p.0 p.1 → p.0 ≡ codes "sim" → HasSize p.1
 is_sim p (inl sim) name = sim.1
-is_sim p (inr (inl run)) name = run.1
+is_sim p (inr (inl run)) name = absurd (true≢false (ap (λ text. bytes_eq text (codes "run")) (sym run.0 ∙ name)))
 is_sim p (inr (inr gen)) name = absurd (true≢false (ap (λ text. bytes_eq text (codes "sim")) (sym name ∙ gen.0)))
 
 pub is_gen : (p : Text × List Row) → HasMatches p.0 p.1 → p.0 ≡ codes "gen" → HasNumber p.1
@@ -206,8 +254,8 @@ is_gen p (inl sim) name = absurd (true≢false (ap (λ text. bytes_eq text (code
 is_gen p (inr (inl run)) name = absurd (true≢false (ap (λ text. bytes_eq text (codes "gen")) (sym name ∙ run.0)))
 is_gen p (inr (inr gen)) name = gen.1
 
-pub is_run : (p : Text × List Row) → HasMatches p.0 p.1 → p.0 ≡ codes "run" → HasSize p.1
-is_run p (inl sim) name = sim.1
+pub is_run : (p : Text × List Row) → HasMatches p.0 p.1 → p.0 ≡ codes "run" → HasRun p.1
+is_run p (inl sim) name = absurd (true≢false (ap (λ text. bytes_eq text (codes "run")) (sym name ∙ sim.0)))
 is_run p (inr (inl run)) name = run.1
 is_run p (inr (inr gen)) name = absurd (true≢false (ap (λ text. bytes_eq text (codes "run")) (sym name ∙ gen.0)))
 

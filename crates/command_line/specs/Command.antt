@@ -1,16 +1,19 @@
 -- The command of the program, as clap's definitions see it.
-use Rattle.std.specs.Prelude.{ℕ, List, [], ◌∷◌, Some, true, false, pos, codes}
+use Rattle.std.specs.Prelude.{ℕ, List, [], ◌∷◌, ◌++◌, Some, true, false, pos, codes}
 use Rattle.clap.specs.Walk.{Rule}
 use Rattle.clap.specs.Simple.{App, Shape, new_rule, new_shape}
 use Rattle.clap.specs.declared.builder.value_parser.ValueParser.TheVariants.{Signed, Unsigned}
 
--- an option with a number from 1 to `most`, and the text of its default
-abbrev pub number_option : (name : List ℕ) (most : ℕ) (default : List ℕ) → Rule
-number_option name most default = record (new_rule name) {
+-- an option with a number from 1 to `most`, which may be left out
+abbrev pub optional_number : (name : List ℕ) (most : ℕ) → Rule
+optional_number name most = record (new_rule name) {
   long = Some name;
   parser = Some (Signed (pos 1) (pos most));
-  defaults = default ∷ [];
 }
+
+-- the same, with the text of a default
+abbrev pub number_option : (name : List ℕ) (most : ℕ) (default : List ℕ) → Rule
+number_option name most default = record (optional_number name most) { defaults = default ∷ [] }
 
 -- the number that has to follow, of 64 bits
 abbrev pub number_argument : Rule
@@ -27,6 +30,10 @@ cluster_command name = record (new_shape name) {
       ∷ number_option (codes "slots") 1024 (codes "256") ∷ [];
 }
 
+-- the same for `run`, with 1 to 4 data workers on each node, where the words say how many
+abbrev pub run_command : Shape
+run_command = record (cluster_command (codes "run")) { rules = (cluster_command (codes "run")).rules ++ optional_number (codes "data") 4 ∷ [] }
+
 abbrev pub gen_command : Shape
 gen_command = record (new_shape (codes "gen")) { rules = number_argument ∷ [] }
 
@@ -41,5 +48,5 @@ tasktree = record {
     disable_version_flag = true;
     subcommand_required = true;
   };
-  subs = cluster_command (codes "sim") ∷ cluster_command (codes "run") ∷ gen_command ∷ [];
+  subs = cluster_command (codes "sim") ∷ run_command ∷ gen_command ∷ [];
 }

@@ -11,6 +11,8 @@ pub enum Plan {
     Sim(Cluster),
     /// Run a script on a cluster of this size whose workers are threads.
     Run(Cluster),
+    /// The same with so many data workers on each node, from 1 to 4.
+    Pool { cluster: Cluster, workers: u32 },
     /// Write the input that this number makes.
     Gen(u64),
 }

@@ -14,7 +14,7 @@ is_of_corpus corpus index = list_any (λ line. bytes_eq index line.index) corpus
 
 -- the index to which a command writes, where it is a reindex whose body has no fault
 abbrev pub dest_of : Command → Option (List ℕ)
-dest_of (Reindex node body slices rate opaque_id) = option_map (λ read. read.dest) (result_ok (reindex_at body))
+dest_of (Reindex node body slices rate opaque_id store) = option_map (λ read. read.dest) (result_ok (reindex_at body))
 dest_of _ = None
 
 -- the indices to which the reindexes among some commands write, but for those whose body has a fault

@@ -1,3 +1,4 @@
 pub mod Known
 pub mod Reindexes
+pub mod Results
 pub mod Roots

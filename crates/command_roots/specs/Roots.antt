@@ -64,13 +64,13 @@ search_of _ = None
 
 -- the copy that a command asks for, where it is a reindex whose body has no fault
 abbrev pub reindex_of : Command → Option ReindexAsk
-reindex_of (Reindex node body slices rate opaque_id) = option_and_then (λ read. reindex_ask read slices rate) (result_ok (reindex_at body))
+reindex_of (Reindex node body slices rate opaque_id store) = option_and_then (λ read. reindex_ask read slices rate) (result_ok (reindex_at body))
 reindex_of _ = None
 
 -- what the root of a command is asked to do, by what happened before
 abbrev pub request_in : Command → List Event → Option Request
 request_in (Scroll context keep opaque_id) h = option_map (λ id. asks.Scroll (record { id = id; keep = keep; owner = None })) (context_named context h)
-request_in (Reindex node body slices rate opaque_id) h = option_map asks.Reindex (reindex_of (Reindex node body slices rate opaque_id))
+request_in (Reindex node body slices rate opaque_id store) h = option_map asks.Reindex (reindex_of (Reindex node body slices rate opaque_id store))
 request_in command h = option_map asks.Search (search_of command)
 
 -- the command of a number, from 1
@@ -85,7 +85,7 @@ root_request script k h = option_and_then (λ command. request_in command h) (co
 abbrev pub opaque_id_in : Command → Option (List ℕ)
 opaque_id_in (Search index node scroll body opaque_id) = opaque_id
 opaque_id_in (Scroll context keep opaque_id) = opaque_id
-opaque_id_in (Reindex node body slices rate opaque_id) = opaque_id
+opaque_id_in (Reindex node body slices rate opaque_id store) = opaque_id
 opaque_id_in _ = None
 
 -- what the request of a command's root carries

@@ -2,6 +2,7 @@
 #![tactic(auto)]
 
 mod reindexes;
+mod results;
 
 ghost use Rattle.std.specs.Prelude.{◌≡◌, ◌↔◌, true, IfOk, if◌then◌else◌};
 ghost use Rattle.query_parse.specs.Bodies.{body_at};
@@ -10,6 +11,7 @@ ghost use Rattle.command_roots.specs.Roots.{body_or_none, search_ask, opaque_id_
 use query_match::SearchBody;
 use query_parse::{BodyError, read_body};
 pub use reindexes::{dests_of, reindex_ask, reindex_body};
+pub use results::TaskFound;
 use script_lang::Command;
 use shared_value::Shared;
 use std::alloc::{AllocError, Global};

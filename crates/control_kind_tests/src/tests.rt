@@ -1,5 +1,5 @@
 //! A cluster of two nodes: the control worker of the first runs, and the test has the driver's part and that of the others.
-ghost use Rattle.std.specs.Prelude.{◌≡◌, IfOk};
+ghost use Rattle.std.specs.Prelude.{◌≡◌, ◌≤◌, IfOk};
 
 use control_worker::ControlCore;
 use es_io::{Job, OpenGate};
@@ -19,13 +19,13 @@ type Note = Letter<Name>;
 /// A task of the other node.
 const PARENT: TaskId = TaskId { node: 2, number: 7 };
 
-// The ends of the inboxes of a cluster: those that the control worker has, and what comes to the data worker of its node, to the
+// The ends of the inboxes of a cluster: those that the control worker has, and what comes to the data workers of its node, to the
 // other control worker and to the driver.
 #[derive(Drop)]
 struct Ends {
     own: Receiver<Note>,
     senders: Vec<Sender<Note>>,
-    data: Receiver<Note>,
+    datas: Vec<Receiver<Note>>,
     other: Receiver<Note>,
     driver: Receiver<Note>,
 }
@@ -37,35 +37,55 @@ fn add_inbox(alloc: Global, senders: &mut Vec<Sender<Note>>) -> Result<Receiver<
     Ok(receiver)
 }
 
-// New inboxes, by the numbers of their cluster. These letters are sent to the control worker.
-fn new_ends<R: Wait>(rt: &R, alloc: Global, letters: Vec<Note>) -> Result<Ends, AllocError> {
+// Those of the data workers of a node.
+fn add_inboxes(
+    alloc: Global,
+    senders: &mut Vec<Sender<Note>>,
+    workers: u32,
+) -> Result<Vec<Receiver<Note>>, AllocError> {
+    let mut inboxes = Vec::new(alloc);
+    for _ in 0..workers {
+        inboxes.push(add_inbox(alloc, senders)?)?;
+    }
+    Ok(inboxes)
+}
+
+// New inboxes, by the numbers of their cluster, whose nodes have so many data workers. These letters are sent to the control worker.
+fn new_ends<R: Wait>(
+    rt: &R,
+    alloc: Global,
+    workers: u32,
+    letters: Vec<Note>,
+) -> Result<Ends, AllocError> {
     let (mut senders, own) = inbox::<Note>(alloc, 16, 2)?;
     let mut test = senders.pop().ok_or(AllocError)?;
     for letter in letters {
         drop(test.send(rt, letter));
     }
-    let data = add_inbox(alloc, &mut senders)?;
+    let datas = add_inboxes(alloc, &mut senders, workers)?;
     let other = add_inbox(alloc, &mut senders)?;
-    let other_data = add_inbox(alloc, &mut senders)?;
-    drop(other_data);
+    drop(add_inboxes(alloc, &mut senders, workers)?);
     let driver = add_inbox(alloc, &mut senders)?;
     Ok(Ends {
         own,
         senders,
-        data,
+        datas,
         other,
         driver,
     })
 }
 
-// Runs a control worker with these ends. It is none where it drained.
+// Runs the control worker of a node with so many data workers, with these ends. It is none where it drained.
 fn run_between<R: Wait + Sync>(
     rt: &R,
     alloc: Global,
+    workers: u32,
     own: Receiver<Note>,
     senders: Vec<Sender<Note>>,
-) -> Result<Option<Stop>, AllocError> {
-    let core = ControlCore::new(alloc, 1, 1, 4)?;
+) -> Result<Option<Stop>, AllocError>
+    requires workers { (1 ≤ workers) × (workers ≤ 4) }
+{
+    let core = ControlCore::new(alloc, 1, workers, 4)?;
     let PlainParts {
         board,
         control,
@@ -84,28 +104,31 @@ fn run_between<R: Wait + Sync>(
 #[derive(Drop)]
 struct Heard {
     stop: Option<Stop>,
-    data: Receiver<Note>,
+    datas: Vec<Receiver<Note>>,
     other: Receiver<Note>,
     driver: Receiver<Note>,
 }
 
-// A control worker that is sent these letters before it runs.
+// The control worker of a node with so many data workers, which is sent these letters before it runs.
 fn run_control<R: Wait + Sync>(
     rt: &R,
     alloc: Global,
+    workers: u32,
     letters: Vec<Note>,
-) -> Result<Heard, AllocError> {
+) -> Result<Heard, AllocError>
+    requires workers { (1 ≤ workers) × (workers ≤ 4) }
+{
     let Ends {
         own,
         senders,
-        data,
+        datas,
         other,
         driver,
-    } = new_ends(rt, alloc, letters)?;
-    let stop = run_between(rt, alloc, own, senders)?;
+    } = new_ends(rt, alloc, workers, letters)?;
+    let stop = run_between(rt, alloc, workers, own, senders)?;
     Ok(Heard {
         stop,
-        data,
+        datas,
         other,
         driver,
     })
@@ -118,6 +141,16 @@ fn and_farewells(alloc: Global, first: Note) -> Result<Vec<Note>, AllocError> {
     letters.push(Letter::new(Body::DataLeft { worker: 0 }))?;
     letters.push(Letter::new(Body::ControlLeft { node: 2 }))?;
     Ok(letters)
+}
+
+// Whether no letter came to these.
+fn have_heard_none<R: Wait>(rt: &R, inboxes: &mut [Receiver<Note>]) -> bool {
+    for inbox in inboxes.iter_mut() {
+        if inbox.try_take(rt).is_some() {
+            return false;
+        }
+    }
+    true
 }
 
 // Whether the next letter is the last, and tells that the control worker of the first node has left.
@@ -155,11 +188,11 @@ fn it_leaves_once_all_others_have(rt: HostRuntime) -> Result<(), AllocError> {
         wait: false,
     });
     let letters = and_farewells(rt.alloc(), cancel)?;
-    let mut heard = run_control(&rt, rt.alloc(), letters)?;
+    let mut heard = run_control(&rt, rt.alloc(), 1, letters)?;
     assert!(rt; heard.stop.is_none());
     assert!(rt; hears_of_no_task(&rt, &mut heard.driver));
     assert!(rt; hears_that_it_left(&rt, &mut heard.other));
-    assert!(rt; heard.data.try_take(&rt).is_none());
+    assert!(rt; have_heard_none(&rt, &mut heard.datas));
     Ok(())
 }
 
@@ -175,11 +208,11 @@ fn it_acknowledges_a_ban_and_leaves_once_that_is_lifted(rt: HostRuntime) -> Resu
         parent: PARENT,
         to: 1,
     }))?;
-    let mut heard = run_control(&rt, rt.alloc(), letters)?;
+    let mut heard = run_control(&rt, rt.alloc(), 1, letters)?;
     assert!(rt; heard.stop.is_none());
     assert!(rt; hears_of_the_ban(&rt, &mut heard.other));
     assert!(rt; hears_that_it_left(&rt, &mut heard.other));
-    assert!(rt; heard.data.try_take(&rt).is_none() && heard.driver.try_take(&rt).is_none());
+    assert!(rt; have_heard_none(&rt, &mut heard.datas) && heard.driver.try_take(&rt).is_none());
     Ok(())
 }
 
@@ -188,7 +221,39 @@ fn it_stops_where_a_letter_says_so(rt: HostRuntime) -> Result<(), AllocError> {
     let mut letters = Vec::new(rt.alloc());
     letters.push(Letter::new(Body::Stop(Stop::NumbersSpent)))?;
     letters.push(Letter::new(Body::DataLeft { worker: 0 }))?;
-    let mut heard = run_control(&rt, rt.alloc(), letters)?;
+    let mut heard = run_control(&rt, rt.alloc(), 1, letters)?;
+    assert!(rt; heard.stop == Some(Stop::NumbersSpent));
+    assert!(rt; heard.other.try_take(&rt).is_none() && heard.driver.try_take(&rt).is_none());
+    Ok(())
+}
+
+#[test]
+fn it_leaves_once_each_of_two_data_workers_has(rt: HostRuntime) -> Result<(), AllocError> {
+    let cancel = Letter::new(Body::Cancel {
+        cancel: 2,
+        task: TaskId { node: 1, number: 3 },
+        wait: false,
+    });
+    let mut letters = Vec::new(rt.alloc());
+    letters.push(Letter::new(Body::DataLeft { worker: 1 }))?;
+    for last in and_farewells(rt.alloc(), cancel)? {
+        letters.push(last)?;
+    }
+    let mut heard = run_control(&rt, rt.alloc(), 2, letters)?;
+    assert!(rt; heard.stop.is_none());
+    assert!(rt; hears_of_no_task(&rt, &mut heard.driver));
+    assert!(rt; hears_that_it_left(&rt, &mut heard.other));
+    assert!(rt; have_heard_none(&rt, &mut heard.datas));
+    Ok(())
+}
+
+#[test]
+fn it_does_not_leave_before_the_last_data_worker(rt: HostRuntime) -> Result<(), AllocError> {
+    let mut letters = Vec::new(rt.alloc());
+    letters.push(Letter::new(Body::DataLeft { worker: 0 }))?;
+    letters.push(Letter::new(Body::DataLeft { worker: 0 }))?;
+    letters.push(Letter::new(Body::Stop(Stop::NumbersSpent)))?;
+    let mut heard = run_control(&rt, rt.alloc(), 2, letters)?;
     assert!(rt; heard.stop == Some(Stop::NumbersSpent));
     assert!(rt; heard.other.try_take(&rt).is_none() && heard.driver.try_take(&rt).is_none());
     Ok(())

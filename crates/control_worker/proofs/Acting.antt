@@ -27,6 +27,7 @@ use Rattle.control_worker.specs.Steps.{Step, Nothing, Then, Either, Only, Where,
 use Rattle.control_worker.specs.Cancels.{Begins, Joined, Joins, Starts, Seeks, Cancels, is_awaited, Moves, Acked, Acks, Ended, EndsOf}
 use Rattle.control_worker.specs.Bans.{BeginsChild, Awaits, Lists, Places, Put, IsFull, PutsOrNot, KeepsBack, PutsOrKeeps, TakesBan, Keeps, Tries, TriesKept, Lifts, TakesUnban}
 use Rattle.control_worker.specs.Matches.{Tried, found_of, Tries as TriesRow, Names, Matches}
+use Rattle.control_worker.specs.Gathers.{gathered_by, after_part, MatchesIn, Gathers}
 use Rattle.control_worker.specs.Turn.{Takes, Turned}
 use Rattle.control_worker.specs.Together.{Together, MayPut, MayHear}
 use Rattle.control_worker.specs.Lawful.{IsLawfulCore, IsLawfulAct}
@@ -305,6 +306,15 @@ module _ (allowed : ℕ → Type 0) where
       let all : Step = Each (TriesRow waiter) tried in
       one_then all (Names waiter.cancel (found_of tried)) (each (TriesRow waiter) (λ (t : Tried). seeks t.task waiter t.is_found may) tried) (names waiter.cancel (found_of tried) may) v w calls acts made is
 
+  matches_in : (all : Option (List TaskInfo)) (waiter : Waiter) → MayHear allowed waiter → Keeping (MatchesIn all waiter)
+  matches_in None waiter may = nothing
+  matches_in (Some rows) waiter may = matches waiter rows may
+
+  gathers : (worker : ℕ) (waiter : Waiter) (rows : List TaskInfo) → MayHear allowed waiter → Keeping (Gathers worker waiter rows)
+  unfolding Gathers
+  gathers worker waiter rows may v w calls acts made is =
+      matches_in (gathered_by worker waiter.cancel rows v) waiter may (after_part worker waiter.cancel rows v) w calls acts made (record { kept = is.kept; waiting = is.waiting })
+
   takes : (letter : Body) → IsLawful allowed letter → Keeping (Takes letter)
   takes (says.Request asked) lawful = nothing
   takes (says.Answer answered) lawful = nothing
@@ -319,7 +329,7 @@ module _ (allowed : ℕ → Type 0) where
   takes says.Drain lawful = nothing
   takes says.Leave lawful = nothing
   takes (says.Stop cause) lawful = nothing
-  takes (says.Matches worker cancel rows wait) lawful = matches (record { cancel = cancel; wait = wait }) rows lawful.1
+  takes (says.Matches worker cancel rows wait) lawful = gathers worker (record { cancel = cancel; wait = wait }) rows lawful.1
   takes (says.Ended receipt) lawful = ends_of receipt.task receipt
   takes (says.DataLeft worker) lawful = nothing
   takes (says.ControlLeft node) lawful = nothing

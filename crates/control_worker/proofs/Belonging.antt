@@ -154,9 +154,9 @@ module _ (bans : ℕ → ℕ → ℕ → Type 0) (slots : ℕ) (allowed : ℕ �
   none_banned t none p = false_from_ne_true (has_ban v p) (λ has. let (j, c, is) = t.on_board p has in none j (task_key p) c is)
 
 -- a new core belongs to a seat with no ban that has as many slots
-pub together_new : (bans : ℕ → ℕ → ℕ → Type 0) (slots : ℕ) (allowed : ℕ → Type 0) (v : View) (node : ℕ) → HasNoBan bans → v ≡ new_view node slots → Together bans slots allowed v
+pub together_new : (bans : ℕ → ℕ → ℕ → Type 0) (slots : ℕ) (allowed : ℕ → Type 0) (v : View) (node workers : ℕ) → HasNoBan bans → v ≡ new_view node workers slots → Together bans slots allowed v
 unfolding Together
-together_new bans slots allowed v node none new = record {
+together_new bans slots allowed v node workers none new = record {
   on_board = λ p has. let wrong : true ≡ false = sym has ∙ ap (λ u. has_ban u p) new ∙ ap (λ o. is_some o) (get-empty task_id_cmp p) in absurd (cc);
   in_core = λ j q c is. absurd (none j q c is);
   room = ap (λ u. u.slots) new;

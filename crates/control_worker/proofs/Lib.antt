@@ -6,4 +6,5 @@ pub mod Cancelling
 pub mod Banning
 pub mod Listed
 pub mod Matching
+pub mod Gathering
 pub mod Acting

@@ -1,11 +1,11 @@
 -- A map of parents after one of them came or went.
-use Rattle.std.proofs.Common.{◌≡◌, List, ◌⊎◌, inl, inr, Bool, true, false, cond, Option, Some, None, is_some, length, refl, sym, ap, ◌∙◌}
+use Rattle.std.proofs.Common.{◌≡◌, List, ◌⊎◌, inl, inr, Bool, true, false, cond, Some, None, is_some, length, refl, sym, ap, ◌∙◌}
 use Rattle.std.specs.Cmp.{eq_by_cmp_equiv}
 use Rattle.std.specs.Ordering.{eq_by_cmp}
 use Rattle.std.specs.FinMap.{FinMap, get, insert, remove, from_entries, get-insert, get-remove, same_map}
 use Rattle.task_ids.specs.declared.task_id.TaskId.{TaskId}
 use Rattle.task_ids.specs.TaskIdOrder.{task_id_cmp}
-use Rattle.task_ids.proofs.TaskIdKeys.{ids_total, exact_ids, value_at, get_id}
+use Rattle.task_ids.proofs.TaskIdKeys.{ids_total, exact_ids, get_id}
 use Rattle.cancel_core.proofs.Entries.{equal_of, none_of, no_value, no_entry}
 
 -- ids are the same, or compare as other

@@ -3,6 +3,7 @@ pub mod Steps
 pub mod Cancels
 pub mod Bans
 pub mod Matches
+pub mod Gathers
 pub mod Turn
 pub mod Together
 pub mod Lawful

@@ -8,7 +8,7 @@ use Rattle.control_worker.specs.View.{View}
 use Rattle.control_worker.specs.Steps.{Step, Nothing, Chain}
 use Rattle.control_worker.specs.Cancels.{Cancels, Acks, EndsOf}
 use Rattle.control_worker.specs.Bans.{TakesBan, TakesUnban}
-use Rattle.control_worker.specs.Matches.{Matches}
+use Rattle.control_worker.specs.Gathers.{Gathers}
 
 -- a step for each kind of letter; what is not for a control worker is passed over
 abbrev pub Takes : Body → Step
@@ -25,7 +25,7 @@ Takes (says.Tick ms) = Nothing
 Takes says.Drain = Nothing
 Takes says.Leave = Nothing
 Takes (says.Stop cause) = Nothing
-Takes (says.Matches worker cancel rows wait) = Matches (record { cancel = cancel; wait = wait }) rows
+Takes (says.Matches worker cancel rows wait) = Gathers worker (record { cancel = cancel; wait = wait }) rows
 Takes (says.Ended receipt) = EndsOf receipt.task receipt
 Takes (says.DataLeft worker) = Nothing
 Takes (says.ControlLeft node) = Nothing

@@ -1,8 +1,9 @@
 //! What a control worker knows.
-ghost use Rattle.std.specs.Prelude.{◌≡◌, ◌≤◌, ◌↔◌, [], true, false, IfOk};
+ghost use Rattle.std.specs.Prelude.{◌≡◌, ◌≤◌, ◌↔◌, ℕ, [], true, false, IfOk};
 ghost use Rattle.task_ids.specs.Limits.{IsNode, IsSlotCount};
 
 use cancel_core::CancelCore;
+use data_pool::Gather;
 use std::alloc::{AllocError, Global};
 use std::collections::{BTreeMap, VecDeque};
 use task_ids::TaskId;
@@ -14,15 +15,15 @@ pub struct Ban {
     pub cancel: u32,
 }
 
-/// What a control worker knows: the cancellations of its node's tasks, the bans that it has put on its board, and those for
-/// which there was no room.
+/// What a control worker knows: the cancellations of its node's tasks, the bans that it has put on its board, those for which there was
+/// no room, and what its data workers told of the matches of filters.
 ///
 /// A look finds its ban without a scan of the others. Bans are kept back only where each place of the board has a ban.
 #[derive(Drop)]
 pub struct ControlCore {
     pub(crate) alloc: Global,
     node: u32,
-    workers: u32,
+    pub(crate) workers: u32,
     pub(crate) cancels: CancelCore,
     /// For each parent whose ban the board has, its cancel.
     pub(crate) bans: BTreeMap<TaskId, u32>,
@@ -31,12 +32,15 @@ pub struct ControlCore {
     /// Room for the numbers of the children that a listing hands over.
     pub(crate) found: Vec<u32>,
     pub(crate) marks: u64,
+    /// What was gathered for each cancel by a filter of which a part is missing.
+    pub(crate) gathers: BTreeMap<u32, Gather>,
     ghost noded: { IsNode node },
+    ghost pooled: { (1 ≤ workers) × (workers ≤ 4) },
 }
 
 impl ControlCore {
     ghost use Rattle.task_ids.specs.declared.task_id.TaskId.{TaskId};
-    ghost use Rattle.control_worker.specs.View.{view_of, new_view, has_ban, is_under_way, is_banned, is_kept_back};
+    ghost use Rattle.control_worker.specs.View.{view_of, new_view, has_ban, is_banned, is_kept_back, is_gathering, IsIdle};
 
     /// The core of a node with so many data workers, whose board has room for so many tasks. It belongs to a control seat
     /// with no ban (`together_new` of `proofs/Belonging`). It fails only for want of memory.
@@ -49,8 +53,7 @@ impl ControlCore {
         requires node { IsNode node }
         requires workers { (1 ≤ workers) × (workers ≤ 4) }
         requires slots { IsSlotCount slots }
-        ensures new { IfOk result (λ core. view_of core ≡ new_view node slots) }
-        ensures workers { IfOk result (λ core. core.workers ≡ workers) }
+        ensures new { IfOk result (λ core. view_of core ≡ new_view node workers slots) }
     {
         let found = vec![in alloc; 0; slots as usize]?;
         Ok(ControlCore {
@@ -62,6 +65,7 @@ impl ControlCore {
             kept: VecDeque::new(alloc),
             found,
             marks: 0,
+            gathers: BTreeMap::new(alloc),
         })
     }
 
@@ -75,7 +79,8 @@ impl ControlCore {
 
     /// How many data workers the node has.
     pub fn workers(&self) -> u32
-        ensures { result ≡ self.now.workers }
+        ensures workers { result ≡ self.now.workers }
+        ensures range { (1 ≤ result) × (result ≤ 4) }
     {
         self.workers
     }
@@ -87,11 +92,18 @@ impl ControlCore {
         self.marks
     }
 
-    /// Whether no cancellation is under way.
+    /// Whether no cancellation is under way, and no part is missing of the matches of a filter.
     pub fn is_idle(&self) -> bool
-        ensures { (result ≡ true) ↔ ((task : TaskId) → is_under_way task (view_of self.now) ≡ false) }
+        ensures { (result ≡ true) ↔ IsIdle (view_of self.now) }
     {
-        self.cancels.is_idle()
+        self.cancels.is_idle() && self.misses_nothing()
+    }
+
+    /// Whether no part is missing of the matches of a filter.
+    fn misses_nothing(&self) -> bool
+        ensures { (result ≡ true) ↔ ((cancel : ℕ) → is_gathering cancel (view_of self.now) ≡ false) }
+    {
+        self.gathers.is_empty()
     }
 
     /// Whether the board has a ban.

@@ -9,6 +9,7 @@ mod act;
 mod bans;
 mod cancels;
 mod control_core;
+mod gathers;
 mod listing;
 mod matches;
 mod turn;

@@ -55,11 +55,11 @@ fn cancel_each<N: BoardName, B: ControlBoard<N>>(
     Ok(found)
 }
 
-/// Takes in what a filter lets through on this node: cancels each task, and names those that were found.
+/// Cancels each task that a filter lets through on this node, and names those that were found.
 pub(crate) fn take_matches<N: BoardName, B: ControlBoard<N>>(
     core: &mut ControlCore,
     board: &mut B,
-    rows: &Items<TaskInfo>,
+    rows: &[TaskInfo],
     waiter: Waiter,
     acts: &mut Vec<ControlAct>,
 ) -> Result<(), AllocError>
@@ -68,7 +68,7 @@ pub(crate) fn take_matches<N: BoardName, B: ControlBoard<N>>(
     ensures together { Together (B.bans board.new) (B.slots board.new) N.allowed (view_of core.new) }
     ensures did { OnOk result (Makes B.rests (Matches waiter rows.now) (at board.old core.old acts.old.items) (at board.new core.new acts.new.items)) }
 {
-    let mut found = cancel_each(core, board, rows.as_slice(), waiter, acts)?;
+    let mut found = cancel_each(core, board, rows, waiter, acts)?;
     found.sort_unstable();
     acts.push(ControlAct::Named {
         node: core.node(),

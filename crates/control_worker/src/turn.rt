@@ -11,7 +11,7 @@ use crate::act::ControlAct;
 use crate::bans::{take_ban, take_unban};
 use crate::cancels::{take_ack, take_cancel, take_end};
 use crate::control_core::{Ban, ControlCore};
-use crate::matches::take_matches;
+use crate::gathers::take_part;
 use cancel_core::Waiter;
 use node_boards::ControlBoard;
 use node_link::{Body, Letter, RunName};
@@ -42,11 +42,11 @@ fn take_in<N: RunName, B: ControlBoard<N>>(
             acts,
         ),
         Body::Matches {
-            worker: _,
+            worker,
             cancel,
             rows,
             wait,
-        } => take_matches(core, board, &rows, Waiter { cancel, wait }, acts),
+        } => take_part(core, board, worker, rows, Waiter { cancel, wait }, acts),
         Body::Ended { receipt } => take_end(core, receipt, acts),
         Body::Request(_)
         | Body::Answer(_)
@@ -75,9 +75,9 @@ fn take_in<N: RunName, B: ControlBoard<N>>(
 /// A ban is put on the board and listed, and is acknowledged once each child that the listing handed over has ended or has
 /// its own bans placed. Where the board has no room it is kept back, and is tried again after each unban. Each task that is
 /// marked here has its cancellation begun with the nodes of its mask. A cancel of a task that is not found is answered as
-/// that. A letter for another node, a second ban of a parent, an acknowledgement that is not awaited, and the end of a task
-/// with no cancellation are passed over. Each cancel that an act names is one of the run, so a letter of the run may say what
-/// the act says.
+/// that. The matches of a filter are cancelled once each data worker of the node has told its part. A letter for another node, a
+/// second ban of a parent, an acknowledgement that is not awaited, and the end of a task with no cancellation are passed over. Each
+/// cancel that an act names is one of the run, so a letter of the run may say what the act says.
 ///
 /// It fails only for want of memory. Then what was asked of the board stands, and a first part of the changes to the core
 /// may be made.

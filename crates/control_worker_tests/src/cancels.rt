@@ -17,10 +17,10 @@ use task_ids::{Action, AnyCancel, Headers, Items, TaskId, TaskInfo, Text};
 use task_table::{Check, Full, Ticket, Track};
 
 /// The task that is cancelled.
-const TASK: TaskId = TaskId { node: 1, number: 1 };
+pub(crate) const TASK: TaskId = TaskId { node: 1, number: 1 };
 
 /// Registers a root.
-fn claim_root<D: DataBoard<AnyCancel>>(data: &mut D) -> Option<Ticket>
+pub(crate) fn claim_root<D: DataBoard<AnyCancel>>(data: &mut D) -> Option<Ticket>
     requires fresh { IsFresh (D.has data.old) (D.drawn data.old) }
     ensures held { IfSome result (HasTicket (D.has data.new)) }
 {
@@ -48,7 +48,7 @@ fn is_cleared<D: DataBoard<AnyCancel>>(data: &mut D, ticket: &Ticket) -> bool
 }
 
 /// A row of a live task.
-fn row(alloc: Global, id: TaskId) -> TaskInfo
+pub(crate) fn row(alloc: Global, id: TaskId) -> TaskInfo
     ensures { IsLawfulRow IsCancel result }
 {
     TaskInfo {

@@ -7,6 +7,8 @@ mod bans;
 #[cfg(test)]
 mod cancels;
 #[cfg(test)]
+mod matches;
+#[cfg(test)]
 mod tests;
 #[cfg(test)]
 mod turns;

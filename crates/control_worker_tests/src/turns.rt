@@ -1,5 +1,5 @@
 //! One turn, and what it gave.
-ghost use Rattle.std.specs.Prelude.{◌≡◌, IfOk};
+ghost use Rattle.std.specs.Prelude.{◌≡◌, ◌≤◌, IfOk};
 ghost use Rattle.task_ids.specs.Limits.{IsCancel, IsSlotCount};
 ghost use Rattle.node_link.specs.Lawful.{IsLawful};
 ghost use Rattle.node_boards.specs.Seats.{HasNoBan};
@@ -13,18 +13,20 @@ use node_link::{Body, Letter};
 use std::alloc::{AllocError, Global};
 use task_ids::AnyCancel;
 
-/// A new core of node 1 with one data worker, which belongs to this seat of a board with so many slots.
+/// A new core of node 1 with so many data workers, which belongs to this seat of a board with so many slots.
 pub(crate) fn new_core<C: ControlBoard<AnyCancel>>(
     alloc: Global,
     control: &C,
+    workers: u32,
     slots: u32,
 ) -> Result<ControlCore, AllocError>
+    requires workers { (1 ≤ workers) × (workers ≤ 4) }
     requires fresh { HasNoBan (C.bans control.now) }
     requires count { IsSlotCount slots }
     requires slots { C.slots control.now ≡ slots }
     ensures { IfOk result (λ core. Together (C.bans control.now) (C.slots control.now) IsCancel (view_of core)) }
 {
-    let core = ControlCore::new(alloc, 1, 1, slots)?;
+    let core = ControlCore::new(alloc, 1, workers, slots)?;
     Ok(core)
 }
 

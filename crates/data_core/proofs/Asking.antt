@@ -14,13 +14,15 @@ use Rattle.node_link.specs.declared.body.Body.{Body}
 use Rattle.node_link.specs.declared.body.Body.TheVariants as says
 use Rattle.node_link.specs.declared.body.Place.{Place}
 use Rattle.node_parts.specs.Running.{next_number}
+use Rattle.data_pool.specs.Workers.{worker_of}
+use Rattle.data_pool.specs.declared.pool.Pool.{Pool}
 use Rattle.run_facts.specs.declared.To.TheVariants as towards
 use Rattle.live_tasks.specs.declared.entry.Entry.{Entry}
 use Rattle.live_tasks.specs.Answering.{CanAsk}
 use Rattle.data_parts.specs.Places.{child_place}
 use Rattle.data_core.specs.Plans.{IsOpen, MayAsk}
 use Rattle.data_core.specs.Steps.{asked_post}
-use Rattle.data_core.specs.Turns.{Posts}
+use Rattle.data_core.specs.Turns.{Posts, post}
 
 -- a request is worked on a node of the cluster
 pub node_there : (cluster : Cluster) (t : TaskId) (request : Request) → IsNode (node_for cluster t request)
@@ -43,15 +45,15 @@ pub can_ask_now : (o : Option Entry) (e : Entry) → o ≡ Some e → MayAsk o �
 can_ask_now o e at may = subst MayAsk at may
 
 -- the letter that asks
-module _ (e x : Entry) (same : e ≡ x) (to : ℕ) (request : Request) where
+module _ (pool : Pool) (e x : Entry) (same : e ≡ x) (to : ℕ) (request : Request) where
   abbrev says_so : Place → Token → Headers → Body
   says_so place token headers = says.Request (record { to = to; place = place; token = token; request = request; headers = headers })
 
-  pub asked_so : (place : Place) (token : Token) (headers : Headers) (letter : Body) (posts : Posts) → place ≡ child_place x.place request → token ≡ record { parent = e.running.ticket.id; ask = next_number e.running } → headers ≡ x.running.headers
-      → letter ≡ says_so place token headers → posts ≡ record { to = towards.Data to; letter = letter } ∷ [] → Some posts ≡ Some (asked_post e to request)
-  asked_so place token headers letter posts place_is token_is headers_is letter_is sent =
+  pub asked_so : (worker : ℕ) (place : Place) (token : Token) (headers : Headers) (letter : Body) (posts : Posts) → worker ≡ worker_of pool request → place ≡ child_place x.place request → token ≡ record { parent = e.running.ticket.id; ask = next_number e.running } → headers ≡ x.running.headers
+      → letter ≡ says_so place token headers → posts ≡ record { to = towards.Data to worker; letter = letter } ∷ [] → Some posts ≡ Some (asked_post pool e to request)
+  asked_so worker place token headers letter posts worker_is place_is token_is headers_is letter_is sent =
       let at : place ≡ child_place e.place request = place_is ∙ ap (λ (y : Entry). child_place y.place request) (sym same) in
       let carries : headers ≡ e.running.headers = headers_is ∙ ap (λ (y : Entry). y.running.headers) (sym same) in
       let says_this : letter ≡ says_so (child_place e.place request) (record { parent = e.running.ticket.id; ask = next_number e.running }) e.running.headers =
       letter_is ∙ ap (λ p. says_so p token headers) at ∙ ap (λ t. says_so (child_place e.place request) t headers) token_is ∙ ap (λ h. says_so (child_place e.place request) (record { parent = e.running.ticket.id; ask = next_number e.running }) h) carries in
-      ap Some (sent ∙ ap (λ (b : Body). record { to = towards.Data to; letter = b } ∷ []) says_this)
+      ap Some (sent ∙ ap (λ (b : Body). record { to = towards.Data to worker; letter = b } ∷ []) says_this ∙ ap (λ (w : ℕ). post (towards.Data to w) (says_so (child_place e.place request) (record { parent = e.running.ticket.id; ask = next_number e.running }) e.running.headers)) worker_is)

@@ -25,6 +25,7 @@ then_self a b c first second = record {
   node = second.node ∙ first.node;
   worker = second.worker ∙ first.worker;
   cluster = second.cluster ∙ first.cluster;
+  pool = second.pool ∙ first.pool;
   numbers = second.numbers ∙ first.numbers;
   core = (second.core.0 ∙ first.core.0, second.core.1 ∙ first.core.1);
 }
@@ -45,7 +46,7 @@ sound_stays allowed node has drawn clear old new sound stays same good =
 -- only its live tasks have changed, by calls on the board
 module _ (allowed : ℕ → Type 0) (n m : ℕ) (has held : ℕ → ℕ → Type 0) (drawn unused : Option ℕ) (clear passed : ℕ → Type 0) (old : DataCore) (live : LiveTasks) where
   pub tasks_sound : IsSound allowed n has drawn clear old → Together m held unused passed live → SameCore old.live live → AreGood allowed old.shards live → IsSound allowed m held unused passed (record old { live = live })
-  tasks_sound sound together core good = sound_after allowed n m has held drawn unused clear passed old (record old { live = live }) sound together (record { node = refl; worker = refl; cluster = refl; numbers = refl; core = core }) good
+  tasks_sound sound together core good = sound_after allowed n m has held drawn unused clear passed old (record old { live = live }) sound together (record { node = refl; worker = refl; cluster = refl; pool = refl; numbers = refl; core = core }) good
 
 -- and the contexts of its slices may change
 module _ (allowed : ℕ → Type 0) (n : ℕ) (has : ℕ → ℕ → Type 0) (drawn : Option ℕ) (clear : ℕ → Type 0) (core : DataCore) (contexts : Contexts) where

@@ -47,7 +47,7 @@ pub noted_so : (old : DataCore) (live : LiveTasks) (t : TaskId) (e f : Entry) �
 noted_so old live t e f id change = record { noted = subst (λ (u : TaskId). ChangesTask old.live live u.number f) (sym id) change; rest = refl }
 
 pub tasks_self : (old : DataCore) (live : LiveTasks) → SameCore old.live live → SameSelf old (record old { live = live })
-tasks_self old live core = record { node = refl; worker = refl; cluster = refl; numbers = refl; core = core }
+tasks_self old live core = record { node = refl; worker = refl; cluster = refl; pool = refl; numbers = refl; core = core }
 
 -- what is known of a live task is still known where it is as it was
 pub stays_so : (P : Option Entry → Type 0) (a b : LiveTasks) (n : ℕ) (e : Entry) → entry_at a n ≡ Some e → ChangesTask a b n e → P (entry_at a n) → P (entry_at b n)
@@ -85,7 +85,7 @@ module _ {B : Type 0} (rests : B → B → DataCall → Type 0) (e : Entry) (b d
         (tracks.Cancelled cancel, d, mid, subst (λ n. rests b d (call.track e.running.ticket n (tracks.Cancelled cancel))) its_node called, (noted_so old live t e (after_track e (tracks.Cancelled cancel)) id change, after))
 
     -- it has asked
-    pub asks_so : rests b d (call.track e.running.ticket to tracks.Cleared) → ChangesTask old.live live t.number e → Noted e (after_ask e to (child_place e.place request)) mid new → given ≡ Some (asked_post e to request) → c ≡ d → Asks rests request e b old given new c
+    pub asks_so : rests b d (call.track e.running.ticket to tracks.Cleared) → ChangesTask old.live live t.number e → Noted e (after_ask e to (child_place e.place request)) mid new → given ≡ Some (asked_post old.pool e to request) → c ≡ d → Asks rests request e b old given new c
     asks_so called change noted sent uncalled =
         let place = child_place e.place request in
         let first = noted_so old live t e e id change in
@@ -96,7 +96,7 @@ module _ {B : Type 0} (rests : B → B → DataCall → Type 0) (e : Entry) (b d
           subst (λ n. rests b d (call.track e.running.ticket n tracks.Cleared)) its_node called,
           (
             subst (λ n. Noted e (after_ask e n place) old new) its_node all,
-            subst (λ n. given ≡ Some (asked_post e n request)) its_node sent,
+            subst (λ n. given ≡ Some (asked_post old.pool e n request)) its_node sent,
             uncalled,
           ),
         )

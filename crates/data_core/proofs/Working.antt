@@ -138,7 +138,7 @@ module _ (old : DataCore) (held : HeldShards) (at : ℕ) (s : ShardView) (e : En
       new = record old { live = live; shards = after }
 
       worked_self : SameSelf old new
-      worked_self = record { node = refl; worker = refl; cluster = refl; numbers = turn.numbers; core = core }
+      worked_self = record { node = refl; worker = refl; cluster = refl; pool = refl; numbers = turn.numbers; core = core }
 
       worked_sound : HaveGrown old.shards after → (IsGoodEntry allowed old.shards e → IsGoodEntry allowed after (with_work e w)) → IsSound allowed node has drawn clear new
       worked_sound more good =

@@ -1,6 +1,8 @@
 -- What a core keeps of its tasks and shards, and that it belongs to its seat at the board.
 use Rattle.std.specs.Prelude.{◌≡◌, ℕ, Option, IfSome, is_some}
+use Rattle.task_ids.specs.declared.cluster.Cluster.{Cluster}
 use Rattle.node_link.specs.Lawful.{IsPlace, IsWorker, IsCancelOfRun, is_page}
+use Rattle.data_pool.specs.declared.pool.Pool.{Pool}
 use Rattle.node_parts.specs.Running.{next_number}
 use Rattle.task_work.specs.Works.{place_of}
 use Rattle.held_shards.specs.declared.HeldShards.{HeldShards}
@@ -38,10 +40,17 @@ pub record IsNewDataCore (node : ℕ) (core : DataCore) : Type 0 where
   pub own : core.node ≡ node
   pub worker : IsWorker core.worker
 
--- it is the core of the same worker, with the same shards
+-- the pool of a cluster whose nodes have so many data workers each
+pub record IsPoolOf (cluster : Cluster) (count : ℕ) (pool : Pool) : Type 0 where
+  pub nodes : pool.nodes ≡ cluster.nodes
+  pub shards : pool.shards ≡ cluster.shards
+  pub workers : pool.workers ≡ count
+
+-- it is the core of the same worker of the same pool, with the same shards
 pub record SameSelf (old new : DataCore) : Type 0 where
   pub node : new.node ≡ old.node
   pub worker : new.worker ≡ old.worker
   pub cluster : new.cluster ≡ old.cluster
+  pub pool : new.pool ≡ old.pool
   pub numbers : new.shards.numbers ≡ old.shards.numbers
   pub core : SameCore old.live new.live

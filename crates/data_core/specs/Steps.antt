@@ -19,6 +19,8 @@ use Rattle.node_boards.specs.Calls as call
 use Rattle.node_link.specs.declared.body.Body.{Body}
 use Rattle.node_link.specs.declared.body.Body.TheVariants as says
 use Rattle.node_parts.specs.Running.{next_number}
+use Rattle.data_pool.specs.Workers.{worker_of}
+use Rattle.data_pool.specs.declared.pool.Pool.{Pool}
 use Rattle.run_facts.specs.declared.Post.{Post}
 use Rattle.run_facts.specs.declared.To.TheVariants as to
 use Rattle.live_tasks.specs.declared.entry.Entry.{Entry}
@@ -38,9 +40,9 @@ use Rattle.data_core.specs.Turns.{Posts, post, OnlyTasks}
 
 -- ---- what a task that has ended sends
 
--- its answer, to the node of its parent, or a root's to the driver
+-- its answer, to worker 0 of the node of its parent, since a task that asks works on no shard, or a root's to the driver
 abbrev pub answer_to : Option TaskId → EndedTask → ReceiptParts → Reply → Post Body
-answer_to (Some parent) e receipt reply = record { to = to.Data parent.node; letter = says.Answer (record { place = e.place; receipt = receipt; request = e.request; reply = reply; page = e.page }) }
+answer_to (Some parent) e receipt reply = record { to = to.Data parent.node 0; letter = says.Answer (record { place = e.place; receipt = receipt; request = e.request; reply = reply; page = e.page }) }
 answer_to None e receipt reply = record { to = to.Driver; letter = says.RootAnswer (record { place = e.place; request = e.request; reply = reply; page = e.page }) }
 
 -- where it was marked, the control worker of its node is told that it has ended
@@ -67,9 +69,9 @@ pub record Noted (e after : Entry) (old mid : DataCore) : Type 0 where
   pub noted : ChangesTask old.live mid.live (number_of e) after
   pub rest : OnlyTasks old mid
 
--- the request goes to its node, with the token of the ask
-abbrev pub asked_post : Entry → ℕ → Request → Posts
-asked_post e node request = post (to.Data node) (says.Request (record {
+-- the request goes to its node and to its worker there, with the token of the ask
+abbrev pub asked_post : Pool → Entry → ℕ → Request → Posts
+asked_post pool e node request = post (to.Data node (worker_of pool request)) (says.Request (record {
   to = node;
   place = child_place e.place request;
   token = record { parent = e.running.ticket.id; ask = next_number e.running };
@@ -123,7 +125,7 @@ module _ {B : Type 0} (rests : B → B → DataCall → Type 0) where
       × Noted e (after_look e mark) old mid × UnlessMarked GoesOn mark e d mid given new c
 
   abbrev pub AfterTrack : Track → Request → ℕ → Entry → B → DataCore → DataCore → Given → DataCore → B → Type 0
-  AfterTrack tracks.Cleared request node e d old mid given new c = Noted e (after_ask e node (child_place e.place request)) old new × (given ≡ Some (asked_post e node request)) × (c ≡ d)
+  AfterTrack tracks.Cleared request node e d old mid given new c = Noted e (after_ask e node (child_place e.place request)) old new × (given ≡ Some (asked_post old.pool e node request)) × (c ≡ d)
   AfterTrack (tracks.Cancelled cancel) request node e d old mid given new c = Noted e (after_track e (tracks.Cancelled cancel)) old mid × Finishes (Marked cancel) (after_track e (tracks.Cancelled cancel)) d mid given new c
 
   -- it asks for the child that comes next, unless the board tells that it is marked

@@ -91,11 +91,11 @@ module _ {B : Type 0} (rests : B → B → DataCall → Type 0) where
       ((id : TaskId) × (posts ≡ [])
       × Registers (Some asked.token) asked.place asked.request asked.headers (option_map page_at (context_for old.contexts asked.request old.clock.ms)) (context_for old.contexts asked.request old.clock.ms) id b old new.live c
       × (new ≡ record old { live = new.live; contexts = with_use_by old.contexts id asked.request old.clock.ms }))
-      ⊎ ((posts ≡ post (to.Data asked.to) (says.Request asked)) × FindsNone (Some asked.token.parent) b old new.live c × OnlyTasks old new)
+      ⊎ ((posts ≡ post (to.Data asked.to old.worker) (says.Request asked)) × FindsNone (Some asked.token.parent) b old new.live c × OnlyTasks old new)
 
   abbrev pub RequestBecomes : Admission → Asked → B → DataCore → Posts → DataCore → B → Type 0
   RequestBecomes PassedOver asked b old posts new c = PassesOver b old posts new c
-  RequestBecomes Rejected asked b old posts new c = OnlySends (post (to.Data asked.token.parent.node) (says.Answer (rejected old.node asked))) b old posts new c
+  RequestBecomes Rejected asked b old posts new c = OnlySends (post (to.Data asked.token.parent.node 0) (says.Answer (rejected old.node asked))) b old posts new c
   RequestBecomes Taken asked b old posts new c = Requested asked b old posts new c
 
   -- a root is live, which the driver is told; or its start comes to this worker again
@@ -104,7 +104,7 @@ module _ {B : Type 0} (rests : B → B → DataCall → Type 0) where
       ((id : TaskId) × (posts ≡ post to.Driver (says.Root start.place.command id))
       × Registers None start.place start.request start.headers start.page (context_of_start start.request start.page) id b old new.live c
       × OnlyTasks old new)
-      ⊎ ((posts ≡ post (to.Data old.node) (says.Start start)) × FindsNone None b old new.live c × OnlyTasks old new)
+      ⊎ ((posts ≡ post (to.Data old.node old.worker) (says.Start start)) × FindsNone None b old new.live c × OnlyTasks old new)
 
   abbrev pub StartBecomes : Admission → Start → B → DataCore → Posts → DataCore → B → Type 0
   StartBecomes PassedOver start b old posts new c = PassesOver b old posts new c

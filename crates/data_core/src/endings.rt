@@ -100,7 +100,14 @@ fn letters_of<W: Run>(
     Ok(posts)
 }
 
-/// The answer of a task that has ended, to its parent's node, or a root's to the driver.
+/// The worker of a node at which the tasks live that ask: such a task works on no shard, so it is one of worker 0.
+pub(crate) fn asker_at(node: u32) -> To
+    ensures { result ≡ To.Data node 0 }
+{
+    To::Data { node, worker: 0 }
+}
+
+/// The answer of a task that has ended, to its parent, or a root's to the driver.
 fn answer<W: Run>(left: EndedTask, ended: Ended, reply: Reply) -> Post<Letter<Of<W>>>
     requires lawful { IsLawfulEnd (cancels_of W.cancels) left reply }
     requires tells { IsAnswerAt W.setting left.place left.request left.page reply }
@@ -118,7 +125,7 @@ fn answer<W: Run>(left: EndedTask, ended: Ended, reply: Reply) -> Post<Letter<Of
     let receipt = ended.receipt;
     match receipt.parent() {
         Some(parent) => Post {
-            to: To::Data(parent.node),
+            to: asker_at(parent.node),
             letter: Letter::new(Body::Answer(Answered {
                 place,
                 receipt,

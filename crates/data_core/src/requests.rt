@@ -16,6 +16,7 @@ ghost use Rattle.task_events.specs.Answered.{as_answered};
 ghost use Rattle.run_facts.specs.Cancels.{cancels_of};
 ghost use Rattle.task_ids.specs.Limits.{IsNode};
 
+use crate::endings::asker_at;
 use crate::starts::page_in;
 use crate::state::DataCore;
 use child_track::AskToken;
@@ -114,7 +115,7 @@ fn rejection<W: Run>(node: u32, asked: Asked) -> Result<Post<Letter<Of<W>>>, Sto
     requires node { IsNode node }
     requires lawful { IsPlace asked.place }
     requires tells { IsAskOf W.setting asked }
-    ensures post { IfOk result (λ post. post ≡ record { to = To.Data asked.token.parent.node; letter = Body.Answer (rejected node asked) }) }
+    ensures post { IfOk result (λ post. post ≡ record { to = To.Data asked.token.parent.node 0; letter = Body.Answer (rejected node asked) }) }
     ensures memory { IfErr result (λ stop. stop ≡ Stop.Memory) }
 {
     let Asked {
@@ -130,7 +131,7 @@ fn rejection<W: Run>(node: u32, asked: Asked) -> Result<Post<Letter<Of<W>>>, Sto
     let token = token.into_token();
     let parent = token.parent();
     Ok(Post {
-        to: To::Data(parent.node),
+        to: asker_at(parent.node),
         letter: Letter::new(Body::Answer(Answered {
             place,
             receipt: token.reject(),
@@ -267,18 +268,18 @@ fn register_child<W: Run, B: DataBoard<Of<W>>>(
             use_context(&mut core.contexts, task, &start.request, now);
             Ok(Vec::new(core.alloc))
         }
-        Registered::Full(Some(token)) => one(core.alloc, again(to, token, start)),
+        Registered::Full(Some(token)) => one(core.alloc, again(to, core.worker, token, start)),
         Registered::Full(None) => unreachable!(),
     }
 }
 
 /// The request for a child, which comes to this worker again.
-fn again<W: Run>(to: u32, token: AskToken, start: Start) -> Post<Letter<Of<W>>>
+fn again<W: Run>(to: u32, worker: u32, token: AskToken, start: Start) -> Post<Letter<Of<W>>>
     requires to { IsNode to }
     requires place { IsPlace start.place }
     requires asked { IsRequestAt W.setting start.place (as_answered start.request) }
     requires pages { is_page (as_answered start.request) ≡ true → sought_at W.setting start.place ≡ None }
-    ensures { result ≡ record { to = To.Data to; letter = Body.Request (record { to = to; place = start.place; token = token; request = start.request; headers = start.headers }) } }
+    ensures { result ≡ record { to = To.Data to worker; letter = Body.Request (record { to = to; place = start.place; token = token; request = start.request; headers = start.headers }) } }
 {
     let Start {
         place,
@@ -288,7 +289,7 @@ fn again<W: Run>(to: u32, token: AskToken, start: Start) -> Post<Letter<Of<W>>>
     } = start;
     drop(page);
     Post {
-        to: To::Data(to),
+        to: To::Data { node: to, worker },
         letter: Letter::new(Body::Request(Asked {
             to,
             place,

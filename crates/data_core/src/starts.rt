@@ -166,7 +166,7 @@ fn register_root<W: Run, B: DataBoard<Of<W>>>(
     let command = start.place.command;
     match registered(start_root(core, board, &start)?) {
         Some(task) => one(core.alloc, root_post(command, task)),
-        None => one(core.alloc, start_again(core.node, start)),
+        None => one(core.alloc, start_again(core.node, core.worker, start)),
     }
 }
 
@@ -181,14 +181,14 @@ fn root_post<W: Run>(command: u32, task: TaskId) -> Post<Letter<Of<W>>>
     }
 }
 
-/// The start of a root, which comes to the data worker of this node again.
-fn start_again<W: Run>(node: u32, start: Start) -> Post<Letter<Of<W>>>
+/// The start of a root, which comes to this worker again.
+fn start_again<W: Run>(node: u32, worker: u32, start: Start) -> Post<Letter<Of<W>>>
     requires lawful { IsLawfulStart (cancels_of W.cancels) start }
     requires tells { IsStartOf W.setting start }
-    ensures { result ≡ record { to = To.Data node; letter = Body.Start start } }
+    ensures { result ≡ record { to = To.Data node worker; letter = Body.Start start } }
 {
     Post {
-        to: To::Data(node),
+        to: To::Data { node, worker },
         letter: Letter::new(Body::Start(start)),
     }
 }

@@ -6,13 +6,15 @@ ghost use Rattle.std.specs.FinMap as finite;
 ghost use Rattle.task_ids.specs.Limits.{IsNode};
 ghost use Rattle.task_ids.specs.Placing.{node_of};
 ghost use Rattle.node_link.specs.Lawful.{IsWorker};
+ghost use Rattle.run_facts.specs.Inboxes.{IsPoolSize};
 ghost use Rattle.held_shards.specs.Held.{HasLines};
 ghost use Rattle.live_tasks.specs.Live.{count, entry_at, number_at, IsBeyond, HasId};
 ghost use Rattle.live_tasks.specs.Ties.{AreTasks};
-ghost use Rattle.data_core.specs.Cores.{IsNewDataCore};
+ghost use Rattle.data_core.specs.Cores.{IsNewDataCore, IsPoolOf};
 ghost use Rattle.data_core.specs.Plans.{does_work};
 
 use data_parts::{Clock, takes_turn};
+use data_pool::Pool;
 use held_shards::HeldShards;
 use live_tasks::LiveTasks;
 use scroll_table::ScrollTable;
@@ -24,6 +26,8 @@ use task_ids::{Cluster, Corpus, TaskId};
 pub struct DataCore {
     pub(crate) alloc: Global,
     pub(crate) cluster: Cluster,
+    /// How many workers share the work of the cluster.
+    pub(crate) pool: Pool,
     /// The worker's node, from 1.
     pub(crate) node: u32,
     /// The worker's number among those of its node, from 0.
@@ -38,18 +42,20 @@ pub struct DataCore {
 }
 
 impl DataCore {
-    /// The core of a worker with this number on a node, at which so many tasks may be live at once. It holds exactly the named shards,
-    /// which lie on its node, with their lines of the corpus. It belongs to each fresh seat of the node's board. It fails only for want
-    /// of memory.
+    /// The core of a worker with this number on a node of a cluster whose nodes have so many data workers each, from 1 to 4. So many tasks
+    /// may be live here at once, which may be none. It holds exactly the named shards, which lie on its node, with their lines of the corpus.
+    /// It belongs to each fresh seat of the node's board. It fails only for want of memory.
     pub fn new(
         alloc: Global,
         cluster: &Cluster,
+        workers: u32,
         node: u32,
         worker: u32,
         quota: u32,
         shards: Vec<u32>,
         corpus: &Corpus,
     ) -> Result<DataCore, AllocError>
+        requires workers { IsPoolSize workers }
         requires node { IsNode node }
         requires worker { IsWorker worker }
         requires there { All (λ shard. node_of shard cluster.now.nodes ≡ node) shards.items }
@@ -57,6 +63,7 @@ impl DataCore {
         ensures held { IfOk result (λ core. core.shards.numbers ≡ shards) }
         ensures lines { IfOk result (λ core. HasLines corpus.now.lines cluster.now.shards core.shards) }
         ensures contexts { IfOk result (λ core. core.contexts ≡ finite.empty) }
+        ensures pool { IfOk result (λ core. IsPoolOf cluster.now workers core.pool) }
         ensures begins { IfOk result (λ core. (core.clock.ms ≡ 0) × (core.clock.draining ≡ false) × (core.leaving ≡ false)) }
         ensures own { IfOk result (λ core. (core.node ≡ node) × (core.worker ≡ worker) × (core.cluster ≡ cluster.now) × (core.live.quota ≡ quota)) }
     {
@@ -64,6 +71,11 @@ impl DataCore {
         Ok(DataCore {
             alloc,
             cluster: *cluster,
+            pool: Pool {
+                nodes: cluster.nodes,
+                shards: cluster.shards,
+                workers,
+            },
             node,
             worker,
             clock: Clock::new(),
@@ -94,6 +106,14 @@ impl DataCore {
         ensures range { IsNode result }
     {
         self.cluster.nodes
+    }
+
+    /// How many data workers each node of the cluster has, from 1 to 4.
+    pub fn workers(&self) -> u32
+        ensures workers { result ≡ self.now.pool.workers }
+        ensures range { IsPoolSize result }
+    {
+        self.pool.workers
     }
 
     /// Whether the worker was told to end once it has no live task.

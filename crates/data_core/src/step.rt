@@ -17,6 +17,7 @@ ghost use Rattle.data_core.specs.Steps.{Stepped, Checks, DoesPlan, Asks, Looks, 
 use crate::endings::finish;
 use crate::state::DataCore;
 use data_parts::{Ending, child_place, moment_of, one, or_memory, plan_of};
+use data_pool::worker_of;
 use node_boards::DataBoard;
 use node_link::{Asked, Body, Letter, SentToken};
 use node_parts::kinds::node_for;
@@ -129,7 +130,7 @@ fn ask_next<W: Run, B: DataBoard<Of<W>>>(
     }
 }
 
-/// The task asks for the child that comes next, on this node.
+/// The task asks for the child that comes next, on this node, of the worker that holds the request's shard there.
 fn ask_child<W: Run, B: DataBoard<Of<W>>>(
     core: &mut DataCore,
     board: &B,
@@ -149,7 +150,7 @@ fn ask_child<W: Run, B: DataBoard<Of<W>>>(
     ensures own { SameSelf core.old core.new }
     ensures memory { IfErr result (λ stop. stop ≡ Stop.Memory) }
     ensures asked { (e : Entry) → entry_at core.old.live task.number ≡ Some e → IfOk result (λ given.
-        Noted e (after_ask e to (child_place e.place request)) core.old core.new × (option_map (λ posts. posts.items) given ≡ Some (asked_post e to request))) }
+        Noted e (after_ask e to (child_place e.place request)) core.old core.new × (option_map (λ posts. posts.items) given ≡ Some (asked_post core.old.pool e to request))) }
 {
     let _ = board;
     let Some(entry) = core.live.get(task.number) else {
@@ -159,8 +160,9 @@ fn ask_child<W: Run, B: DataBoard<Of<W>>>(
     let place = child_place(&entry.place, &request);
     let now = moment_of(&entry.running.work, &core.clock);
     let token = core.live.ask(task.number, to, place, now)?;
+    let worker = worker_of(&core.pool, &request);
     let post = Post {
-        to: To::Data(to),
+        to: To::Data { node: to, worker },
         letter: Letter::new(Body::Request(Asked {
             to,
             place,

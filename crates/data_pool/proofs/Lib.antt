@@ -1,3 +1,4 @@
 pub mod Holding
 pub mod IdOrder
+pub mod Quotas
 pub mod Undone

@@ -1,5 +1,5 @@
 -- Which data worker of a node does what.
-use Rattle.std.specs.Prelude.{ℕ, ◌/◌, ◌%◌, ◌==◌, ◌&&◌, Bool, List, filter}
+use Rattle.std.specs.Prelude.{ℕ, ◌+◌, ◌/◌, ◌%◌, ◌==◌, ◌&&◌, nat_lt, if◌then◌else◌, Bool, List, filter}
 use Rattle.std.specs.List.{range_with_len}
 use Rattle.std.specs.Option.{option_map_or}
 use Rattle.task_ids.specs.Placing.{node_of}
@@ -22,3 +22,11 @@ is_held pool node worker shard = (node_of shard pool.nodes == node) && (worker_o
 -- the shards of a worker of a node, ascending
 abbrev pub shards_of : Pool → ℕ → ℕ → List ℕ
 shards_of pool node worker = filter (is_held pool node worker) (range_with_len 0 pool.shards)
+
+-- the share of a worker where each has so many, and the workers below a number have one more
+abbrev pub share_of : ℕ → ℕ → ℕ → ℕ
+share_of each more worker = each + (if nat_lt worker more then 1 else 0)
+
+-- how many of a node's slots a worker has, where so many workers share them out as evenly as they can be
+abbrev pub quota_of : ℕ → ℕ → ℕ → ℕ
+quota_of slots count worker = share_of (slots / count) (slots % count) worker

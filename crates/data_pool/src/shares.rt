@@ -1,9 +1,11 @@
-//! How the shards and the tasks of each node are shared out among its data workers.
-ghost use Rattle.std.specs.Prelude.{◌≡◌, ◌<◌, IfOk, IfSome, All, Contains};
+//! How the shards, the tasks and the slots of each node are shared out among its data workers.
+ghost use Rattle.std.specs.Prelude.{◌≡◌, ◌<◌, ℕ, IfOk, IfSome, All, Contains, sum_by};
+ghost use Rattle.std.specs.List.{range_with_len};
 ghost use Rattle.task_events.specs.Kinds.{kind_of};
 ghost use Rattle.task_events.specs.declared.request.Request.{Request};
 ghost use Rattle.task_ids.specs.Placing.{node_of};
 ghost use Rattle.data_pool.specs.Workers as workers;
+ghost use Rattle.data_pool.specs.Workers.{quota_of};
 ghost use Rattle.data_pool.specs.declared.pool.Pool.{Pool};
 
 use crate::pool::Pool;
@@ -49,4 +51,23 @@ pub fn shards_of(alloc: Global, pool: &Pool, node: u32, worker: u32) -> Result<V
 pub fn requests_find_their_shards()
     ensures { (pool : Pool) (request : Request) → IfSome (kind_of request).place (λ place.
         place.1 < pool.shards → Contains (workers.shards_of pool (node_of place.1 pool.nodes) (workers.worker_of pool request)) place.1) }
+{}
+
+/// How many tasks may be live at once at a data worker of a node that has so many slots and so many workers, numbered from 0. Of slots that
+/// cannot be shared out evenly, the workers with the lowest numbers have one more. It may be none.
+pub fn quota_of(slots: u32, workers: u32, worker: u32) -> u32
+    requires workers { 0 < workers }
+    ensures { result ≡ quota_of slots workers worker }
+{
+    let each = slots / workers;
+    if worker < slots % workers {
+        each + 1
+    } else {
+        each
+    }
+}
+
+/// The quotas of all workers of a node add up to its slots, so a worker that is below its quota finds a slot: a law.
+pub fn quotas_add_up()
+    ensures { (slots count : ℕ) → 0 < count → sum_by (quota_of slots count) (range_with_len 0 count) ≡ slots }
 {}

@@ -1,5 +1,5 @@
 -- What a data worker did as a kind of worker.
-use Rattle.std.proofs.Common.{◌≡◌, inl, inr, ℕ, true, List, Option, None, Some, filter_map, refl, subst, ap, ◌∙◌}
+use Rattle.std.proofs.Common.{◌≡◌, inl, inr, ℕ, true, List, Option, None, Some, filter_map, refl, subst, ◌∙◌}
 use Rattle.task_ids.specs.declared.task_id.TaskId.{TaskId}
 use Rattle.node_boards.specs.Calls.{DataCall}
 use Rattle.node_link.specs.declared.body.Body.{Body}
@@ -19,32 +19,32 @@ some_live task None h = absurd h
 some_live task (Some e) h = (e, refl)
 
 module _ {B : Type 0} where
-  pub said_once : (v w : Seen B) (posts : List (Post Body)) (nodes node worker : ℕ) → MaySay v → nodes ≡ v.core.cluster.nodes → node ≡ v.core.node → worker ≡ v.core.worker
-      → posts ≡ filter_map (addressed nodes) (post (to.Control node) (says.DataLeft worker)) → w ≡ record v { has_said = true } → Said posts v w
+  pub said_once : (v w : Seen B) (posts : List (Post Body)) (nodes workers node worker : ℕ) → MaySay v → nodes ≡ v.core.cluster.nodes → workers ≡ v.core.pool.workers → node ≡ v.core.node → worker ≡ v.core.worker
+      → posts ≡ filter_map (addressed nodes workers) (post (to.Control node) (says.DataLeft worker)) → w ≡ record v { has_said = true } → Said posts v w
   unfolding Said
-  said_once v w posts nodes node worker may ns own number given now = record {
+  said_once v w posts nodes workers node worker may ns many own number given now = record {
     may = may;
-    given = given ∙ (λ i. filter_map (addressed (ns i)) (post (to.Control (own i)) (says.DataLeft (number i))));
+    given = given ∙ (λ i. filter_map (addressed (ns i) (many i)) (post (to.Control (own i)) (says.DataLeft (number i))));
     now = now;
   }
 
 module _ {B : Type 0} (rests : B → B → DataCall → Type 0) where
-  pub took_letter : (v w : Seen B) (letter : Body) (posts : List (Post Body)) (gave : Posts) (nodes : ℕ) → Turned rests letter v.board v.core gave w.core w.board → nodes ≡ v.core.cluster.nodes
-      → posts ≡ filter_map (addressed nodes) gave → w.last ≡ v.last → w.has_said ≡ v.has_said → Took rests letter posts v w
+  pub took_letter : (v w : Seen B) (letter : Body) (posts : List (Post Body)) (gave : Posts) (nodes workers : ℕ) → Turned rests letter v.board v.core gave w.core w.board → nodes ≡ v.core.cluster.nodes → workers ≡ v.core.pool.workers
+      → posts ≡ filter_map (addressed nodes workers) gave → w.last ≡ v.last → w.has_said ≡ v.has_said → Took rests letter posts v w
   unfolding Took
-  took_letter v w letter posts gave nodes turned ns given last said = record {
+  took_letter v w letter posts gave nodes workers turned ns many given last said = record {
     gave = gave;
     turned = turned;
-    given = given ∙ ap (λ (n : ℕ). filter_map (addressed n) gave) ns;
+    given = given ∙ (λ i. filter_map (addressed (ns i) (many i)) gave);
     last = last;
     said = said;
   }
 
-  pub stepped_on : (v w : Seen B) (posts : List (Post Body)) (gave : Posts) (given : core.Given) (nodes : ℕ) (task : TaskId) (e : Entry) → IsNextInTurn v.last task v.core.live → entry_at v.core.live task.number ≡ Some e
-      → core.Stepped rests e v.board v.core given w.core w.board → given ≡ Some gave → nodes ≡ v.core.cluster.nodes → posts ≡ filter_map (addressed nodes) gave → w.last ≡ Some task → w.has_said ≡ v.has_said → Stepped rests posts v w
+  pub stepped_on : (v w : Seen B) (posts : List (Post Body)) (gave : Posts) (given : core.Given) (nodes workers : ℕ) (task : TaskId) (e : Entry) → IsNextInTurn v.last task v.core.live → entry_at v.core.live task.number ≡ Some e
+      → core.Stepped rests e v.board v.core given w.core w.board → given ≡ Some gave → nodes ≡ v.core.cluster.nodes → workers ≡ v.core.pool.workers → posts ≡ filter_map (addressed nodes workers) gave → w.last ≡ Some task → w.has_said ≡ v.has_said → Stepped rests posts v w
   unfolding Stepped
-  stepped_on v w posts gave given nodes task e next live stepped is ns sent last said =
-      (gave, record { task = task; next = next; entry = e; live = live; stepped = subst (λ (g : core.Given). core.Stepped rests e v.board v.core g w.core w.board) is stepped; last = last; said = said }, sent ∙ ap (λ (n : ℕ). filter_map (addressed n) gave) ns)
+  stepped_on v w posts gave given nodes workers task e next live stepped is ns many sent last said =
+      (gave, record { task = task; next = next; entry = e; live = live; stepped = subst (λ (g : core.Given). core.Stepped rests e v.board v.core g w.core w.board) is stepped; last = last; said = said }, sent ∙ (λ i. filter_map (addressed (ns i) (many i)) gave))
 
   pub waited_on : (v w : Seen B) (given : core.Given) (task : TaskId) (e : Entry) → IsNextInTurn v.last task v.core.live → entry_at v.core.live task.number ≡ Some e
       → core.Stepped rests e v.board v.core given w.core w.board → given ≡ None → w.last ≡ Some task → w.has_said ≡ v.has_said → Waited rests v w

@@ -31,7 +31,7 @@ seen state = record { core = state.core; board = state.board; last = state.last;
 
 -- these letters, each with the number of its inbox
 abbrev pub sent : DataCore → Posts → List (Post Body)
-sent core gave = filter_map (addressed core.cluster.nodes) gave
+sent core gave = filter_map (addressed core.cluster.nodes core.pool.workers) gave
 
 -- no task is live
 abbrev pub HasNone : LiveTasks → Type 0

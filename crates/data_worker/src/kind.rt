@@ -9,15 +9,14 @@ use es_io::{Gate, Spot};
 use node_boards::DataBoard;
 use node_link::{Body, Letter};
 use node_worker::{Post, Turns};
-use run_facts::{Of, Run};
+use run_facts::{Of, Run, driver_of};
 use std::alloc::Global;
 use task_events::Stop;
 
 /// The data worker of a node: its core, and its seat of the node's board.
 ///
-/// The inboxes of its cluster are numbered by the nodes, two for each: first that of its control worker, and then that of its
-/// data worker. The driver's is the last. It passes the gate before each turn of work. It does one step of each live task after
-/// the other, by ascending id, and begins again at the lowest.
+/// It passes the gate before each turn of work. It does one step of each live task after the other, by ascending id, and begins again at
+/// the lowest.
 #[derive(Drop)]
 pub struct DataKind<'g, W: Run, B: DataBoard<Of<W>>, G: Gate> {
     state: DataState<W, B>,
@@ -49,7 +48,7 @@ impl<'g, W: Run, B: DataBoard<Of<W>>, G: Gate> DataKind<'g, W, B, G> {
 impl<'g, W: Run, B: DataBoard<Of<W>>, G: Gate> Turns<Of<W>> for DataKind<'g, W, B, G> {
     ghost use Rattle.run_facts.specs.Cancels.{cancels_of};
     ghost use Rattle.node_link.specs.declared.body.Body.{Body};
-    ghost use Rattle.node_worker.specs.ControlPosts.{driver_of};
+    ghost use Rattle.run_facts.specs.Inboxes.{driver_of};
     ghost use Rattle.data_worker.specs.Data.{Does, Rests, Fits, IsOfRun, seen};
 
     ghost did = { λ v given posts w. Does B.rests (seen v.state) given posts (seen w.state) };
@@ -84,10 +83,10 @@ impl<'g, W: Run, B: DataBoard<Of<W>>, G: Gate> Turns<Of<W>> for DataKind<'g, W, 
 
     /// It goes to the driver.
     fn farewell(&self, stop: Stop) -> Post<Letter<Of<W>>>
-        ensures { (result.letter ≡ Body.Stopped stop) × (result.to ≡ driver_of self.now.state.core.cluster.nodes) }
+        ensures { (result.letter ≡ Body.Stopped stop) × (result.to ≡ driver_of self.now.state.core.pool.workers self.now.state.core.cluster.nodes) }
     {
         Post {
-            to: 2 * self.state.core.nodes(),
+            to: driver_of(self.state.core.workers(), self.state.core.nodes()),
             letter: Letter::new(Body::Stopped(stop)),
         }
     }

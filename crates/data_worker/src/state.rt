@@ -81,7 +81,7 @@ impl<W: Run, B: DataBoard<Of<W>>> DataState<W, B> {
     {
         self.idle = 0;
         let gave = data_turn(&mut self.core, &mut self.board, Letter::new(body))?;
-        match address(self.alloc, self.core.nodes(), gave) {
+        match address(self.alloc, self.core.nodes(), self.core.workers(), gave) {
             Ok(posts) => Ok(posts),
             Err(stop) => Err(stop),
         }
@@ -131,7 +131,7 @@ impl<W: Run, B: DataBoard<Of<W>>> DataState<W, B> {
             return Ok(None);
         };
         self.idle = 0;
-        match address(self.alloc, self.core.nodes(), gave) {
+        match address(self.alloc, self.core.nodes(), self.core.workers(), gave) {
             Ok(posts) => Ok(Some(posts)),
             Err(stop) => Err(stop),
         }
@@ -164,7 +164,12 @@ impl<W: Run, B: DataBoard<Of<W>>> DataState<W, B> {
                 worker: self.core.worker(),
             }),
         };
-        let posts = address(self.alloc, self.core.nodes(), one(self.alloc, left)?)?;
+        let posts = address(
+            self.alloc,
+            self.core.nodes(),
+            self.core.workers(),
+            one(self.alloc, left)?,
+        )?;
         self.has_said = true;
         Ok(Some(posts))
     }

@@ -195,6 +195,9 @@ fn push_pairs(out: &mut String, command: &str, value: &Value) -> Result<(), Allo
         "scroll" | "clear_scroll" if has(value, "scroll_id") == named => {
             out.push_str("; one of scroll_id and command is to be there, and not both")
         }
+        "get_task" | "forget_task" if has(value, "task_id") == named => {
+            out.push_str("; one of task_id and command is to be there, and not both")
+        }
         "cancel" if has(value, "task_id") && named => {
             out.push_str("; task_id and command exclude each other")
         }

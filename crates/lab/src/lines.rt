@@ -27,10 +27,12 @@ pub fn line_of(alloc: Global, made: &Move) -> Result<String, AllocError> {
 }
 
 /// Where a command names an earlier one.
-const NAMED: [&str; 4] = [
+const NAMED: [&str; 6] = [
     "/cancel/command",
     "/scroll/command",
     "/clear_scroll/command",
+    "/get_task/command",
+    "/forget_task/command",
     "/wait_for/command",
 ];
 

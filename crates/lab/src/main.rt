@@ -71,7 +71,9 @@ struct Output {
 fn planned(alloc: Global, words: &[String]) -> Result<Cluster, Fault> {
     match plan(alloc, words) {
         Ok(Plan::Sim(cluster)) => Ok(cluster),
-        Ok(Plan::Run(_)) | Ok(Plan::Gen(_)) | Err(PlanError::Usage) => Err(Fault::Usage),
+        Ok(Plan::Run(_) | Plan::Pool { .. } | Plan::Gen(_)) | Err(PlanError::Usage) => {
+            Err(Fault::Usage)
+        }
         Err(PlanError::Memory) => Err(Fault::Memory),
     }
 }

@@ -4,14 +4,14 @@ use Rattle.std.proofs.lemmas.List.{drop_more}
 use Rattle.task_ids.specs.declared.cluster.Cluster.{Cluster}
 use Rattle.task_ids.specs.declared.corpus.Corpus.{Corpus}
 use Rattle.script_lang.specs.declared.command.Command.{Command}
-use Rattle.script_lang.specs.declared.command.Command.TheVariants.{Search, Scroll, ClearScroll, Reindex, Tick, Cancel, ListTasks, Deliver, Step, ListStep, Settle, Shuffle, WaitFor, History, Summary}
+use Rattle.script_lang.specs.declared.command.Command.TheVariants.{Search, Scroll, ClearScroll, Reindex, Tick, Cancel, ListTasks, GetTask, ForgetTask, ListResults, Deliver, Step, ListStep, Settle, Shuffle, WaitFor, History, Summary}
 use Rattle.script_lang.specs.declared.command.Script.{Script}
 use Rattle.task_events.specs.declared.event.Event.{Event}
 use Rattle.task_events.specs.Printed.{shards_read}
 use Rattle.task_events.specs.Tasks.{reply_of}
 use Rattle.task_events.specs.Turns.{events_of, history_before}
 use Rattle.line_print.specs.declared.note.Note.{Note}
-use Rattle.line_print.specs.Lines.{first_in, full_node_in, started, search_line, page_refusal, clear_line, tick_line, summary_line, idle_error, idle_line, list_line, moved_line, line_of, lines_from, note_of, printed, printed_by, TellsNote, IsFound}
+use Rattle.line_print.specs.Lines.{first_in, full_node_in, started, search_line, page_refusal, clear_line, completed_task, forget_line, get_line, results_line, tick_line, summary_line, idle_error, idle_line, list_line, moved_line, line_of, lines_from, note_of, printed, printed_by, TellsNote, IsFound}
 
 -- lines that are the same at each place
 same_lines : (f g : ℕ → Command → List ℕ) (k : ℕ) (commands : List Command) → ((i : ℕ) (command : Command) → slice_get commands i ≡ Some command → f (k + i) command ≡ g (k + i) command) → lines_from f k commands ≡ lines_from g k commands
@@ -30,11 +30,15 @@ same_line : (cluster : Cluster) (corpus : Corpus) (script : List Command) (histo
 same_line cluster corpus script history k (Search index node scroll body opaque_id) noted other h = refl
 same_line cluster corpus script history k (Scroll target keep opaque_id) noted other h =
     ap (λ (n : Option Note). search_line shards_read script k (page_refusal n (first_in full_node_in (events_of k history))) (option_and_then (λ t. reply_of t history) (started k history))) (h tt)
-same_line cluster corpus script history k (Reindex node body slices rate opaque_id) noted other h = refl
+same_line cluster corpus script history k (Reindex node body slices rate opaque_id store) noted other h = refl
 same_line cluster corpus script history k (ClearScroll target) noted other h = ap (clear_line k) (h tt)
 same_line cluster corpus script history k (Tick ms) noted other h = ap (tick_line k) (h tt)
 same_line cluster corpus script history k (Cancel target reason wait) noted other h = refl
 same_line cluster corpus script history k (ListTasks wanted group detailed) noted other h = ap (list_line k) (h tt)
+same_line cluster corpus script history k (GetTask target wait) noted other h =
+    ap (λ (n : Option Note). get_line script k n (option_and_then (λ t. reply_of t history) (completed_task n))) (h tt)
+same_line cluster corpus script history k (ForgetTask target) noted other h = ap (forget_line k) (h tt)
+same_line cluster corpus script history k ListResults noted other h = ap (results_line k) (h tt)
 same_line cluster corpus script history k Settle noted other h = refl
 same_line cluster corpus script history k (Shuffle seed moves) noted other h = refl
 same_line cluster corpus script history k (WaitFor number) noted other h = refl

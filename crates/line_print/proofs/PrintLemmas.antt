@@ -7,7 +7,8 @@ use Rattle.serde_json.specs.View.{items_of}
 use Rattle.serde_json.specs.Written.{comma_if, compact_text, items_text}
 use Rattle.task_events.specs.declared.reply.Hit.{Hit}
 use Rattle.task_events.specs.declared.reply.SearchReply.{SearchReply}
-use Rattle.line_print.specs.Lines.{error_line, text_line}
+use Rattle.task_events.specs.declared.reply.Counts.{Counts}
+use Rattle.line_print.specs.Lines.{error_line, running_json, running_text, status_json, text_line}
 use Rattle.task_events.specs.Printed.{hit_json, hits_json, shards_json, search_json, total_json, scroll_member, object_of, reply_line}
 use Rattle.task_ids.specs.TaskId.{task_id_text}
 use Rattle.task_ids.specs.declared.task_id.TaskId.{TaskId}
@@ -86,6 +87,15 @@ text_parts command text o = appended_five o _ _ _ _ _
 -- a line whose reply is the text of a value is that of the value
 pub text_is_reply : (command : ℕ) (reply : Data) → text_line command (compact_text reply) ≡ reply_line command reply
 text_is_reply command reply = line_parts command reply
+
+-- what a get tells of a live task is the text of a value
+pub running_is_json : (task : Data) (status : Option Counts) → running_text (compact_text task) status ≡ compact_text (running_json task status)
+unfolding escape_byte
+running_is_json task None = refl
+running_is_json task (Some counts) = ap (λ text. codes "{\"completed\":false,\"status\":" ++ text) (append_assoc (compact_text (status_json counts)) (codes ",") (codes "\"task\":" ++ (compact_text task ++ codes "}")))
+
+pub running_is_reply : (command : ℕ) (task : Data) (status : Option Counts) → text_line command (running_text (compact_text task) status) ≡ reply_line command (running_json task status)
+running_is_reply command task status = ap (text_line command) (running_is_json task status) ∙ text_is_reply command (running_json task status)
 
 -- the same, appended part by part
 pub line_text : (command : ℕ) (reply : Data) (o : List ℕ)

@@ -9,7 +9,7 @@ use Rattle.task_events.specs.declared.reply.FailedShard.{FailedShard}
 use Rattle.task_events.specs.declared.reply.ShardFailure.{ShardFailure}
 use Rattle.task_events.specs.declared.reply.ShardFailure.TheVariants.{Cancelled, Rejected}
 use Rattle.line_print.specs.Errors.{shard_failure, failed_shard, all_shards_failed}
-use Rattle.line_print.specs.Lines.{cancelled}
+use Rattle.line_print.specs.Lines.{cancelled, results_json}
 
 shard_whole : (shard : ℕ) (failure : ShardFailure) → has_float (shard_failure shard failure) ≡ false
 shard_whole shard (Cancelled task cancel) = refl
@@ -28,3 +28,6 @@ ids_whole (t ∷ tasks) = ids_whole tasks
 
 pub cancelled_whole : (tasks : List TaskId) (wait : Bool) → has_float (cancelled tasks wait) ≡ false
 cancelled_whole tasks wait = rw (ids_whole tasks) refl
+
+pub results_whole : (tasks : List TaskId) → has_float (results_json tasks) ≡ false
+results_whole tasks = rw (ids_whole tasks) refl

@@ -20,6 +20,11 @@ use Rattle.script_lang.specs.declared.command.Command.{Command}
 use Rattle.script_lang.specs.declared.command.Command.TheVariants as commands
 use Rattle.script_lang.specs.declared.command.Script.{Script}
 use Rattle.command_roots.specs.Known.{is_known}
+use Rattle.std.specs.FinMap.{keys}
+use Rattle.task_results.specs.Stands.{is_stored, results_at}
+use Rattle.command_roots.specs.declared.results.TaskFound.{TaskFound}
+use Rattle.command_roots.specs.declared.results.TaskFound.TheVariants.{Live, Ended, Missing}
+use Rattle.command_roots.specs.Results.{found_of, has_result, keeping, status_of, task_named}
 use Rattle.command_roots.specs.Roots.{context_named, least_size, page_answer, rows_of, scripted}
 use Rattle.scroll_table.specs.declared.context.PageError.{PageError}
 use Rattle.task_events.specs.declared.context.Context.{Context}
@@ -38,9 +43,10 @@ use Rattle.task_events.specs.Texts.{event_text}
 use Rattle.task_events.specs.Clock.{clock}
 use Rattle.task_events.specs.Contexts.{can_clear, context_at}
 use Rattle.task_events.specs.Turns.{events_of, events_before, history_before}
-use Rattle.tasks_api.specs.Lists.{list_text}
+use Rattle.task_events.specs.TaskRows.{row_of}
+use Rattle.tasks_api.specs.Lists.{list_text, task_text}
 use Rattle.line_print.specs.declared.note.Note.{Note}
-use Rattle.line_print.specs.declared.note.Note.TheVariants.{NoSuchMessage, NotRunning, Waiting, NoListing, NoPage, Freed, Moment, Listed, Counted}
+use Rattle.line_print.specs.declared.note.Note.TheVariants.{NoSuchMessage, NotRunning, Waiting, NoListing, NoPage, Freed, Moment, Listed, Counted, Running, Completed, NoResult, Forgotten, Results}
 use Rattle.line_print.specs.Errors.{body_error, reindex_error, index_not_found, rejected, task_cancelled, all_shards_failed, not_found, context_error, plain_error, no_such_message}
 
 -- the line of a command that has no reply
@@ -140,10 +146,18 @@ abbrev pub cancelled_json : List ℕ → Counts → Data
 cancelled_json reason counts = object_of ((codes "batches", count counts.batches) ∷ (codes "canceled", string reason) ∷ (codes "created", count counts.created) ∷ (codes "total", count counts.total) ∷ (codes "updated", count counts.updated) ∷ [])
 
 -- How a reindex ended: well, or cancelled. It tells in either case what it has done.
+abbrev pub wrote_json : List Command → Reply → Option Data
+wrote_json script (Wrote counts) = Some (done_json counts)
+wrote_json script (Cancelled t c counts) = Some (cancelled_json (reason_of script c) counts)
+wrote_json script _ = None
+
+-- the line of a command whose reply is this, where it has one
+abbrev pub told_line : ℕ → Option Data → List ℕ
+told_line k (Some reply) = reply_line k reply
+told_line k None = []
+
 abbrev pub wrote_line : List Command → ℕ → Option Reply → List ℕ
-wrote_line script k (Some (Wrote counts)) = reply_line k (done_json counts)
-wrote_line script k (Some (Cancelled t c counts)) = reply_line k (cancelled_json (reason_of script c) counts)
-wrote_line script k _ = []
+wrote_line script k reply = told_line k (option_and_then (wrote_json script) reply)
 
 -- why a reindex has no task, or how its task ended
 abbrev pub reindex_line : List Command → ℕ → Option Data → Option Reply → List ℕ
@@ -214,8 +228,20 @@ page_note id (Ok context) = None
 abbrev pub frees : Script → Option TaskId → List Event → Bool
 frees script id past = can_clear None (option_and_then (λ t. context_at (scripted script) t past) id)
 
+-- a live task for which a get does not wait
+abbrev pub running_note : Script → TaskId → List Event → Option Note
+running_note script t past = option_map (λ row. Running (task_text (clock past) row) (status_of script t past)) (row_of (scripted script) t past)
+
+-- what a get finds, which waits or not
+abbrev pub get_note : Script → Bool → List Event → TaskFound → Option Note
+get_note script wait past (Missing t) = Some (NoResult t)
+get_note script wait past (Ended t) = Some (Completed t true)
+get_note script true past (Live t) = Some (Completed t (is_stored (keeping script) t past))
+get_note script false past (Live t) = running_note script t past
+
 -- why a line of a schedule makes nothing happen or a scroll has no page, whether a clear frees a context, the moment after a tick, the
--- reply of a list, or how many tasks, bans and writes came and went
+-- reply of a list, what a get finds, whether a forget takes a result away, the results that stand, or how many tasks, bans and writes came
+-- and went
 abbrev pub note_of : Cluster → Script → Command → List Event → Option Note
 note_of cluster script (commands.Deliver nth) past = Some (NoSuchMessage (length (in_flight past)))
 note_of cluster script (commands.Step t) past = Some (if is_live t past then Waiting else NotRunning)
@@ -224,6 +250,9 @@ note_of cluster script (commands.ListTasks wanted group detailed) past = Some (L
 note_of cluster script (commands.Scroll target keep opaque_id) past = page_note (context_named target past) (page_answer script target past)
 note_of cluster script (commands.ClearScroll target) past = Some (Freed (frees script (context_named target past) past))
 note_of cluster script (commands.Tick ms) past = Some (Moment (clock past + ms))
+note_of cluster script (commands.GetTask target wait) past = get_note script wait past (found_of script target past)
+note_of cluster script (commands.ForgetTask target) past = Some (Forgotten (has_result script (task_named target past) past))
+note_of cluster script commands.ListResults past = Some (Results (keys (results_at (keeping script) past)))
 note_of cluster script commands.Summary past = Some (Counted (summary_of past))
 note_of cluster script _ past = None
 
@@ -237,6 +266,63 @@ text_line k text = codes "{\"command\":" ++ (decimal k ++ (codes ",\"reply\":" +
 abbrev pub list_line : ℕ → Option Note → List ℕ
 list_line k (Some (Listed text)) = text_line k text
 list_line k _ = []
+
+-- ---- results
+
+-- what a reindex has done so far
+abbrev pub status_json : Counts → Data
+status_json counts = object_of ((codes "batches", count counts.batches) ∷ (codes "created", count counts.created) ∷ (codes "total", count counts.total) ∷ (codes "updated", count counts.updated) ∷ [])
+
+-- the member of that, where there is something to tell
+abbrev pub status_text : Option Counts → List ℕ
+status_text None = []
+status_text (Some counts) = codes "\"status\":" ++ (compact_text (status_json counts) ++ codes ",")
+
+-- a live task of which this is the text
+abbrev pub running_text : List ℕ → Option Counts → List ℕ
+running_text task status = codes "{\"completed\":false," ++ (status_text status ++ (codes "\"task\":" ++ (task ++ codes "}")))
+
+-- what that text says: a live task that a list shows so
+abbrev pub running_json : Data → Option Counts → Data
+running_json task None = object_of ((codes "completed", boolean false) ∷ (codes "task", task) ∷ [])
+running_json task (Some counts) = object_of ((codes "completed", boolean false) ∷ (codes "status", status_json counts) ∷ (codes "task", task) ∷ [])
+
+-- the reply of a task, where it is told
+abbrev pub response_part : Option Data → List (List ℕ × Data)
+response_part None = []
+response_part (Some response) = (codes "response", response) ∷ []
+
+-- a task that has ended
+abbrev pub completed_json : TaskId → Option Data → Data
+completed_json t response = object_of ((codes "completed", boolean true) ∷ (response_part response ++ (codes "task", string (task_id_text t)) ∷ []))
+
+-- the task that has ended, of which a get tells
+abbrev pub completed_task : Option Note → Option TaskId
+completed_task (Some (Completed t stored)) = Some t
+completed_task _ = None
+
+-- what a get finds; the reply of a task that has ended is told where it is stored
+abbrev pub get_line : List Command → ℕ → Option Note → Option Reply → List ℕ
+get_line script k (Some (Running task status)) reply = text_line k (running_text task status)
+get_line script k (Some (Completed t stored)) reply = reply_line k (completed_json t (if stored then option_and_then (wrote_json script) reply else None))
+get_line script k (Some (NoResult t)) reply = error_line k (not_found t)
+get_line script k _ reply = []
+
+-- whether a result was taken away
+abbrev pub forgotten_json : Bool → Data
+forgotten_json stood = object_of ((codes "forgotten", boolean stood) ∷ [])
+
+abbrev pub forget_line : ℕ → Option Note → List ℕ
+forget_line k (Some (Forgotten stood)) = reply_line k (forgotten_json stood)
+forget_line k _ = []
+
+-- the tasks whose results stand
+abbrev pub results_json : List TaskId → Data
+results_json tasks = object_of ((codes "tasks", array (items_of (map (λ t. string (task_id_text t)) tasks))) ∷ [])
+
+abbrev pub results_line : ℕ → Option Note → List ℕ
+results_line k (Some (Results tasks)) = reply_line k (results_json tasks)
+results_line k _ = []
 
 -- ---- summaries
 
@@ -274,18 +360,22 @@ settled events = object_of ((codes "events", count events) ∷ [])
 -- ---- all lines
 
 -- The line of a command. The last is what was noted of it, which tells what a list lists, why a scroll has no page, what a clear freed, the
--- moment after a tick, the numbers of a summary, and of a line of a schedule why nothing happened.
+-- moment after a tick, what a get found, what a forget took away, which results stand, the numbers of a summary, and of a line of a schedule
+-- why nothing happened.
 abbrev pub line_of : Cluster → Corpus → List Command → List Event → ℕ → Command → Option Note → List ℕ
 line_of cluster corpus script history k (commands.Search index node scroll body opaque_id) noted =
     search_line (λ reply. cluster.shards) script k (refusal index (body_at (is_some scroll) (least_size scroll) body) (is_known corpus script index) (first_in full_node_in (events_of k history))) (option_and_then (λ t. reply_of t history) (started k history))
 line_of cluster corpus script history k (commands.Scroll target keep opaque_id) noted =
     search_line shards_read script k (page_refusal noted (first_in full_node_in (events_of k history))) (option_and_then (λ t. reply_of t history) (started k history))
-line_of cluster corpus script history k (commands.Reindex node body slices rate opaque_id) noted =
+line_of cluster corpus script history k (commands.Reindex node body slices rate opaque_id store) noted =
     reindex_line script k (reindex_refusal (is_known corpus script) (reindex_at body) (first_in full_node_in (events_of k history))) (option_and_then (λ t. reply_of t history) (started k history))
 line_of cluster corpus script history k (commands.ClearScroll target) noted = clear_line k noted
 line_of cluster corpus script history k (commands.Tick ms) noted = tick_line k noted
 line_of cluster corpus script history k (commands.Cancel target reason wait) noted = cancel_line k (target_in script history target) wait (events_of k history)
 line_of cluster corpus script history k (commands.ListTasks wanted group detailed) noted = list_line k noted
+line_of cluster corpus script history k (commands.GetTask target wait) noted = get_line script k noted (option_and_then (λ t. reply_of t history) (completed_task noted))
+line_of cluster corpus script history k (commands.ForgetTask target) noted = forget_line k noted
+line_of cluster corpus script history k commands.ListResults noted = results_line k noted
 line_of cluster corpus script history k commands.Settle noted = reply_line k (settled (length (events_of k history)))
 line_of cluster corpus script history k (commands.Shuffle seed moves) noted = reply_line k (settled (length (events_of k history)))
 line_of cluster corpus script history k (commands.WaitFor number) noted = reply_line k (settled (length (events_of k history)))
@@ -308,12 +398,16 @@ printed cluster corpus script history = lines_from (λ k command. line_of cluste
 abbrev pub printed_by : List (Option Note) → Cluster → Corpus → List Command → List Event → List ℕ
 printed_by found cluster corpus script history = lines_from (λ k command. line_of cluster corpus script history k command (unwrap_or (slice_get found (k - 1)) None)) 1 script
 
--- the line of a command tells what was noted of it: the command is a list, a scroll, a clear, a tick or a summary, or nothing happened
+-- the line of a command tells what was noted of it: the command is a list, a scroll, a clear, a tick, a summary or about results, or nothing
+-- happened
 abbrev pub TellsNote : ℕ → Command → List Event → Type 0
 TellsNote k (commands.ListTasks wanted group detailed) history = ⊤
 TellsNote k (commands.Scroll target keep opaque_id) history = ⊤
 TellsNote k (commands.ClearScroll target) history = ⊤
 TellsNote k (commands.Tick ms) history = ⊤
+TellsNote k (commands.GetTask target wait) history = ⊤
+TellsNote k (commands.ForgetTask target) history = ⊤
+TellsNote k commands.ListResults history = ⊤
 TellsNote k commands.Summary history = ⊤
 TellsNote k _ history = events_of k history ≡ []
 

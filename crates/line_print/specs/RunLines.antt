@@ -19,7 +19,7 @@ use Rattle.line_print.specs.Lines.{error_line, ended_line, wrote_line, cleared, 
 abbrev pub ended_as : Cluster → List Command → ℕ → Command → Reply → List ℕ
 ended_as cluster script k (commands.Search index node scroll body opaque_id) reply = ended_line (λ found. cluster.shards) script k (Some reply)
 ended_as cluster script k (commands.Scroll target keep opaque_id) reply = ended_line shards_read script k (Some reply)
-ended_as cluster script k (commands.Reindex node body slices rate opaque_id) reply = wrote_line script k (Some reply)
+ended_as cluster script k (commands.Reindex node body slices rate opaque_id store) reply = wrote_line script k (Some reply)
 ended_as cluster script k _ reply = []
 
 -- how a root ended, or that its node had no slot for it

@@ -52,7 +52,7 @@ fn push_id(alloc: Global, values: &mut Vec<Value>, task: TaskId) -> Result<(), A
 }
 
 /// The ids of tasks, in order.
-fn ids_value(alloc: Global, tasks: &[TaskId]) -> Result<Value, AllocError>
+pub(crate) fn ids_value(alloc: Global, tasks: &[TaskId]) -> Result<Value, AllocError>
     ensures { IfOk result (λ value. view value ≡ array (items_of (map (λ t. string (task_id_text t)) tasks.now))) }
 {
     let mut values = Vec::new(alloc);

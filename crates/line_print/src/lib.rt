@@ -15,6 +15,7 @@ mod print;
 mod reindex_lines;
 mod replied;
 mod reply;
+mod result_lines;
 mod run;
 mod scroll_lines;
 mod searches;
@@ -24,7 +25,7 @@ mod turns;
 mod write;
 
 pub use known::indices_of;
-pub use laws::list_is_a_reply;
+pub use laws::{list_is_a_reply, live_task_is_a_reply};
 pub use lines::print_lines;
 pub use note::Note;
 pub use replied::print_reply;

@@ -11,6 +11,7 @@ use crate::list_lines::list_line;
 use crate::moves::{moved_line, settled_line};
 use crate::note::Note;
 use crate::reindex_lines::reindex_line;
+use crate::result_lines::{forget_line, get_line, results_line};
 use crate::run::Run;
 use crate::scroll_lines::{clear_line, scroll_line, tick_line};
 use crate::searches::search_line;
@@ -55,6 +56,9 @@ fn command_line(
             cancel_line(alloc, out, k, run.target(target), *wait, turn)
         }
         Command::ListTasks { .. } => list_line(alloc, out, k, note),
+        Command::GetTask { .. } => get_line(alloc, out, run, k, note),
+        Command::ForgetTask { .. } => forget_line(alloc, out, k, note),
+        Command::ListResults => results_line(alloc, out, k, note),
         Command::Settle | Command::Shuffle { .. } | Command::WaitFor { .. } => {
             settled_line(alloc, out, k, turn.len())
         }
@@ -123,10 +127,12 @@ fn run_lines(
 ///
 /// A search tells its hits, as Elasticsearch's search API does, and the id by which its context is scrolled, or why it has none; a
 /// scroll the next page of them, or why there is none; a reindex what it has written, or why nothing; a clear whether it freed a context; a tick the moment; a cancel the tasks that it
-/// named; a list the tasks that it shows; `deliver`, `step` and `list_step` the events that they made, or why they made none; `settle`, `shuffle`
+/// named; a list the tasks that it shows; a get a live task or its stored reply, or that there is neither; a forget whether there was one; a
+/// list of results their tasks; `deliver`, `step` and `list_step` the events that they made, or why they made none; `settle`, `shuffle`
 /// and `wait_for` how many they made; `history` all events before it; `summary` how many tasks, bans and writes came and went.
 ///
-/// At the place of its command `found` has what was noted of it: of each list what it lists, of each scroll why it has no page, if it
+/// At the place of its command `found` has what was noted of it: of each list what it lists, of each get what it finds, of each forget whether a
+/// result stands, of each list of results their tasks, of each scroll why it has no page, if it
 /// has none, of each clear whether it frees a context, of each tick the moment after it, of each summary its numbers, and of each line of a schedule that made nothing
 /// happen why. Where memory runs out a part of the output may have been appended.
 pub fn print_lines(

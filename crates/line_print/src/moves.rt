@@ -29,7 +29,12 @@ fn idle_error(alloc: Global, note: Option<&Note>) -> Result<Option<Value>, Alloc
             | Note::Freed(_)
             | Note::Moment(_)
             | Note::Listed(_)
-            | Note::Counted(_),
+            | Note::Counted(_)
+            | Note::Running { .. }
+            | Note::Completed { .. }
+            | Note::NoResult(_)
+            | Note::Forgotten(_)
+            | Note::Results(_),
         )
         | None => return Ok(None),
     };

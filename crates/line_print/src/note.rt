@@ -1,5 +1,5 @@
 use scroll_table::PageError;
-use task_events::Summary;
+use task_events::{Counts, Summary};
 use task_ids::{Items, TaskId};
 
 /// What was noted of a command before it ran: why it makes nothing happen, if it makes nothing happen, or what its reply tells.
@@ -30,4 +30,24 @@ pub enum Note {
     Listed(Items<u8>),
     /// How many tasks, bans and writes came and went.
     Counted(Summary),
+    /// A `get_task` that does not wait, of a live task.
+    Running {
+        /// The task as a detailed list shows it: a text, JSON.
+        task: Items<u8>,
+        /// What it has done so far, where it is the root of a reindex.
+        status: Option<Counts>,
+    },
+    /// A `get_task` of a task that has ended and has a result, or that is waited for.
+    Completed {
+        /// The task.
+        task: TaskId,
+        /// Whether its reply is stored.
+        stored: bool,
+    },
+    /// A `get_task` of a task that is not live and has no result; none where the command that was named started no task.
+    NoResult(Option<TaskId>),
+    /// Whether a `forget_task` takes a result away.
+    Forgotten(bool),
+    /// The tasks whose results stand, ascending.
+    Results(Items<TaskId>),
 }

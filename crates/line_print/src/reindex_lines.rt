@@ -7,7 +7,7 @@ ghost use Rattle.command_roots.specs.Known.{is_known};
 ghost use Rattle.task_events.specs.Printed.{reply_line};
 ghost use Rattle.task_events.specs.Tasks.{reply_of};
 ghost use Rattle.task_events.specs.Turns.{events_of};
-ghost use Rattle.line_print.specs.Lines.{reason_of, first_in, full_node_in, started, ending, reindex_refusal, done_json, cancelled_json, wrote_line, reindex_line};
+ghost use Rattle.line_print.specs.Lines.{reason_of, first_in, full_node_in, started, ending, reindex_refusal, done_json, cancelled_json, wrote_json, wrote_line, reindex_line};
 ghost use Rattle.line_print.specs.Looked.{IsReady};
 
 use crate::errors;
@@ -74,6 +74,40 @@ fn cancelled_json(alloc: Global, reason: &str, counts: Counts) -> Result<Value, 
     Ok(Value::Object(updated))
 }
 
+/// What a reindex tells that ended with a reply.
+fn wrote_json(alloc: Global, script: &[Command], reply: &Reply) -> Result<Option<Value>, AllocError>
+    ensures { IfOk result (λ told. option_map view told ≡ wrote_json script.now reply.now) }
+{
+    match reply {
+        Reply::Wrote(counts) => Ok(Some(done_json(alloc, counts.get())?)),
+        Reply::Cancelled { cancel, counts, .. } => {
+            let reason = reason_of(script, *cancel);
+            Ok(Some(cancelled_json(alloc, reason, counts.get())?))
+        }
+        _ => Ok(None),
+    }
+}
+
+/// What a reindex tells whose task ended with an event.
+pub(crate) fn end_json(
+    alloc: Global,
+    script: &[Command],
+    event: &Event,
+) -> Result<Option<Value>, AllocError>
+    ensures { IfOk result (λ told. option_map view told ≡ option_and_then (wrote_json script.now) (option_map (λ end. end.1) (ending event.now))) }
+{
+    match event {
+        Event::End { reply, .. } => wrote_json(alloc, script, reply),
+        Event::Refuse { task, cancel } => {
+            let reply = Reply::cancelled(*task, *cancel);
+            let told = wrote_json(alloc, script, &reply);
+            drop(reply);
+            told
+        }
+        _ => Ok(None),
+    }
+}
+
 /// Appends the line of a reindex whose task ended with a reply.
 pub(crate) fn replied_line(
     alloc: Global,
@@ -84,14 +118,10 @@ pub(crate) fn replied_line(
 ) -> Result<(), AllocError>
     ensures { OnOk result (out.new.items ≡ out.old.items ++ wrote_line script.now command (Some reply.now)) }
 {
-    let told = match reply {
-        Reply::Wrote(counts) => done_json(alloc, counts.get())?,
-        Reply::Cancelled { cancel, counts, .. } => {
-            cancelled_json(alloc, reason_of(script, *cancel), counts.get())?
-        }
-        _ => return Ok(()),
-    };
-    reply_line(alloc, out, command, told)
+    match wrote_json(alloc, script, reply)? {
+        Some(told) => reply_line(alloc, out, command, told),
+        None => Ok(()),
+    }
 }
 
 /// Appends the line of a reindex whose task ended with an event.
@@ -105,15 +135,9 @@ fn end_line(
     ensures { OnOk result (out.new.items
         ≡ out.old.items ++ wrote_line script.now command (option_map (λ end. end.1) (ending event.now))) }
 {
-    match event {
-        Event::End { reply, .. } => replied_line(alloc, out, script, command, reply),
-        Event::Refuse { task, cancel } => {
-            let reply = Reply::cancelled(*task, *cancel);
-            let line = replied_line(alloc, out, script, command, &reply);
-            drop(reply);
-            line
-        }
-        _ => Ok(()),
+    match end_json(alloc, script, event)? {
+        Some(told) => reply_line(alloc, out, command, told),
+        None => Ok(()),
     }
 }
 

@@ -16,8 +16,6 @@ mod name;
 mod page;
 mod rule;
 mod steps;
-#[cfg(test)]
-mod tests;
 
 pub use body::{Answered, Asked, Body, Place, RootAnswered, SentToken, Start};
 pub use ends::{Back, Receiver, Sender, SenderEnd, Tally, inbox};

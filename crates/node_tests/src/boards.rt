@@ -33,7 +33,7 @@ fn data_core(alloc: Global) -> Option<DataCore>
     };
     let read = read_corpus(alloc, DOCS.as_bytes()).ok()?;
     let shards = vec![in alloc; 0, 1].ok()?;
-    DataCore::new(alloc, &cluster, 1, 0, 64, shards, &read.corpus).ok()
+    DataCore::new(alloc, &cluster, 1, 1, 0, 64, shards, &read.corpus).ok()
 }
 
 // Plays on a board with these seats of its two workers.

@@ -98,7 +98,7 @@ pub fn run<
     }
     let workers = Workers {
         controls: one(alloc, worker(alloc, control, of_control))?,
-        datas: one(alloc, worker(alloc, data, of_data))?,
+        datas: one(alloc, one(alloc, worker(alloc, data, of_data))?)?,
         driver,
     };
     let mut drive = Driver {

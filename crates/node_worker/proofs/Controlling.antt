@@ -1,5 +1,5 @@
 -- What a control worker did as a kind of worker.
-use Rattle.std.proofs.Common.{◌≡◌, ◌≤◌, ℕ, true, false, List, [], ap, ◌∙◌}
+use Rattle.std.proofs.Common.{◌≡◌, ◌≤◌, ℕ, true, false, List, [], ◌∙◌}
 use Rattle.task_ids.specs.declared.task_id.TaskId.{TaskId}
 use Rattle.child_track.specs.NodeSet.{has_node}
 use Rattle.node_boards.specs.Calls.{ControlCall}
@@ -15,22 +15,22 @@ use Rattle.node_worker.specs.ControlPosts.{act_posts, left_posts}
 use Rattle.node_worker.specs.Leaving.{Noted}
 
 module _ {B : Type 0} where
-  pub said_once : (v w : Seen B) (posts : List (Post Body)) (node : ℕ) → MaySay v → node ≡ v.core.node → posts ≡ left_posts node v.nodes → w ≡ record v { left = record v.left { has_said = true } } → Said posts v w
+  pub said_once : (v w : Seen B) (posts : List (Post Body)) (workers node : ℕ) → MaySay v → workers ≡ v.core.workers → node ≡ v.core.node → posts ≡ left_posts workers node v.nodes → w ≡ record v { left = record v.left { has_said = true } } → Said posts v w
   unfolding Said
-  said_once v w posts node may own given now = record {
+  said_once v w posts workers node may many own given now = record {
     may = may;
-    given = given ∙ ap (λ (n : ℕ). left_posts n v.nodes) own;
+    given = given ∙ (λ i. left_posts (many i) (own i) v.nodes);
     now = now;
   }
 
 module _ {B : Type 0} (rests : B → B → ControlCall → Type 0) where
-  pub took_letter : (v w : Seen B) (letter : Body) (posts : List (Post Body)) (acts : List ControlAct) (node : ℕ) → Turned rests v.board v.core letter acts w.core w.board → node ≡ v.core.node → posts ≡ act_posts v.nodes node acts
+  pub took_letter : (v w : Seen B) (letter : Body) (posts : List (Post Body)) (acts : List ControlAct) (workers node : ℕ) → Turned rests v.board v.core letter acts w.core w.board → workers ≡ v.core.workers → node ≡ v.core.node → posts ≡ act_posts workers v.nodes node acts
       → Noted letter v.left w.left → w.nodes ≡ v.nodes → Took rests letter posts v w
   unfolding Took
-  took_letter v w letter posts acts node turned own given left nodes = record {
+  took_letter v w letter posts acts workers node turned many own given left nodes = record {
     acts = acts;
     turned = turned;
-    given = given ∙ ap (λ (n : ℕ). act_posts v.nodes n acts) own;
+    given = given ∙ (λ i. act_posts (many i) v.nodes (own i) acts);
     left = left;
     nodes = nodes;
   }

@@ -1,11 +1,10 @@
 -- What a control worker does as a kind of worker.
 use Rattle.std.specs.Prelude.{◌≡◌, ◌≤◌, ℕ, true, false, List, []}
-use Rattle.task_ids.specs.declared.task_id.TaskId.{TaskId}
 use Rattle.child_track.specs.NodeSet.{has_node}
 use Rattle.node_boards.specs.Calls.{ControlCall}
 use Rattle.node_boards.specs.Seats.{HasNoBan}
 use Rattle.control_worker.specs.declared.act.ControlAct.{ControlAct}
-use Rattle.control_worker.specs.View.{View, view_of, is_under_way}
+use Rattle.control_worker.specs.View.{View, view_of, IsIdle}
 use Rattle.control_worker.specs.Turn.{Turned}
 use Rattle.control_worker.specs.Together.{Together}
 use Rattle.node_link.specs.declared.body.Body.{Body}
@@ -27,16 +26,16 @@ abbrev pub seen : {N B : Type 0} → ControlState N B → Seen B
 seen state = record { nodes = state.cluster.nodes; core = view_of state.core; board = state.board; left = state.left }
 
 module _ {B : Type 0} where
-  -- it has not said that it has left; its data worker has, and no cancellation is under way
+  -- it has not said that it has left; its data workers have, and no cancellation is under way
   pub record MaySay (v : Seen B) : Type 0 where
     pub unsaid : v.left.has_said ≡ false
-    pub data_left : v.left.has_data ≡ true
-    pub idle : (task : TaskId) → is_under_way task v.core ≡ false
+    pub data_left : (n : ℕ) → 1 ≤ n → n ≤ v.core.workers → has_node v.left.«data» n ≡ true
+    pub idle : IsIdle v.core
 
   -- it might say that it has left, and says so
   pub record Saying (posts : List (Post Body)) (v w : Seen B) : Type 0 where
     pub may : MaySay v
-    pub given : posts ≡ left_posts v.core.node v.nodes
+    pub given : posts ≡ left_posts v.core.workers v.core.node v.nodes
     pub now : w ≡ record v { left = record v.left { has_said = true } }
 
   unfoldable pub Said : List (Post Body) → Seen B → Seen B → Type 0
@@ -47,7 +46,7 @@ module _ {B : Type 0} (rests : B → B → ControlCall → Type 0) where
   pub record Taking (letter : Body) (posts : List (Post Body)) (v w : Seen B) : Type 0 where
     pub acts : List ControlAct
     pub turned : Turned rests v.board v.core letter acts w.core w.board
-    pub given : posts ≡ act_posts v.nodes v.core.node acts
+    pub given : posts ≡ act_posts v.core.workers v.nodes v.core.node acts
     pub left : Noted letter v.left w.left
     pub nodes : w.nodes ≡ v.nodes
 

@@ -1,5 +1,5 @@
 -- Which workers a control worker knows to have left.
-use Rattle.std.specs.Prelude.{◌≡◌, ℕ, true, false, ◌||◌, ◌==◌}
+use Rattle.std.specs.Prelude.{◌≡◌, ℕ, false, ◌+◌, ◌||◌, ◌==◌}
 use Rattle.child_track.specs.declared.nodes.NodeSet.{NodeSet}
 use Rattle.child_track.specs.NodeSet.{has_node}
 use Rattle.node_link.specs.declared.body.Body.{Body}
@@ -8,16 +8,22 @@ use Rattle.node_worker.specs.declared.left.Left.{Left}
 
 -- none is known to have left
 abbrev pub NobodyLeft : Left → Type 0
-NobodyLeft left = (left.has_data ≡ false) × (left.has_said ≡ false) × ((n : ℕ) → has_node left.control n ≡ false)
+NobodyLeft left = (left.has_said ≡ false) × ((n : ℕ) → has_node left.«data» n ≡ false) × ((n : ℕ) → has_node left.control n ≡ false)
 
 -- the set with one node more
 abbrev pub With : ℕ → NodeSet → NodeSet → Type 0
 With node old new = (n : ℕ) → has_node new n ≡ (has_node old n || (n == node))
 
+-- a data worker of the node has left, which stands in the set as a node that is one more
+pub record HeardOfData (worker : ℕ) (old new : Left) : Type 0 where
+  pub «data» : With (worker + 1) old.«data» new.«data»
+  pub control : new.control ≡ old.control
+  pub has_said : new.has_said ≡ old.has_said
+
 -- the control worker of a node has left
 pub record HeardOf (node : ℕ) (old new : Left) : Type 0 where
   pub control : With node old.control new.control
-  pub has_data : new.has_data ≡ old.has_data
+  pub «data» : new.«data» ≡ old.«data»
   pub has_said : new.has_said ≡ old.has_said
 
 -- what a letter says of a worker that has left is noted
@@ -37,7 +43,7 @@ Noted says.Leave old new = new ≡ old
 Noted (says.Stop cause) old new = new ≡ old
 Noted (says.Matches worker cancel rows wait) old new = new ≡ old
 Noted (says.Ended receipt) old new = new ≡ old
-Noted (says.DataLeft worker) old new = new ≡ record old { has_data = true }
+Noted (says.DataLeft worker) old new = HeardOfData worker old new
 Noted (says.ControlLeft node) old new = HeardOf node old new
 Noted (says.Root command task) old new = new ≡ old
 Noted (says.RootAnswer answered) old new = new ≡ old

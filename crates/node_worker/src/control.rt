@@ -21,8 +21,8 @@ use task_events::Stop;
 
 /// The control worker of a node: its core, its seat of the node's board, and which workers have left.
 ///
-/// The inboxes of its cluster are numbered by the nodes, two for each: first that of its control worker, and then that of its
-/// data worker. The driver's is the last. Each task that the worker marks passes the gate.
+/// It sends by the numbers of its cluster's inboxes (`run_facts`), of which each node has one more than data workers. Each task that the
+/// worker marks passes the gate.
 #[derive(Drop)]
 pub struct ControlKind<'g, W: Run, B: ControlBoard<Of<W>>, G: Gate> {
     state: ControlState<Of<W>, B>,
@@ -30,7 +30,8 @@ pub struct ControlKind<'g, W: Run, B: ControlBoard<Of<W>>, G: Gate> {
 }
 
 impl<'g, W: Run, B: ControlBoard<Of<W>>, G: Gate> ControlKind<'g, W, B, G> {
-    /// The control worker of a node with one data worker, in a cluster of so many nodes. The core belongs to the seat.
+    /// The control worker of a node in a cluster of so many nodes, each with as many data workers as its core was made for. The core belongs
+    /// to the seat.
     pub fn new(
         alloc: Global,
         nodes: u32,
@@ -70,7 +71,7 @@ impl<'g, W: Run, B: ControlBoard<Of<W>>, G: Gate> ControlKind<'g, W, B, G> {
 impl<'g, W: Run, B: ControlBoard<Of<W>>, G: Gate> Turns<Of<W>> for ControlKind<'g, W, B, G> {
     ghost use Rattle.run_facts.specs.Cancels.{cancels_of};
     ghost use Rattle.node_link.specs.declared.body.Body.{Body};
-    ghost use Rattle.node_worker.specs.ControlPosts.{driver_of};
+    ghost use Rattle.run_facts.specs.Inboxes.{driver_of};
     ghost use Rattle.node_worker.specs.Control.{Does, Rests, Fits, seen};
 
     ghost did = { λ v given posts w. Does B.rests (seen v.state) given posts (seen w.state) };
@@ -103,8 +104,12 @@ impl<'g, W: Run, B: ControlBoard<Of<W>>, G: Gate> Turns<Of<W>> for ControlKind<'
 
     /// It goes to the driver.
     fn farewell(&self, stop: Stop) -> Post<Letter<Of<W>>>
-        ensures { (result.letter ≡ Body.Stopped stop) × (result.to ≡ driver_of self.now.state.cluster.nodes) }
+        ensures { (result.letter ≡ Body.Stopped stop) × (result.to ≡ driver_of (seen self.now.state).core.workers self.now.state.cluster.nodes) }
     {
-        to_driver(self.state.cluster.nodes, Body::Stopped(stop))
+        to_driver(
+            self.state.core.workers(),
+            self.state.cluster.nodes,
+            Body::Stopped(stop),
+        )
     }
 }

@@ -1,47 +1,48 @@
-// The letters of a control worker, with their addresses.
-//
-// The inboxes of a cluster are numbered by its nodes, two for each: first that of its control worker, and then that of its data
-// worker. The driver's is the last.
+// The letters of a control worker, with their addresses, in a cluster of so many nodes with so many data workers each.
 ghost use Rattle.std.specs.Prelude.{◌≡◌, ◌≤◌, filter_map, All, IfOk};
 ghost use Rattle.task_ids.specs.Limits.{IsNode};
+ghost use Rattle.run_facts.specs.Inboxes.{IsPoolSize};
 ghost use Rattle.node_link.specs.declared.body.Body.{Body};
 ghost use Rattle.node_link.specs.Lawful.{IsLawful};
 ghost use Rattle.control_worker.specs.Lawful.{IsLawfulAct, IsLawfulCore};
-ghost use Rattle.node_worker.specs.ControlPosts.{IsOfControl, control_of, driver_of, is_own, to_control, to_driver, core_post, act_post, left_posts};
+ghost use Rattle.node_worker.specs.ControlPosts.{IsOfControl, is_own, to_control, to_driver, core_post, act_post, left_posts};
 
 use crate::post::Post;
 use cancel_core::Act;
 use child_track::Receipt;
 use control_worker::ControlAct;
 use node_link::{Body, Letter, RunName};
+use run_facts::{control_of, driver_of};
 use std::alloc::{AllocError, Global};
 use task_ids::TaskId;
 
 // A letter for the control worker of a node. One for a node that is not of the cluster is passed over.
-fn to_control<N: RunName>(nodes: u32, to: u32, body: Body) -> Option<Post<Letter<N>>>
+fn to_control<N: RunName>(workers: u32, nodes: u32, to: u32, body: Body) -> Option<Post<Letter<N>>>
+    requires workers { IsPoolSize workers }
     requires nodes { IsNode nodes }
     requires lawful { IsNode to → IsLawful N.allowed body }
     requires asked { N.asks body }
-    ensures { result ≡ to_control nodes to body }
+    ensures { result ≡ to_control workers nodes to body }
 {
     if !(1 <= to && to <= nodes) {
         return None;
     }
     Some(Post {
-        to: 2 * (to - 1),
+        to: control_of(workers, to),
         letter: Letter::new(body),
     })
 }
 
 // A letter for the driver.
-pub(crate) fn to_driver<N: RunName>(nodes: u32, body: Body) -> Post<Letter<N>>
+pub(crate) fn to_driver<N: RunName>(workers: u32, nodes: u32, body: Body) -> Post<Letter<N>>
+    requires workers { IsPoolSize workers }
     requires nodes { IsNode nodes }
     requires lawful { IsLawful N.allowed body }
     requires asked { N.asks body }
-    ensures { result ≡ to_driver nodes body }
+    ensures { result ≡ to_driver workers nodes body }
 {
     Post {
-        to: 2 * nodes,
+        to: driver_of(workers, nodes),
         letter: Letter::new(body),
     }
 }
@@ -58,21 +59,27 @@ fn is_own(receipt: &Receipt, task: TaskId) -> bool
 
 // The letter by which an act of the node's cancellations is done. An answer with the receipt of another task is passed over;
 // no cancellation gives one.
-fn core_post<N: RunName>(nodes: u32, node: u32, act: Act) -> Option<Post<Letter<N>>>
+fn core_post<N: RunName>(workers: u32, nodes: u32, node: u32, act: Act) -> Option<Post<Letter<N>>>
+    requires workers { IsPoolSize workers }
     requires nodes { IsNode nodes }
     requires node { IsNode node }
     requires lawful { IsLawfulCore N.allowed act }
     requires asks { (b : Body) → IsOfControl b → N.asks b }
-    ensures { result ≡ core_post nodes node act }
+    ensures { result ≡ core_post workers nodes node act }
 {
     match act {
         Act::SendBan { to, parent, cancel } => {
-            to_control(nodes, to, Body::Ban { parent, cancel, to })
+            to_control(workers, nodes, to, Body::Ban { parent, cancel, to })
         }
-        Act::SendAck { to, parent } => to_control(nodes, to, Body::Ack { parent, from: node }),
-        Act::SendUnban { to, parent } => to_control(nodes, to, Body::Unban { parent, to }),
+        Act::SendAck { to, parent } => to_control(
+            workers,
+            nodes,
+            to,
+            Body::Ack { parent, from: node },
+        ),
+        Act::SendUnban { to, parent } => to_control(workers, nodes, to, Body::Unban { parent, to }),
         Act::AnswerPlaced { cancel, task } => {
-            Some(to_driver(nodes, Body::AnswerPlaced { cancel, task }))
+            Some(to_driver(workers, nodes, Body::AnswerPlaced { cancel, task }))
         }
         Act::AnswerDone {
             cancel,
@@ -83,6 +90,7 @@ fn core_post<N: RunName>(nodes: u32, node: u32, act: Act) -> Option<Post<Letter<
                 return None;
             }
             Some(to_driver(
+                workers,
                 nodes,
                 Body::AnswerDone {
                     cancel,
@@ -95,21 +103,32 @@ fn core_post<N: RunName>(nodes: u32, node: u32, act: Act) -> Option<Post<Letter<
 }
 
 // The letter by which an act is done.
-fn act_post<N: RunName>(nodes: u32, node: u32, act: ControlAct) -> Option<Post<Letter<N>>>
+fn act_post<N: RunName>(
+    workers: u32,
+    nodes: u32,
+    node: u32,
+    act: ControlAct,
+) -> Option<Post<Letter<N>>>
+    requires workers { IsPoolSize workers }
     requires nodes { IsNode nodes }
     requires node { IsNode node }
     requires lawful { IsLawfulAct N.allowed act }
     requires asks { (b : Body) → IsOfControl b → N.asks b }
-    ensures { result ≡ act_post nodes node act }
+    ensures { result ≡ act_post workers nodes node act }
 {
     match act {
-        ControlAct::Core(act) => core_post(nodes, node, act),
-        ControlAct::NotFound { cancel } => Some(to_driver(nodes, Body::NotFound { cancel })),
+        ControlAct::Core(act) => core_post(workers, nodes, node, act),
+        ControlAct::NotFound { cancel } => Some(to_driver(
+            workers,
+            nodes,
+            Body::NotFound { cancel },
+        )),
         ControlAct::Named {
             node: _,
             cancel,
             tasks,
         } => Some(to_driver(
+            workers,
             nodes,
             Body::Named {
                 node,
@@ -123,19 +142,21 @@ fn act_post<N: RunName>(nodes: u32, node: u32, act: ControlAct) -> Option<Post<L
 // The letters by which acts are done, in their order.
 pub(crate) fn act_posts<N: RunName>(
     alloc: Global,
+    workers: u32,
     nodes: u32,
     node: u32,
     acts: Vec<ControlAct>,
 ) -> Result<Vec<Post<Letter<N>>>, AllocError>
+    requires workers { IsPoolSize workers }
     requires nodes { IsNode nodes }
     requires node { IsNode node }
     requires lawful { All (IsLawfulAct N.allowed) acts.items }
     requires asks { (b : Body) → IsOfControl b → N.asks b }
-    ensures { IfOk result (λ posts. posts.items ≡ filter_map (act_post nodes node) acts.items) }
+    ensures { IfOk result (λ posts. posts.items ≡ filter_map (act_post workers nodes node) acts.items) }
 {
     let mut posts = Vec::new(alloc);
     for act in acts {
-        if let Some(post) = act_post(nodes, node, act) {
+        if let Some(post) = act_post(workers, nodes, node, act) {
             posts.push(post)?;
         }
     }
@@ -145,18 +166,20 @@ pub(crate) fn act_posts<N: RunName>(
 // The letters that tell each control worker of the cluster that this node's has left.
 pub(crate) fn left_posts<N: RunName>(
     alloc: Global,
+    workers: u32,
     nodes: u32,
     node: u32,
 ) -> Result<Vec<Post<Letter<N>>>, AllocError>
+    requires workers { IsPoolSize workers }
     requires nodes { IsNode nodes }
     requires node { IsNode node }
     requires asks { (b : Body) → IsOfControl b → N.asks b }
-    ensures { IfOk result (λ posts. posts.items ≡ left_posts node nodes) }
+    ensures { IfOk result (λ posts. posts.items ≡ left_posts workers node nodes) }
 {
     let mut posts = Vec::new(alloc);
     for before in 0..nodes {
         posts.push(Post {
-            to: 2 * before,
+            to: control_of(workers, before + 1),
             letter: Letter::new(Body::ControlLeft { node }),
         })?;
     }

@@ -31,7 +31,7 @@ impl<N: RunName, B: ControlBoard<N>> ControlState<N, B> {
         ensures nobody_left { NobodyLeft result.left }
     {
         let left = Left {
-            has_data: false,
+            data: NodeSet(0),
             control: NodeSet(0),
             has_said: false,
         };
@@ -57,23 +57,26 @@ impl<N: RunName, B: ControlBoard<N>> ControlState<N, B> {
     {
         note_left::<N>(&mut self.left, &body);
         let node = self.core.node();
+        let workers = self.core.workers();
         let Ok(acts) = control_turn(&mut self.core, &mut self.board, Letter::new(body)) else {
             return Err(Stop::Memory);
         };
-        match act_posts(self.alloc, self.cluster.nodes, node, acts) {
+        match act_posts(self.alloc, workers, self.cluster.nodes, node, acts) {
             Ok(posts) => Ok(posts),
             Err(_) => Err(Stop::Memory),
         }
     }
 
-    // Whether it may say that it has left: it has not yet, its data worker has left, and no cancellation is under way.
+    // Whether it may say that it has left: it has not yet, its data workers have left, and no cancellation is under way.
     pub(crate) fn may_say(&self) -> bool
         ensures { (result ≡ true) ↔ MaySay (seen self.now) }
     {
-        !self.left.has_said && self.left.has_data && self.core.is_idle()
+        !self.left.has_said
+            && self.core.is_idle()
+            && have_all_left(self.left.data, self.core.workers())
     }
 
-    // Says that it has left, once its data worker has and no cancellation is under way.
+    // Says that it has left, once its data workers have and no cancellation is under way.
     #[tactic(auto, using(crate::proofs::Controlling::said_once))]
     pub(crate) fn say_left(&mut self) -> Result<Option<Vec<Post<Letter<N>>>>, Stop>
         requires fits { Fits B.bans B.slots N.allowed (seen self.old) }
@@ -84,7 +87,9 @@ impl<N: RunName, B: ControlBoard<N>> ControlState<N, B> {
         if !self.may_say() {
             return Ok(None);
         }
-        let Ok(posts) = left_posts(self.alloc, self.cluster.nodes, self.core.node()) else {
+        let workers = self.core.workers();
+        let node = self.core.node();
+        let Ok(posts) = left_posts(self.alloc, workers, self.cluster.nodes, node) else {
             return Err(Stop::Memory);
         };
         self.left.has_said = true;

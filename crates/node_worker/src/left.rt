@@ -1,5 +1,5 @@
 // Which workers have left.
-ghost use Rattle.std.specs.Prelude.{◌≡◌, ◌≤◌, ◌↔◌, ℕ, true, Bool, false};
+ghost use Rattle.std.specs.Prelude.{◌≡◌, ◌≤◌, ◌↔◌, ℕ, true};
 ghost use Rattle.task_ids.specs.Limits.{IsNode};
 ghost use Rattle.child_track.specs.NodeSet.{has_node};
 ghost use Rattle.node_link.specs.Lawful.{IsLawful};
@@ -11,8 +11,8 @@ use node_link::{Body, RunName};
 // Which workers have left, as a control worker was told.
 #[derive(Clone, Copy)]
 pub(crate) struct Left {
-    // The data worker of its node has.
-    pub(crate) has_data: bool,
+    // The data workers of its node that have, of which worker w stands as w + 1.
+    pub(crate) data: NodeSet,
     // The control workers that have said so.
     pub(crate) control: NodeSet,
     // It has said so itself.
@@ -25,19 +25,19 @@ pub(crate) fn note_left<N: RunName>(left: &mut Left, body: &Body)
     ensures { Noted body.now left.old left.new }
 {
     match body {
-        Body::DataLeft { .. } => left.has_data = true,
+        Body::DataLeft { worker } => left.data = left.data.with(*worker + 1),
         Body::ControlLeft { node } => left.control = left.control.with(*node),
         _ => {}
     }
 }
 
-// Whether the control worker of each node has said that it has left.
-pub(crate) fn have_all_left(control: NodeSet, nodes: u32) -> bool
-    requires { IsNode nodes }
-    ensures { (result ≡ true) ↔ ((n : ℕ) → 1 ≤ n → n ≤ nodes → has_node control n ≡ true) }
+// Whether all of so many workers, from 1 to 15, have left.
+pub(crate) fn have_all_left(left: NodeSet, count: u32) -> bool
+    requires { IsNode count }
+    ensures { (result ≡ true) ↔ ((n : ℕ) → 1 ≤ n → n ≤ count → has_node left n ≡ true) }
 {
-    for node in 1..nodes + 1 {
-        if !control.has(node) {
+    for one in 1..count + 1 {
+        if !left.has(one) {
             return false;
         }
     }

@@ -1,5 +1,5 @@
 -- A command that is as far as it can be stays so by each letter, and is so as it begins.
-use Rattle.std.proofs.Common.{◌≡◌, ◌⊎◌, inl, inr, ℕ, ◌+◌, ◌-◌, Bool, true, false, not, List, [], ◌∷◌, ◌++◌, length, take, Option, None, Some, refl, sym, ap, subst, ◌∙◌, arith, length-append}
+use Rattle.std.proofs.Common.{◌≡◌, ◌⊎◌, inl, inr, ℕ, ◌+◌, ◌-◌, Bool, true, false, not, List, [], ◌∷◌, ◌++◌, length, Option, None, Some, refl, sym, ap, subst, ◌∙◌, arith, length-append}
 use Rattle.std.specs.Prelude.{IsSomeAnd, IfSome, is_some, option_map, slice_get, ◌==◌, ◌&&◌, ◌||◌}
 use Rattle.std.specs.Option.{option_eq}
 use Rattle.std.proofs.lemmas.Bool.{and_parts, cases_Bool}
@@ -17,13 +17,15 @@ use Rattle.run_book.specs.declared.entry.Naming.{Naming}
 use Rattle.run_book.specs.declared.entry.State.{State}
 use Rattle.run_book.specs.declared.entry.State.TheVariants as states
 use Rattle.run_book.specs.declared.entry.Waits.TheVariants as waits
-use Rattle.run_book.specs.Told.{all_told, is_whole, with_part}
-use Rattle.run_book.specs.Notes.{HasCancelled, IsLast, IsReceiptOf, cancel_in, is_list, moment_after, names_one}
+use Rattle.data_pool.specs.Gathered as gather
+use Rattle.data_pool.specs.Gathered.{Gathered}
+use Rattle.run_book.specs.Told.{all_told, is_whole}
+use Rattle.run_book.specs.Notes.{HasCancelled, IsLast, IsReceiptOf, cancel_in, names_one}
 use Rattle.run_book.specs.Answering as answers
-use Rattle.run_book.specs.Answering.{IsToState, is_of_last, is_receipt_of, is_settled, same_bool, same_id, settled, shows_last, with_done, with_named, with_rows, without_answer}
+use Rattle.run_book.specs.Answering.{IsToState, is_receipt_of, is_settled, list_by, same_bool, same_id, settled, shows_last, with_done, with_named, with_rows, without_answer}
 use Rattle.run_book.specs.Contexts.{MayOpen, opening}
 use Rattle.run_book.specs.Entries.{IsState}
-use Rattle.run_book.proofs.Places.{at_end}
+use Rattle.run_book.proofs.Places.{at_end, length_kept}
 use Rattle.run_book.proofs.Shown.{listed_shows}
 use Rattle.run_book.proofs.Shows.{may_open, task_note}
 
@@ -81,9 +83,9 @@ own_receipt : (receipt : Option ReceiptParts) (task : TaskId) → is_some receip
 own_receipt None task is own = absurd (cc)
 own_receipt (Some receipt) task is own = own
 
-module _ (allowed : ℕ → Type 0) (run : Setting) (known : List ℕ → Bool) (script : List Command) (k : ℕ) (c : Command) where
+module _ (allowed : ℕ → Type 0) (run : Setting) (known : List ℕ → Bool) (script : List Command) (parts k : ℕ) (c : Command) where
   abbrev Fit : State → Type 0
-  Fit s = IsState allowed run known script k c s
+  Fit s = IsState allowed run known script parts k c s
 
   settled_fits : (naming : Naming) → IsSomeAnd (cancel_in c) (λ t. (names_one t.0 ≡ false) × (t.1 ≡ naming.wait)) → Fit (settled naming)
   settled_fits naming asked = by_test (cases_Bool (is_settled naming))
@@ -145,20 +147,28 @@ module _ (allowed : ℕ → Type 0) (run : Setting) (known : List ℕ → Bool) 
   named_fits node tasks (states.Answered answer) fits = fits
   named_fits node tasks states.Told fits = fits
 
-  list_fits : (rows : List (Option (List TaskInfo))) (now : ℕ) → (is_list c ≡ true) × (now ≡ moment_after (take k script)) → Fit (with_rows rows now)
-  list_fits rows now fits = by_test (cases_Bool (is_whole rows))
+  list_fits : (gathered : Gathered) (now : ℕ) (answer : Option (List TaskInfo)) → Fit (states.Waits (waits.Rows gathered now)) → Fit (list_by gathered now answer)
+  list_fits gathered now None fits = fits
+  list_fits gathered now (Some rows) fits = (fits.0, listed_shows now rows, fits.1)
+
+  part_fits : (gathered : Gathered) (now : ℕ) (part : Option ℕ) (rows : List TaskInfo) → Fit (states.Waits (waits.Rows gathered now)) → Fit (with_rows gathered now part rows)
+  part_fits gathered now None rows fits = fits
+  part_fits gathered now (Some part) rows fits = by_test (cases_Bool (gather.takes gathered part))
     where
-      by_test : (is_whole rows ≡ true) ⊎ (is_whole rows ≡ false) → Fit (with_rows rows now)
-      by_test (inl holds) = rw holds (fits.0, listed_shows now rows, fits.1)
+      more : Gathered
+      more = gather.with_part gathered part rows
+
+      by_test : (gather.takes gathered part ≡ true) ⊎ (gather.takes gathered part ≡ false) → Fit (with_rows gathered now (Some part) rows)
+      by_test (inl holds) = rw holds (list_fits more now (gather.answer_of more) (fits.0, fits.1, length_kept gathered.given part true ∙ fits.2))
       by_test (inr fails) = rw fails fits
 
-  pub rows_fit : (node : ℕ) (part : List TaskInfo) (s : State) → Fit s → Fit (answers.after_rows node part s)
-  rows_fit node part (states.Waits (waits.Root asked)) fits = fits
-  rows_fit node part (states.Waits (waits.Cancel task wait)) fits = fits
-  rows_fit node part (states.Waits (waits.Naming naming)) fits = fits
-  rows_fit node part (states.Waits (waits.Rows rows now)) fits = list_fits (with_part rows node part) now fits
-  rows_fit node part (states.Answered answer) fits = fits
-  rows_fit node part states.Told fits = fits
+  pub rows_fit : (part : Option ℕ) (rows : List TaskInfo) (s : State) → Fit s → Fit (answers.after_rows part rows s)
+  rows_fit part rows (states.Waits (waits.Root asked)) fits = fits
+  rows_fit part rows (states.Waits (waits.Cancel task wait)) fits = fits
+  rows_fit part rows (states.Waits (waits.Naming naming)) fits = fits
+  rows_fit part rows (states.Waits (waits.Rows gathered now)) fits = part_fits gathered now part rows fits
+  rows_fit part rows (states.Answered answer) fits = fits
+  rows_fit part rows states.Told fits = fits
 
   pub root_fits : (a : RootAnswered) → IsLawfulRootAnswer allowed a → IsAnswerAt run a.place a.request a.page a.reply → run.sought a.place.command ≡ option_map sought_by (search_of c) → (s : State) → IsToState s a → Fit s → Fit (answers.after_root a.reply s)
   root_fits a lawful tells sought (states.Waits (waits.Root asked)) to fits = task_note allowed run a lawful tells c sought asked fits to

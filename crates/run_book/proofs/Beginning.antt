@@ -2,6 +2,7 @@
 use Rattle.std.proofs.Common.{◌≡◌, ◌⊎◌, inl, inr, ℕ, ◌+◌, Bool, true, false, List, length, take, Option, None, Some, Result, Ok, Err, refl, sym, ap, subst, ◌∙◌, arith}
 use Rattle.std.specs.Prelude.{IsSome, IsSomeAnd, is_some, slice_get}
 use Rattle.std.proofs.lemmas.Bool.{cases_Bool}
+use Rattle.std.proofs.lemmas.List.{length-replicate}
 use Rattle.command_roots.specs.Reindexes.{reindex_ask}
 use Rattle.command_roots.specs.Roots.{least_size}
 use Rattle.node_link.specs.declared.body.Body.{Body}
@@ -17,7 +18,7 @@ use Rattle.run_facts.specs.declared.Post.{Post}
 use Rattle.script_lang.specs.declared.command.CancelTarget.{CancelTarget}
 use Rattle.script_lang.specs.declared.command.CancelTarget.TheVariants as targets
 use Rattle.script_lang.specs.declared.command.Command.{Command}
-use Rattle.script_lang.specs.declared.command.Command.TheVariants.{Search, Scroll, ClearScroll, Reindex, Cancel, ListTasks, Tick, Deliver, Step, ListStep, Settle, Shuffle, WaitFor, History, Summary}
+use Rattle.script_lang.specs.declared.command.Command.TheVariants.{Search, Scroll, ClearScroll, Reindex, Cancel, ListTasks, GetTask, ForgetTask, ListResults, Tick, Deliver, Step, ListStep, Settle, Shuffle, WaitFor, History, Summary}
 use Rattle.task_events.specs.declared.request.ReindexAsk.{ReindexAsk}
 use Rattle.task_ids.specs.declared.task_id.TaskId.{TaskId}
 use Rattle.node_link.specs.declared.page.Page.{Page}
@@ -29,7 +30,7 @@ use Rattle.line_print.specs.declared.reply.LineReply.TheVariants as replies
 use Rattle.task_events.specs.declared.request.Request.TheVariants as requests
 use Rattle.run_book.specs.Notes.{moment_after, names_one, tick_of}
 use Rattle.run_book.specs.Begun.{Begins, cancelled, cancelled_if, cancelled_task, context_in, is_node_of, opener_in, page_at, reindex_asks, scrolled, scrolled_if, search_asks, started}
-use Rattle.run_book.specs.Entries.{IsState, Keeps, is_known_to, root_of}
+use Rattle.run_book.specs.Entries.{IsState, Keeps, is_known_to, parts_in, root_of}
 use Rattle.run_book.proofs.Opened.{page_sought}
 use Rattle.run_book.proofs.Sums.{next_moment}
 
@@ -37,9 +38,9 @@ use Rattle.run_book.proofs.Sums.{next_moment}
 pub asks_for : (known : List ℕ → Bool) (slices : ℕ) (rate : Option ℕ) (read : ReindexBody) (ask : ReindexAsk) → known read.source ≡ true → reindex_ask read slices rate ≡ Some ask → reindex_asks known slices rate (Ok read) ≡ Some (asked.Task (requests.Reindex ask))
 asks_for known slices rate read ask is some = rw (is, some) refl
 
-module _ (allowed : ℕ → Type 0) (run : Setting) (known : List ℕ → Bool) (script : List Command) (k : ℕ) where
+module _ (allowed : ℕ → Type 0) (run : Setting) (known : List ℕ → Bool) (script : List Command) (parts k : ℕ) where
   abbrev Fit : Command → State → Type 0
-  Fit c s = IsState allowed run known script k c s
+  Fit c s = IsState allowed run known script parts k c s
 
   -- ---- searches
 
@@ -54,21 +55,21 @@ module _ (allowed : ℕ → Type 0) (run : Setting) (known : List ℕ → Bool) 
 
   -- ---- reindexes
 
-  reindex_fits : (node : ℕ) (body : _) (slices : ℕ) (rate : Option ℕ) (opaque_id : _) (read : Result ReindexBody ReindexError) (asks : Asks) → reindex_at body ≡ read → reindex_asks known slices rate read ≡ Some asks
-      → Fit (Reindex node body slices rate opaque_id) (started k (Reindex node body slices rate opaque_id) node asks).0
-  reindex_fits node body slices rate opaque_id (Err fault) asks is asked_is =
+  reindex_fits : (node : ℕ) (body : _) (slices : ℕ) (rate : Option ℕ) (opaque_id : _) (store : Bool) (read : Result ReindexBody ReindexError) (asks : Asks) → reindex_at body ≡ read → reindex_asks known slices rate read ≡ Some asks
+      → Fit (Reindex node body slices rate opaque_id store) (started k (Reindex node body slices rate opaque_id store) node asks).0
+  reindex_fits node body slices rate opaque_id store (Err fault) asks is asked_is =
       let it : asked.Nothing (replies.BadReindex fault) ≡ asks = cc in
       rw (← it) is
-  reindex_fits node body slices rate opaque_id (Ok read) asks is asked_is = by_test (cases_Bool (known read.source))
+  reindex_fits node body slices rate opaque_id store (Ok read) asks is asked_is = by_test (cases_Bool (known read.source))
     where
-      by_ask : known read.source ≡ true → (ask : Option _) → reindex_ask read slices rate ≡ ask → Fit (Reindex node body slices rate opaque_id) (started k (Reindex node body slices rate opaque_id) node asks).0
+      by_ask : known read.source ≡ true → (ask : Option _) → reindex_ask read slices rate ≡ ask → Fit (Reindex node body slices rate opaque_id store) (started k (Reindex node body slices rate opaque_id store) node asks).0
       by_ask holds None none = let it = rw (holds, none) at asked_is in absurd (cc)
       by_ask holds (Some ask) some =
           let it = rw (holds, some) at asked_is in
           let of : asked.Task (requests.Reindex ask) ≡ asks = cc in
           rw (← of) tt
 
-      by_test : (known read.source ≡ true) ⊎ (known read.source ≡ false) → Fit (Reindex node body slices rate opaque_id) (started k (Reindex node body slices rate opaque_id) node asks).0
+      by_test : (known read.source ≡ true) ⊎ (known read.source ≡ false) → Fit (Reindex node body slices rate opaque_id store) (started k (Reindex node body slices rate opaque_id store) node asks).0
       by_test (inl holds) = by_ask holds (reindex_ask read slices rate) refl
       by_test (inr fails) =
           let it = rw fails at asked_is in
@@ -99,10 +100,10 @@ module _ (allowed : ℕ → Type 0) (run : Setting) (known : List ℕ → Bool) 
   root_fits number reason wait nodes None = refl
   root_fits number reason wait nodes (Some task) = task_fits (targets.Command number) reason wait nodes task refl
 
-  cancel_fits : (target : CancelTarget) (reason : _) (wait : Bool) (nodes : ℕ) (root : ℕ → Option TaskId) → Fit (Cancel target reason wait) (cancelled nodes root k target wait).0
-  cancel_fits (targets.Task task) reason wait nodes root = task_fits (targets.Task task) reason wait nodes task refl
-  cancel_fits (targets.Command number) reason wait nodes root = root_fits number reason wait nodes (root number)
-  cancel_fits (targets.Matching filter) reason wait nodes root = (refl, refl)
+  cancel_fits : (target : CancelTarget) (reason : _) (wait : Bool) (nodes workers : ℕ) (root : ℕ → Option TaskId) → Fit (Cancel target reason wait) (cancelled nodes workers root k target wait).0
+  cancel_fits (targets.Task task) reason wait nodes workers root = task_fits (targets.Task task) reason wait nodes task refl
+  cancel_fits (targets.Command number) reason wait nodes workers root = root_fits number reason wait nodes (root number)
+  cancel_fits (targets.Matching filter) reason wait nodes workers root = (refl, refl)
 
 -- what an option gives satisfies a predicate that holds of it
 given : {T : Type 0} (o : Option T) (P : T → Type 0) → IsSomeAnd o P → (x : T) × (o ≡ Some x) × P x
@@ -111,7 +112,7 @@ given (Some x) P p = (x, refl, p)
 
 module _ {W : Type 0} (cancels : ℕ → Type 0) (run : Setting) (book : Book W) where
   abbrev Now : ℕ → Command → State → Type 0
-  Now k c s = IsState (cancels_of cancels) run (is_known_to book) book.script.now k c s
+  Now k c s = IsState (cancels_of cancels) run (is_known_to book) book.script.now (parts_in book) k c s
 
   moved : (c : Command) → Keeps cancels run book → slice_get book.script.now (length book.entries.items) ≡ Some c → book.clock + tick_of c ≡ moment_after (take (length book.entries.items + 1) book.script.now)
   moved c keeps there = ap (λ (n : ℕ). n + tick_of c) keeps.clock ∙ sym (next_moment book.script.now (length book.entries.items) c there)
@@ -121,14 +122,17 @@ module _ {W : Type 0} (cancels : ℕ → Type 0) (run : Setting) (book : Book W)
 
   -- what a command comes to that begins next fits it
   pub begins_fit : (k : ℕ) (c : Command) (state : State) (posts : List (Post Body)) → Keeps cancels run book → k ≡ length book.entries.items + 1 → slice_get book.script.now (length book.entries.items) ≡ Some c → Begins book k c state posts → Now k c state
-  begins_fit k (Search index node scroll body opaque_id) state posts keeps is there begins = subst (Now k (Search index node scroll body opaque_id)) (sym begins.0) (search_fits (cancels_of cancels) run (is_known_to book) book.script.now k index node scroll body opaque_id (body_at (is_some scroll) (least_size scroll) body) refl)
-  begins_fit k (Scroll context keep opaque_id) state posts keeps is there begins = subst (Now k (Scroll context keep opaque_id)) (sym begins.0) (scroll_fits (cancels_of cancels) run (is_known_to book) book.script.now k context keep opaque_id (opener_in book k) (page_at book) (page_sought run book keeps.contexts k) (context_in book context))
+  begins_fit k (Search index node scroll body opaque_id) state posts keeps is there begins = subst (Now k (Search index node scroll body opaque_id)) (sym begins.0) (search_fits (cancels_of cancels) run (is_known_to book) book.script.now (parts_in book) k index node scroll body opaque_id (body_at (is_some scroll) (least_size scroll) body) refl)
+  begins_fit k (Scroll context keep opaque_id) state posts keeps is there begins = subst (Now k (Scroll context keep opaque_id)) (sym begins.0) (scroll_fits (cancels_of cancels) run (is_known_to book) book.script.now (parts_in book) k context keep opaque_id (opener_in book k) (page_at book) (page_sought run book keeps.contexts k) (context_in book context))
   begins_fit k (ClearScroll context) state posts keeps is there begins = subst (Now k (ClearScroll context)) (sym begins.0) refl
-  begins_fit k (Reindex node body slices rate opaque_id) state posts keeps is there begins =
+  begins_fit k (Reindex node body slices rate opaque_id store) state posts keeps is there begins =
       let it = given (reindex_asks (is_known_to book) slices rate (reindex_at body)) _ begins in
-      subst (Now k (Reindex node body slices rate opaque_id)) (sym it.2.0) (reindex_fits (cancels_of cancels) run (is_known_to book) book.script.now k node body slices rate opaque_id (reindex_at body) it.0 refl it.1)
-  begins_fit k (Cancel target reason wait) state posts keeps is there begins = subst (Now k (Cancel target reason wait)) (sym begins.0) (cancel_fits (cancels_of cancels) run (is_known_to book) book.script.now k target reason wait book.nodes (root_of book.entries.items))
-  begins_fit k (ListTasks filter group detailed) state posts keeps is there begins = subst (Now k (ListTasks filter group detailed)) (sym begins.0) (refl, rw is (stands (ListTasks filter group detailed) refl keeps there))
+      subst (Now k (Reindex node body slices rate opaque_id store)) (sym it.2.0) (reindex_fits (cancels_of cancels) run (is_known_to book) book.script.now (parts_in book) k node body slices rate opaque_id store (reindex_at body) it.0 refl it.1)
+  begins_fit k (Cancel target reason wait) state posts keeps is there begins = subst (Now k (Cancel target reason wait)) (sym begins.0) (cancel_fits (cancels_of cancels) run (is_known_to book) book.script.now (parts_in book) k target reason wait book.nodes book.workers (root_of book.entries.items))
+  begins_fit k (ListTasks filter group detailed) state posts keeps is there begins = subst (Now k (ListTasks filter group detailed)) (sym begins.0) (refl, rw is (stands (ListTasks filter group detailed) refl keeps there), length-replicate (parts_in book) false)
+  begins_fit k (GetTask task wait) state posts keeps is there begins = subst (Now k (GetTask task wait)) (sym begins.0) refl
+  begins_fit k (ForgetTask task) state posts keeps is there begins = subst (Now k (ForgetTask task)) (sym begins.0) refl
+  begins_fit k ListResults state posts keeps is there begins = subst (Now k ListResults) (sym begins.0) refl
   begins_fit k (Tick ms) state posts keeps is there begins = subst (Now k (Tick ms)) (sym begins.0) (refl, rw is (moved (Tick ms) keeps there))
   begins_fit k (Deliver nth) state posts keeps is there begins = subst (Now k (Deliver nth)) (sym begins.0) refl
   begins_fit k (Step task) state posts keeps is there begins = subst (Now k (Step task)) (sym begins.0) refl

@@ -12,7 +12,7 @@ use Rattle.run_book.specs.declared.book.Book.{Book}
 use Rattle.run_book.specs.declared.entry.Entry.{Entry}
 use Rattle.run_book.specs.Answering.{IsToState, after_root}
 use Rattle.run_book.specs.Contexts.{AreOpened, MayOpen, opening}
-use Rattle.run_book.specs.Entries.{Keeps, SameTime, Turned, entry_of, is_known_to}
+use Rattle.run_book.specs.Entries.{Keeps, SameTime, Turned, entry_of, is_known_to, parts_in}
 use Rattle.run_book.specs.Hearing.{IsAwaitedBy, with_state}
 use Rattle.run_book.proofs.Answers.{root_fits, root_opens}
 use Rattle.run_book.proofs.Keeping.{turned_at, within_some}
@@ -27,14 +27,14 @@ module _ {W : Type 0} (cancels : ℕ → Type 0) (run : Setting) (v : Book W) (a
 
   pub root_heard : (w : Book W) → Turned (with_state (after_root a.reply)) at v.entries.items w.entries.items → AreOpened run w.contexts → SameTime v w → Keeps cancels run w
   root_heard w turned opened same = turned_at cancels run v w at (with_state (after_root a.reply))
-      (λ c e there named fits. root_fits (cancels_of cancels) run (is_known_to v) v.script.now (at + 1) c a lawful tells (sought_is run v.script.now keeps.can.setting a.place.command c named) e.state (to_state e there) fits)
+      (λ c e there named fits. root_fits (cancels_of cancels) run (is_known_to v) v.script.now (parts_in v) (at + 1) c a lawful tells (sought_is run v.script.now keeps.can.setting a.place.command c named) e.state (to_state e there) fits)
       turned opened same keeps
 
   pub root_may_open : MayOpen run a.place.command (opening a.request a.reply)
   root_may_open = by_entry (slice_get v.entries.items at) refl
     where
       by_command : (e : Entry) → slice_get v.entries.items at ≡ Some e → (d : (c : Command) × (slice_get v.script.now at ≡ Some c)) → MayOpen run a.place.command (opening a.request a.reply)
-      by_command e there d = root_opens (cancels_of cancels) run (is_known_to v) v.script.now (at + 1) d.0 a lawful tells (sought_is run v.script.now keeps.can.setting a.place.command d.0 d.1) e.state (to_state e there) (keeps.each at e d.0 there d.1)
+      by_command e there d = root_opens (cancels_of cancels) run (is_known_to v) v.script.now (parts_in v) (at + 1) d.0 a lawful tells (sought_is run v.script.now keeps.can.setting a.place.command d.0 d.1) e.state (to_state e there) (keeps.each at e d.0 there d.1)
 
       by_entry : (o : Option Entry) → slice_get v.entries.items at ≡ o → MayOpen run a.place.command (opening a.request a.reply)
       by_entry None none = absurd (subst (λ o. IsAwaitedBy o a) none awaited)

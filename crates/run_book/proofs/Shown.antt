@@ -1,5 +1,5 @@
 -- The rows that a list shows ascend, and none of them begins after its moment.
-use Rattle.std.proofs.Common.{◌≡◌, ◌⊎◌, inl, inr, ℕ, ◌+◌, ◌-◌, ◌<◌, ◌≤◌, true, false, List, [], ◌∷◌, ◌++◌, length, Option, Some, refl, sym, ap, subst, ◌∙◌, arith, length-append}
+use Rattle.std.proofs.Common.{◌≡◌, ◌⊎◌, inl, inr, ℕ, ◌+◌, ◌-◌, ◌<◌, ◌≤◌, true, false, List, [], ◌∷◌, ◌++◌, length, Some, refl, sym, ap, subst, ◌∙◌, arith, length-append}
 use Rattle.std.specs.Prelude.{slice_get, nat_le}
 use Rattle.std.specs.declared.cmp.Ordering.{Ordering}
 use Rattle.std.specs.declared.cmp.Ordering.TheVariants.{Less, Equal, Greater}
@@ -10,7 +10,6 @@ use Rattle.std.proofs.lemmas.List.Elements.{All-nil, All-push}
 use Rattle.std.proofs.lemmas.Option.{slice_get_within}
 use Rattle.task_ids.specs.TaskIdOrder.{task_id_cmp}
 use Rattle.task_ids.specs.declared.task_info.TaskInfo.{TaskInfo}
-use Rattle.run_book.specs.Told.{all_told}
 use Rattle.run_book.specs.Listing.{Ascend, Shows, goes_on, is_after, last_id, listed, with_row, with_rows}
 use Rattle.run_book.proofs.Places.{at_end, before_end}
 
@@ -59,5 +58,5 @@ module _ (now : ℕ) where
   more [] all shows = shows
   more (row ∷ rows) all shows = more rows (with_row now all row) (one_more all row shows)
 
-  pub listed_shows : (parts : List (Option (List TaskInfo))) → Shows (listed now parts) now
-  listed_shows parts = more (all_told parts) [] (record { ascend = λ i a b at_a at_b. absurd (cc); began = All-nil (λ (r : TaskInfo). r.start_ms ≤ now) })
+  pub listed_shows : (rows : List TaskInfo) → Shows (listed now rows) now
+  listed_shows rows = more rows [] (record { ascend = λ i a b at_a at_b. absurd (cc); began = All-nil (λ (r : TaskInfo). r.start_ms ≤ now) })

@@ -137,7 +137,7 @@ module _ (allowed : ℕ → Type 0) (run : Setting) (a : RootAnswered) (lawful :
     lawful = lawful.reply;
     shows = page_note run a.place.command a.place a.page a.reply sent (run.sought sent.page.search) refl of to.search a.request to.kind lawful.page tells;
   }
-  task_note (Reindex node body slices rate opaque_id) sought roots.Reindex of to = record { starts = refl; lawful = lawful.reply; shows = tt }
+  task_note (Reindex node body slices rate opaque_id store) sought roots.Reindex of to = record { starts = refl; lawful = lawful.reply; shows = tt }
   task_note _ sought _ of to = absurd of
 
   some_sought : (own : Option SearchAsk) → IsSome own → IsSome (option_map sought_by own)

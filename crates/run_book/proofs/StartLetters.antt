@@ -95,19 +95,19 @@ module _ (run : Setting) (script : List Command) (is : IsSettingOf script run) (
 
     -- ---- a reindex
 
-    pub reindex_may_start : (node : ℕ) (body : _) (slices : ℕ) (rate : Option ℕ) (opaque_id : _) → slice_get script (k - 1) ≡ Some (Reindex node body slices rate opaque_id)
-        → IfSome (reindex_asks known slices rate (reindex_at body)) (MayStart run k (Reindex node body slices rate opaque_id))
-    reindex_may_start node body slices rate opaque_id at = by_read (reindex_at body) refl
+    pub reindex_may_start : (node : ℕ) (body : _) (slices : ℕ) (rate : Option ℕ) (opaque_id : _) (store : Bool) → slice_get script (k - 1) ≡ Some (Reindex node body slices rate opaque_id store)
+        → IfSome (reindex_asks known slices rate (reindex_at body)) (MayStart run k (Reindex node body slices rate opaque_id store))
+    reindex_may_start node body slices rate opaque_id store at = by_read (reindex_at body) refl
       where
-        by_ask : (read : ReindexBody) → dest_of (Reindex node body slices rate opaque_id) ≡ Some read.dest → (ask : Option ReindexAsk) → reindex_ask read slices rate ≡ ask → IfSome (option_map (λ a. asked.Task (asks.Reindex a)) ask) (MayStart run k (Reindex node body slices rate opaque_id))
+        by_ask : (read : ReindexBody) → dest_of (Reindex node body slices rate opaque_id store) ≡ Some read.dest → (ask : Option ReindexAsk) → reindex_ask read slices rate ≡ ask → IfSome (option_map (λ a. asked.Task (asks.Reindex a)) ask) (MayStart run k (Reindex node body slices rate opaque_id store))
         by_ask read to None is = tt
-        by_ask read to (Some ask) is = (refl, reindex_tells (Reindex node body slices rate opaque_id) at ask refl (to ∙ ap Some (dest_asked read slices rate ask is)))
+        by_ask read to (Some ask) is = (refl, reindex_tells (Reindex node body slices rate opaque_id store) at ask refl (to ∙ ap Some (dest_asked read slices rate ask is)))
 
-        by_known : (read : ReindexBody) → dest_of (Reindex node body slices rate opaque_id) ≡ Some read.dest → (known read.source ≡ true) ⊎ (known read.source ≡ false) → IfSome (reindex_asks known slices rate (Ok read)) (MayStart run k (Reindex node body slices rate opaque_id))
+        by_known : (read : ReindexBody) → dest_of (Reindex node body slices rate opaque_id store) ≡ Some read.dest → (known read.source ≡ true) ⊎ (known read.source ≡ false) → IfSome (reindex_asks known slices rate (Ok read)) (MayStart run k (Reindex node body slices rate opaque_id store))
         by_known read to (inl holds) = rw holds (by_ask read to (reindex_ask read slices rate) refl)
         by_known read to (inr fails) = rw fails tt
 
-        by_read : (read : Result ReindexBody ReindexError) → reindex_at body ≡ read → IfSome (reindex_asks known slices rate read) (MayStart run k (Reindex node body slices rate opaque_id))
+        by_read : (read : Result ReindexBody ReindexError) → reindex_at body ≡ read → IfSome (reindex_asks known slices rate read) (MayStart run k (Reindex node body slices rate opaque_id store))
         by_read (Err fault) of = tt
         by_read (Ok read) of = by_known read (rw of refl) (cases_Bool (known read.source))
 

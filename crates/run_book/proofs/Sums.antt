@@ -5,7 +5,7 @@ use Rattle.std.proofs.lemmas.Option.{slice_get_within, slice_get-get_or}
 use Rattle.std.proofs.lemmas.List.{take_more}
 use Rattle.std.proofs.lemmas.List.Sums.{sum_by_push, sum_by-le, sum_by-take-le}
 use Rattle.script_lang.specs.declared.command.Command.{Command}
-use Rattle.script_lang.specs.declared.command.Command.TheVariants.{Search, Scroll, ClearScroll, Reindex, Cancel, ListTasks, Tick, Deliver, Step, ListStep, Settle, Shuffle, WaitFor, History, Summary}
+use Rattle.script_lang.specs.declared.command.Command.TheVariants.{Search, Scroll, ClearScroll, Reindex, Cancel, ListTasks, GetTask, ForgetTask, ListResults, Tick, Deliver, Step, ListStep, Settle, Shuffle, WaitFor, History, Summary}
 use Rattle.script_lang.specs.Fits.{AllFit, Fits}
 use Rattle.run_book.specs.Notes.{moment_after, tick_of}
 
@@ -26,9 +26,12 @@ pub tick_fits : (nodes : ℕ) (before : List Command) (c : Command) → Fits nod
 tick_fits nodes before (Search index node scroll body opaque_id) fits = omega arith
 tick_fits nodes before (Scroll context keep opaque_id) fits = omega arith
 tick_fits nodes before (ClearScroll context) fits = omega arith
-tick_fits nodes before (Reindex node body slices rate opaque_id) fits = omega arith
+tick_fits nodes before (Reindex node body slices rate opaque_id store) fits = omega arith
 tick_fits nodes before (Cancel target reason wait) fits = omega arith
 tick_fits nodes before (ListTasks filter group detailed) fits = omega arith
+tick_fits nodes before (GetTask task wait) fits = omega arith
+tick_fits nodes before (ForgetTask task) fits = omega arith
+tick_fits nodes before ListResults fits = omega arith
 tick_fits nodes before (Tick ms) fits = fits
 tick_fits nodes before (Deliver nth) fits = omega arith
 tick_fits nodes before (Step task) fits = omega arith

@@ -13,6 +13,8 @@ use Rattle.task_events.specs.declared.request.ScrollAsk.{ScrollAsk}
 use Rattle.task_ids.specs.TaskIdOrder.{task_id_cmp}
 use Rattle.task_ids.specs.declared.task_id.TaskId.{TaskId}
 use Rattle.task_ids.specs.declared.task_info.TaskInfo.{TaskInfo}
+use Rattle.data_pool.specs.Gathered as gather
+use Rattle.data_pool.specs.Gathered.{Gathered}
 use Rattle.run_book.specs.Told.{all_told, is_whole, with_part}
 use Rattle.run_book.specs.Listing.{listed}
 use Rattle.run_book.specs.declared.entry.Answer.{Answer}
@@ -87,11 +89,18 @@ with_done naming receipt = record naming { done = counted naming.done 1; receipt
 
 -- ---- lists
 
-abbrev pub with_rows : List (Option (List TaskInfo)) → ℕ → State
-with_rows rows now =
-    if is_whole rows
-    then states.Answered (record { reply = replies.Listed (listed now rows) now; receipt = None; page = None })
-    else states.Waits (waits.Rows rows now)
+-- it has its answer once all rows are there
+abbrev pub list_by : Gathered → ℕ → Option (List TaskInfo) → State
+list_by gathered now None = states.Waits (waits.Rows gathered now)
+list_by gathered now (Some rows) = states.Answered (record { reply = replies.Listed (listed now rows) now; receipt = None; page = None })
+
+-- A data worker gives its part. A second one, and one of a worker that is not there, is passed over.
+abbrev pub with_rows : Gathered → ℕ → Option ℕ → List TaskInfo → State
+with_rows gathered now None rows = states.Waits (waits.Rows gathered now)
+with_rows gathered now (Some part) rows =
+    if gather.takes gathered part
+    then list_by (gather.with_part gathered part rows) now (gather.answer_of (gather.with_part gathered part rows))
+    else states.Waits (waits.Rows gathered now)
 
 -- ---- each letter
 
@@ -129,14 +138,14 @@ after_named node tasks (states.Waits (waits.Rows rows now)) = states.Waits (wait
 after_named node tasks (states.Answered answer) = states.Answered answer
 after_named node tasks states.Told = states.Told
 
--- a node tells its live tasks
-abbrev pub after_rows : ℕ → List TaskInfo → State → State
-after_rows node part (states.Waits (waits.Rows rows now)) = with_rows (with_part rows node part) now
-after_rows node part (states.Waits (waits.Naming naming)) = states.Waits (waits.Naming naming)
-after_rows node part (states.Waits (waits.Cancel task wait)) = states.Waits (waits.Cancel task wait)
-after_rows node part (states.Waits (waits.Root asked)) = states.Waits (waits.Root asked)
-after_rows node part (states.Answered answer) = states.Answered answer
-after_rows node part states.Told = states.Told
+-- a data worker of this number tells its live tasks
+abbrev pub after_rows : Option ℕ → List TaskInfo → State → State
+after_rows part rows (states.Waits (waits.Rows gathered now)) = with_rows gathered now part rows
+after_rows part rows (states.Waits (waits.Naming naming)) = states.Waits (waits.Naming naming)
+after_rows part rows (states.Waits (waits.Cancel task wait)) = states.Waits (waits.Cancel task wait)
+after_rows part rows (states.Waits (waits.Root asked)) = states.Waits (waits.Root asked)
+after_rows part rows (states.Answered answer) = states.Answered answer
+after_rows part rows states.Told = states.Told
 
 -- ---- roots
 

@@ -1,5 +1,5 @@
 -- What commands come to as they begin: how far each is, and the letters that are sent for it.
-use Rattle.std.specs.Prelude.{◌≡◌, ℕ, ◌+◌, nat_le, ◌&&◌, Bool, false, List, [], ◌∷◌, Option, None, Some, is_some, IsSomeAnd, option_map, Result, Ok, Err, if◌then◌else◌}
+use Rattle.std.specs.Prelude.{◌≡◌, ℕ, ◌+◌, ◌*◌, nat_le, ◌&&◌, Bool, false, List, [], ◌∷◌, Option, None, Some, is_some, IsSomeAnd, option_map, Result, Ok, Err, if◌then◌else◌}
 use Rattle.std.specs.FinMap.{get, remove}
 use Rattle.std.specs.Option.{option_map_or, unwrap_or}
 use Rattle.command_roots.specs.Reindexes.{reindex_ask}
@@ -42,6 +42,7 @@ use Rattle.run_book.specs.declared.entry.State.TheVariants as states
 use Rattle.run_book.specs.declared.entry.Waits.TheVariants as waits
 use Rattle.run_book.specs.declared.starts.Asks.{Asks}
 use Rattle.run_book.specs.declared.starts.Asks.TheVariants as asked
+use Rattle.data_pool.specs.Gathered.{nothing_given}
 use Rattle.run_book.specs.Told.{nothing_told}
 use Rattle.run_book.specs.Posts.{post, start_of, start_posts, to_each}
 use Rattle.run_book.specs.Contexts.{page_in}
@@ -120,11 +121,11 @@ abbrev pub cancelled_if : ℕ → ℕ → Option TaskId → Bool → Outcome
 cancelled_if nodes k None wait = (answered (replies.NotFound None), [])
 cancelled_if nodes k (Some task) wait = cancelled_task nodes k task wait
 
--- a cancel of a command is one of the task that it started, and one by a filter asks each node
-abbrev pub cancelled : ℕ → (ℕ → Option TaskId) → ℕ → CancelTarget → Bool → Outcome
-cancelled nodes root k (targets.Task task) wait = cancelled_task nodes k task wait
-cancelled nodes root k (targets.Command number) wait = cancelled_if nodes k (root number) wait
-cancelled nodes root k (targets.Matching filter) wait = (states.Waits (waits.Naming (record { wait = wait; named = nothing_told nodes; tasks = 0; done = 0; receipt = None })), to_each nodes (says.CancelMatching k filter wait))
+-- a cancel of a command is one of the task that it started, and one by a filter asks each data worker
+abbrev pub cancelled : ℕ → ℕ → (ℕ → Option TaskId) → ℕ → CancelTarget → Bool → Outcome
+cancelled nodes workers root k (targets.Task task) wait = cancelled_task nodes k task wait
+cancelled nodes workers root k (targets.Command number) wait = cancelled_if nodes k (root number) wait
+cancelled nodes workers root k (targets.Matching filter) wait = (states.Waits (waits.Naming (record { wait = wait; named = nothing_told nodes; tasks = 0; done = 0; receipt = None })), to_each nodes workers (says.CancelMatching k filter wait))
 
 -- ---- each command
 
@@ -161,10 +162,13 @@ module _ {W : Type 0} (book : Book W) where
   Begins k (commands.Search index node scroll body opaque_id) state posts = IsOutcome (started k (commands.Search index node scroll body opaque_id) node (search_asks (is_known_to book) index scroll (body_at (is_some scroll) (least_size scroll) body))) state posts
   Begins k (commands.Scroll context keep opaque_id) state posts = IsOutcome (scrolled_if k (commands.Scroll context keep opaque_id) keep (opener_in k) page_at (context_in context)) state posts
   Begins k (commands.ClearScroll context) state posts = IsOutcome (answered (replies.Cleared (frees (context_in context))), []) state posts
-  Begins k (commands.Reindex node body slices rate opaque_id) state posts = IsSomeAnd (reindex_asks (is_known_to book) slices rate (reindex_at body)) (λ asks. IsOutcome (started k (commands.Reindex node body slices rate opaque_id) node asks) state posts)
-  Begins k (commands.Cancel target reason wait) state posts = IsOutcome (cancelled book.nodes (root_of book.entries.items) k target wait) state posts
-  Begins k (commands.ListTasks filter group detailed) state posts = IsOutcome (states.Waits (waits.Rows (nothing_told book.nodes) book.clock), to_each book.nodes (says.List k)) state posts
-  Begins k (commands.Tick ms) state posts = IsOutcome (answered (replies.Now (book.clock + ms)), to_each book.nodes (says.Tick ms)) state posts
+  Begins k (commands.Reindex node body slices rate opaque_id store) state posts = IsSomeAnd (reindex_asks (is_known_to book) slices rate (reindex_at body)) (λ asks. IsOutcome (started k (commands.Reindex node body slices rate opaque_id store) node asks) state posts)
+  Begins k (commands.Cancel target reason wait) state posts = IsOutcome (cancelled book.nodes book.workers (root_of book.entries.items) k target wait) state posts
+  Begins k (commands.ListTasks filter group detailed) state posts = IsOutcome (states.Waits (waits.Rows (nothing_given (book.nodes * book.workers)) book.clock), to_each book.nodes book.workers (says.List k)) state posts
+  Begins k (commands.GetTask task wait) state posts = IsOutcome (answered replies.Answered, []) state posts
+  Begins k (commands.ForgetTask task) state posts = IsOutcome (answered replies.Answered, []) state posts
+  Begins k commands.ListResults state posts = IsOutcome (answered replies.Answered, []) state posts
+  Begins k (commands.Tick ms) state posts = IsOutcome (answered (replies.Now (book.clock + ms)), to_each book.nodes book.workers (says.Tick ms)) state posts
   Begins k (commands.Deliver nth) state posts = IsOutcome (answered replies.Answered, []) state posts
   Begins k (commands.Step task) state posts = IsOutcome (answered replies.Answered, []) state posts
   Begins k (commands.ListStep node parent) state posts = IsOutcome (answered replies.Answered, []) state posts

@@ -1,5 +1,5 @@
 -- What the book holds of the commands that have begun.
-use Rattle.std.specs.Prelude.{◌≡◌, ℕ, ◌+◌, ◌-◌, ◌≤◌, ◌||◌, List, [], Bool, true, false, Option, Some, None, is_some, IsSome, IsSomeAnd, option_and_then, take, slice_get, length}
+use Rattle.std.specs.Prelude.{◌≡◌, ℕ, ◌+◌, ◌-◌, ◌*◌, ◌≤◌, ◌||◌, List, [], Bool, true, false, Option, Some, None, is_some, IsSome, IsSomeAnd, option_and_then, take, slice_get, length}
 use Rattle.std.specs.HashSet.{contains_by}
 use Rattle.std.specs.List.{slice_set}
 use Rattle.std.specs.Option.{option_map_or}
@@ -7,6 +7,7 @@ use Rattle.std.specs.Str.{bytes_eq}
 use Rattle.command_roots.specs.Roots.{search_of}
 use Rattle.reply_facts.specs.Settings.{Setting}
 use Rattle.run_facts.specs.Cancels.{cancels_of}
+use Rattle.run_facts.specs.Inboxes.{IsPoolSize}
 use Rattle.task_ids.specs.Limits.{IsNode}
 use Rattle.task_ids.specs.declared.task_id.TaskId.{TaskId}
 use Rattle.script_lang.specs.declared.command.CancelTarget.{CancelTarget}
@@ -65,9 +66,12 @@ abbrev pub needs_of : Command → Needs
 needs_of (commands.Search index node scroll body opaque_id) = needed.Nothing
 needs_of (commands.Scroll context keep opaque_id) = needed.Pages
 needs_of (commands.ClearScroll context) = needed.Pages
-needs_of (commands.Reindex node body slices rate opaque_id) = needed.Nothing
+needs_of (commands.Reindex node body slices rate opaque_id store) = needed.Nothing
 needs_of (commands.Cancel target reason wait) = target_needs target
 needs_of (commands.ListTasks filter group detailed) = needed.Nothing
+needs_of (commands.GetTask task wait) = needed.Nothing
+needs_of (commands.ForgetTask task) = needed.Nothing
+needs_of commands.ListResults = needed.Nothing
 needs_of (commands.Tick ms) = needed.Pages
 needs_of (commands.Deliver nth) = needed.Nothing
 needs_of (commands.Step task) = needed.Nothing
@@ -90,20 +94,20 @@ uses_context _ = false
 abbrev pub IsRootOf : Setting → Command → RootAsk → Type 0
 IsRootOf run (commands.Search index node scroll body opaque_id) roots.Search = IsSome (search_of (commands.Search index node scroll body opaque_id))
 IsRootOf run (commands.Scroll context keep opaque_id) (roots.Page sent) = IsSome (run.sought sent.page.search)
-IsRootOf run (commands.Reindex node body slices rate opaque_id) roots.Reindex = Unit {0}
+IsRootOf run (commands.Reindex node body slices rate opaque_id store) roots.Reindex = Unit {0}
 IsRootOf run _ _ = ⊥
 
--- what a command waits for is what it asked
-abbrev pub IsAwaited : Setting → List Command → ℕ → Command → Waits → Type 0
-IsAwaited run script k command (waits.Root asked) = IsRootOf run command asked
-IsAwaited run script k command (waits.Cancel task wait) = IsSomeAnd (cancel_in command) (λ c. (names_one c.0 ≡ true) × (c.1 ≡ wait))
-IsAwaited run script k command (waits.Naming naming) = IsSomeAnd (cancel_in command) (λ c. (names_one c.0 ≡ false) × (c.1 ≡ naming.wait))
-IsAwaited run script k command (waits.Rows rows now) = (is_list command ≡ true) × (now ≡ moment_after (take k script))
+-- what a command waits for is what it asked; a list waits for the part of each data worker, of which there are so many
+abbrev pub IsAwaited : Setting → List Command → ℕ → ℕ → Command → Waits → Type 0
+IsAwaited run script parts k command (waits.Root asked) = IsRootOf run command asked
+IsAwaited run script parts k command (waits.Cancel task wait) = IsSomeAnd (cancel_in command) (λ c. (names_one c.0 ≡ true) × (c.1 ≡ wait))
+IsAwaited run script parts k command (waits.Naming naming) = IsSomeAnd (cancel_in command) (λ c. (names_one c.0 ≡ false) × (c.1 ≡ naming.wait))
+IsAwaited run script parts k command (waits.Rows gathered now) = (is_list command ≡ true) × (now ≡ moment_after (take k script)) × (length gathered.given ≡ parts)
 
-module _ (allowed : ℕ → Type 0) (run : Setting) (known : List ℕ → Bool) (script : List Command) where
+module _ (allowed : ℕ → Type 0) (run : Setting) (known : List ℕ → Bool) (script : List Command) (parts : ℕ) where
   -- how far the command of this number is
   abbrev pub IsState : ℕ → Command → State → Type 0
-  IsState k command (states.Waits awaited) = IsAwaited run script k command awaited
+  IsState k command (states.Waits awaited) = IsAwaited run script parts k command awaited
   IsState k command (states.Answered answer) = IsNote allowed run known script k command answer.reply answer.receipt answer.page
   IsState k command states.Told = Unit {0}
 
@@ -123,17 +127,23 @@ pub record CanDrive (cancels : ℕ → Type 0) (run : Setting) (count : ℕ) (sc
 abbrev pub is_known_to : {W : Type 0} → Book W → List ℕ → Bool
 is_known_to book index = contains_by (λ k. bytes_eq index k.now) book.known.now
 
--- What the book of a run keeps: its commands can be driven; those that have begun are the first ones, each as far as it can be; its clock is the sum of the ticks so far; and its contexts were opened by searches of the script.
+-- how many data workers its cluster has
+abbrev pub parts_in : {W : Type 0} → Book W → ℕ
+parts_in book = book.nodes * book.workers
+
+-- What the book of a run keeps: its commands can be driven, by a pool of workers; those that have begun are the first ones, each as far as it can be; its clock is the sum of the ticks so far; and its contexts were opened by searches of the script.
 pub record Keeps {W : Type 0} (cancels : ℕ → Type 0) (run : Setting) (book : Book W) : Type 0 where
   pub can : CanDrive cancels run book.nodes book.script.now
+  pub pool : IsPoolSize book.workers
   pub begun : length book.entries.items ≤ length book.script.now
-  pub each : AreEntries (cancels_of cancels) run (is_known_to book) book.script.now book.entries.items
+  pub each : AreEntries (cancels_of cancels) run (is_known_to book) book.script.now (parts_in book) book.entries.items
   pub clock : book.clock ≡ moment_after (take (length book.entries.items) book.script.now)
   pub contexts : AreOpened run book.contexts
 
 -- the book is of the same run
 pub record SameRun {W : Type 0} (v w : Book W) : Type 0 where
   pub nodes : w.nodes ≡ v.nodes
+  pub workers : w.workers ≡ v.workers
   pub script : w.script ≡ v.script
   pub known : w.known ≡ v.known
 

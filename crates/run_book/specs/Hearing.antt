@@ -11,6 +11,7 @@ use Rattle.run_book.specs.declared.entry.State.{State}
 use Rattle.run_book.specs.Answering.{IsToState, after_cancelled, after_named, after_not_found, after_root, after_rows, root_awaited}
 use Rattle.run_book.specs.Contexts.{Opens, after_page}
 use Rattle.run_book.specs.Entries.{Turned, entry_of}
+use Rattle.run_book.specs.Listing.{part_of}
 
 abbrev pub with_state : (State → State) → Entry → Entry
 with_state turn e = record e { state = turn e.state }
@@ -25,16 +26,17 @@ pub record HearsRoot (answered : RootAnswered) (v w : List Entry) : Type 0 where
   pub taken : IsAwaitedBy (entry_of v answered.place.command) answered → Turned (with_state (after_root answered.reply)) (answered.place.command - 1) v w
   pub passed : (IsAwaitedBy (entry_of v answered.place.command) answered → ⊥) → w ≡ v
 
--- The letter is about one command, of which it turns the entry; any other letter turns none.
-abbrev pub Hears : Body → List Entry → List Entry → Type 0
-Hears (says.Root command task) v w = Turned (λ e. record e { root = Some task }) (command - 1) v w
-Hears (says.RootAnswer answered) v w = HearsRoot answered v w
-Hears (says.Rows node worker command rows) v w = Turned (with_state (after_rows node rows)) (command - 1) v w
-Hears (says.AnswerPlaced cancel task) v w = Turned (with_state (λ s. after_cancelled s task None)) (cancel - 1) v w
-Hears (says.AnswerDone cancel task receipt) v w = Turned (with_state (λ s. after_cancelled s task (Some receipt))) (cancel - 1) v w
-Hears (says.NotFound cancel) v w = Turned (with_state after_not_found) (cancel - 1) v w
-Hears (says.Named node cancel tasks) v w = Turned (with_state (after_named node tasks)) (cancel - 1) v w
-Hears _ v w = w ≡ v
+module _ (nodes workers : ℕ) where
+  -- The letter is about one command, of which it turns the entry; any other letter turns none.
+  abbrev pub Hears : Body → List Entry → List Entry → Type 0
+  Hears (says.Root command task) v w = Turned (λ e. record e { root = Some task }) (command - 1) v w
+  Hears (says.RootAnswer answered) v w = HearsRoot answered v w
+  Hears (says.Rows node worker command rows) v w = Turned (with_state (after_rows (part_of nodes workers node worker) rows)) (command - 1) v w
+  Hears (says.AnswerPlaced cancel task) v w = Turned (with_state (λ s. after_cancelled s task None)) (cancel - 1) v w
+  Hears (says.AnswerDone cancel task receipt) v w = Turned (with_state (λ s. after_cancelled s task (Some receipt))) (cancel - 1) v w
+  Hears (says.NotFound cancel) v w = Turned (with_state after_not_found) (cancel - 1) v w
+  Hears (says.Named node cancel tasks) v w = Turned (with_state (after_named node tasks)) (cancel - 1) v w
+  Hears _ v w = w ≡ v
 
 -- a root that ended gives the context back of which it was sent a page, and else it may have opened its own
 abbrev pub by_root : Option (Option ScrollAsk) → Contexts → ℕ → RootAnswered → Contexts → Type 0

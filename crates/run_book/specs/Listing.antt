@@ -1,12 +1,11 @@
--- The rows that a list shows, of those that the nodes told.
-use Rattle.std.specs.Prelude.{◌≡◌, ℕ, ◌+◌, ◌-◌, ◌≤◌, nat_le, ◌&&◌, Bool, true, List, [], ◌∷◌, ◌++◌, length, All, Option, None, Some, option_map, slice_get, if◌then◌else◌}
+-- The rows that a list shows, of those that the data workers told.
+use Rattle.std.specs.Prelude.{◌≡◌, ℕ, ◌+◌, ◌-◌, ◌≤◌, nat_le, nat_lt, ◌*◌, ◌&&◌, Bool, true, List, [], ◌∷◌, ◌++◌, length, All, Option, None, Some, option_map, slice_get, if◌then◌else◌}
 use Rattle.std.specs.declared.cmp.Ordering.TheVariants.{Less}
 use Rattle.std.specs.List.{fold}
 use Rattle.std.specs.Ordering.{is_lt}
 use Rattle.task_ids.specs.TaskIdOrder.{task_id_cmp}
 use Rattle.task_ids.specs.declared.task_id.TaskId.{TaskId}
 use Rattle.task_ids.specs.declared.task_info.TaskInfo.{TaskInfo}
-use Rattle.run_book.specs.Told.{all_told}
 
 -- the id of the last row
 abbrev pub last_id : List TaskInfo → Option TaskId
@@ -27,9 +26,13 @@ with_row now all row = if goes_on (last_id all) now row then all ++ row ∷ [] e
 abbrev pub with_rows : ℕ → List TaskInfo → List TaskInfo → List TaskInfo
 with_rows now all rows = fold (with_row now) all rows
 
--- what a list shows at a moment, of what the nodes told
-abbrev pub listed : ℕ → List (Option (List TaskInfo)) → List TaskInfo
-listed now parts = with_rows now [] (all_told parts)
+-- what a list shows at a moment, of all rows that were told
+abbrev pub listed : ℕ → List TaskInfo → List TaskInfo
+listed now rows = with_rows now [] rows
+
+-- The number of a data worker among all data workers of so many nodes, each of which has so many. It has one where it is one of them.
+abbrev pub part_of : ℕ → ℕ → ℕ → ℕ → Option ℕ
+part_of nodes workers node worker = if nat_le 1 node && nat_le node nodes && nat_lt worker workers then Some ((node - 1) * workers + worker) else None
 
 -- Each row stands once, in the order of the ids.
 abbrev pub Ascend : List TaskInfo → Type 0

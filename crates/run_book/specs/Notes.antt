@@ -55,13 +55,13 @@ body_fault _ = None
 
 -- the first fault of a reindex's body
 abbrev pub IsReindexFault : Command → ReindexError → Type 0
-IsReindexFault (commands.Reindex node body slices rate opaque_id) fault = reindex_at body ≡ Err fault
+IsReindexFault (commands.Reindex node body slices rate opaque_id store) fault = reindex_at body ≡ Err fault
 IsReindexFault _ fault = ⊥
 
 -- the index that a command reads, where its body has no fault
 abbrev pub index_read : Command → Option (List ℕ)
 index_read (commands.Search index node scroll body opaque_id) = option_map (λ read. index) (result_ok (body_at (is_some scroll) (least_size scroll) body))
-index_read (commands.Reindex node body slices rate opaque_id) = option_map (λ read. read.source) (result_ok (reindex_at body))
+index_read (commands.Reindex node body slices rate opaque_id store) = option_map (λ read. read.source) (result_ok (reindex_at body))
 index_read _ = None
 
 abbrev pub is_scroll : Command → Bool
@@ -85,9 +85,12 @@ abbrev pub cancel_in : Command → Option (CancelTarget × Bool)
 cancel_in (commands.Cancel target reason wait) = Some (target, wait)
 cancel_in _ = None
 
--- it waits for another command, or is a line of a schedule, which no script of a run has
+-- it waits for another command, or is a line of a schedule or about results, which no script of a run has
 abbrev pub says_answered : Command → Bool
 says_answered (commands.WaitFor command) = true
+says_answered (commands.GetTask task wait) = true
+says_answered (commands.ForgetTask task) = true
+says_answered commands.ListResults = true
 says_answered (commands.Deliver nth) = true
 says_answered (commands.Step task) = true
 says_answered (commands.ListStep node parent) = true

@@ -3,6 +3,7 @@ ghost use Rattle.std.specs.Prelude.{◌≡◌, ℕ, ◌+◌, ◌-◌, ◌≤◌,
 ghost use Rattle.std.specs.Option.{option_map_or};
 ghost use Rattle.line_print.specs.RunLines.{IsPrintable};
 ghost use Rattle.run_facts.specs.Cancels.{cancels_of};
+ghost use Rattle.run_facts.specs.Inboxes.{IsPoolSize};
 ghost use Rattle.run_book.specs.Notes.{IsNoteAt};
 ghost use Rattle.std.specs.FinMap.{empty};
 ghost use Rattle.run_book.specs.Answering.{answer_in, without_answer};
@@ -36,6 +37,8 @@ pub enum Needs {
 pub struct Book<'a, W: Run> {
     pub(crate) alloc: Global,
     pub(crate) nodes: u32,
+    /// How many data workers each node has.
+    pub(crate) workers: u32,
     pub(crate) script: &'a [Command],
     /// The indices that there are.
     pub(crate) known: &'a HashSet<&'a str>,
@@ -58,21 +61,24 @@ pub(crate) fn place_of(command: u32) -> usize
 }
 
 impl<'a, W: Run> Book<'a, W> {
-    /// The book of a run in which no command has begun.
+    /// The book of a run in which no command has begun. Each node of its cluster has so many data workers, from 1 to 4.
     pub fn new(
         alloc: Global,
         cluster: &Cluster,
+        workers: u32,
         script: &'a [Command],
         known: &'a HashSet<&'a str>,
     ) -> Book<'a, W>
-        requires { CanDrive W.cancels W.setting cluster.now.nodes script.now }
+        requires can { CanDrive W.cancels W.setting cluster.now.nodes script.now }
+        requires workers { IsPoolSize workers }
         ensures keeps { Keeps W.cancels W.setting result }
-        ensures is { (result.nodes ≡ cluster.now.nodes) × (result.script.now ≡ script.now) × (result.known.now ≡ known.now) }
+        ensures is { (result.nodes ≡ cluster.now.nodes) × (result.workers ≡ workers) × (result.script.now ≡ script.now) × (result.known.now ≡ known.now) }
         ensures none { (result.entries.items ≡ []) × (result.paging.items ≡ []) × (result.contexts ≡ record { table = empty; openers = empty }) × (result.clock ≡ 0) }
     {
         Book {
             alloc,
             nodes: cluster.nodes,
+            workers,
             script,
             known,
             entries: Vec::new(alloc),

@@ -37,7 +37,7 @@ impl<'a, W: Run> Book<'a, W> {
         Ok(Begun::waiting(Waits::Cancel { task, wait }, posts))
     }
 
-    /// The letters by which each node is to name its tasks that a filter lets through.
+    /// The letters by which each data worker is to tell its tasks that a filter lets through.
     fn filter_posts(
         &self,
         cancel: u32,
@@ -45,19 +45,17 @@ impl<'a, W: Run> Book<'a, W> {
         wait: bool,
     ) -> Result<Vec<Post<Letter<Of<W>>>>, AllocError>
         requires { cancels_of W.cancels cancel }
-        ensures { IfOk result (λ posts. posts.items ≡ to_each self.now.nodes (says.CancelMatching cancel filter.now wait)) }
+        ensures { IfOk result (λ posts. posts.items ≡ to_each self.now.nodes self.now.workers (says.CancelMatching cancel filter.now wait)) }
     {
         let mut posts = Vec::new(self.alloc);
-        for before in 0..self.nodes {
+        for to in self.data_workers()? {
             let filter = filter.copy()?;
-            posts.push(Post {
-                to: To::Data(before + 1),
-                letter: Letter::new(Body::CancelMatching {
-                    cancel,
-                    filter,
-                    wait,
-                }),
-            })?;
+            let letter = Letter::new(Body::CancelMatching {
+                cancel,
+                filter,
+                wait,
+            });
+            posts.push(Post { to, letter })?;
         }
         Ok(posts)
     }
@@ -70,7 +68,7 @@ impl<'a, W: Run> Book<'a, W> {
         wait: bool,
     ) -> Result<Begun<W>, AllocError>
         requires { cancels_of W.cancels cancel }
-        ensures { IfOk result (λ b. IsOutcome (begun.cancelled self.now.nodes (root_of self.now.entries.items) cancel (targets.Matching filter.now) wait) b.state b.posts.items) }
+        ensures { IfOk result (λ b. IsOutcome (begun.cancelled self.now.nodes self.now.workers (root_of self.now.entries.items) cancel (targets.Matching filter.now) wait) b.state b.posts.items) }
     {
         let posts = self.filter_posts(cancel, filter, wait)?;
         let naming = Naming {
@@ -91,7 +89,7 @@ impl<'a, W: Run> Book<'a, W> {
         wait: bool,
     ) -> Result<Begun<W>, AllocError>
         requires { cancels_of W.cancels cancel }
-        ensures { IfOk result (λ b. IsOutcome (begun.cancelled self.now.nodes (root_of self.now.entries.items) cancel target.now wait) b.state b.posts.items) }
+        ensures { IfOk result (λ b. IsOutcome (begun.cancelled self.now.nodes self.now.workers (root_of self.now.entries.items) cancel target.now wait) b.state b.posts.items) }
     {
         match target {
             CancelTarget::Task(task) => Ok(self.cancel_task(cancel, *task, wait)?),

@@ -1,9 +1,10 @@
 //! What is known of a command that has begun.
 use crate::parts::Parts;
 use child_track::Receipt;
+use data_pool::Gather;
 use line_print::LineReply;
 use task_events::{HitKey, ScrollAsk};
-use task_ids::{TaskId, TaskInfo};
+use task_ids::TaskId;
 
 /// Which page of which search a scroll asked for.
 #[derive(Drop)]
@@ -73,8 +74,8 @@ pub(crate) enum Waits {
     Cancel { task: TaskId, wait: bool },
     /// What the nodes name, and the answers of each task that is named.
     Naming(Naming),
-    /// The rows of each node, at this moment.
-    Rows { rows: Parts<TaskInfo>, now: u64 },
+    /// The rows of each data worker, at this moment.
+    Rows { rows: Gather, now: u64 },
 }
 
 /// How far a command is.

@@ -5,14 +5,17 @@ ghost use Rattle.task_events.specs.declared.stop.Stop as stops;
 ghost use Rattle.node_link.specs.Lawful.{IsLawful};
 ghost use Rattle.reply_facts.specs.Letters.{TellsPlainly};
 ghost use Rattle.run_facts.specs.Cancels.{cancels_of};
+ghost use Rattle.run_facts.specs.Inboxes.{IsPoolSize};
+ghost use Rattle.task_ids.specs.Limits.{IsNode};
 ghost use Rattle.run_book.specs.Answering as answers;
 ghost use Rattle.run_book.specs.Answering.{same_bool};
 ghost use Rattle.run_book.specs.Entries.{Keeps, SameRun, SameTime, Turned};
 ghost use Rattle.run_book.specs.Hearing.{ContextsAfter, Hears, with_state};
+ghost use Rattle.run_book.specs.Listing.{part_of};
 
 use crate::book::{Book, place_of};
 use crate::entry::{Answer, Naming, State, Waits};
-use crate::lists::with_rows;
+use crate::lists::{part_of, with_rows};
 use crate::naming::{with_done, with_named};
 use child_track::Receipt;
 use line_print::LineReply;
@@ -140,17 +143,17 @@ fn after_named(
     }
 }
 
-/// A command after a node told its live tasks.
+/// A command after a data worker told its live tasks. There is no part of a worker that the cluster does not have.
 fn after_rows(
     alloc: Global,
     state: State,
-    node: u32,
-    part: Items<TaskInfo>,
+    part: Option<u32>,
+    told: Items<TaskInfo>,
 ) -> Result<State, AllocError>
-    ensures { IfOk result (λ after. after ≡ answers.after_rows node part state) }
+    ensures { IfOk result (λ after. after ≡ answers.after_rows part told state) }
 {
     match state {
-        State::Waits(Waits::Rows { rows, now }) => match with_rows(alloc, rows, now, node, part) {
+        State::Waits(Waits::Rows { rows, now }) => match with_rows(alloc, rows, now, part, told) {
             Ok(state) => Ok(state),
             Err(error) => Err(error),
         },
@@ -171,22 +174,26 @@ impl<'a, W: Run> Book<'a, W> {
         }
     }
 
-    /// A node tells its live tasks.
+    /// A data worker tells its live tasks.
     fn hear_rows(
         &mut self,
         node: u32,
+        worker: u32,
         command: u32,
-        part: Items<TaskInfo>,
+        told: Items<TaskInfo>,
     ) -> Result<(), AllocError>
-        ensures told { OnOk result (Turned (with_state (answers.after_rows node part)) (command - 1) self.old.entries.items self.new.entries.items) }
+        requires nodes { IsNode self.old.nodes }
+        requires workers { IsPoolSize self.old.workers }
+        ensures told { OnOk result (Turned (with_state (answers.after_rows (part_of self.old.nodes self.old.workers node worker) told)) (command - 1) self.old.entries.items self.new.entries.items) }
         ensures same { SameTime self.old self.new }
         ensures contexts { self.new.contexts ≡ self.old.contexts }
         ensures begun { length self.new.entries.items ≡ length self.old.entries.items }
     {
         let alloc = self.alloc;
+        let part = part_of(self.nodes, self.workers, node, worker);
         if let Some(entry) = self.entries.get_mut(place_of(command)) {
             let state = replace(&mut entry.state, State::Told);
-            entry.state = after_rows(alloc, state, node, part)?;
+            entry.state = after_rows(alloc, state, part, told)?;
         }
         Ok(())
     }
@@ -245,7 +252,7 @@ impl<'a, W: Run> Book<'a, W> {
         requires tells { TellsPlainly W.setting body }
         requires keeps { Keeps W.cancels W.setting self.old }
         ensures keeps { OnOk result (Keeps W.cancels W.setting self.new) }
-        ensures hears { OnOk result (Hears body self.old.entries.items self.new.entries.items) }
+        ensures hears { OnOk result (Hears self.old.nodes self.old.workers body self.old.entries.items self.new.entries.items) }
         ensures contexts { OnOk result (ContextsAfter body self.old self.new.contexts) }
         ensures same { SameTime self.old self.new }
         ensures begun { length self.new.entries.items ≡ length self.old.entries.items }
@@ -258,10 +265,10 @@ impl<'a, W: Run> Book<'a, W> {
             Body::RootAnswer(answered) => Ok(self.hear_root_answer(answered)?),
             Body::Rows {
                 node,
-                worker: _,
+                worker,
                 command,
                 rows,
-            } => Ok(self.hear_rows(node, command, rows)?),
+            } => Ok(self.hear_rows(node, worker, command, rows)?),
             Body::Named {
                 node,
                 cancel,
@@ -287,7 +294,7 @@ impl<'a, W: Run> Book<'a, W> {
     pub fn hear(&mut self, letter: Letter<Of<W>>) -> Result<(), Stop>
         requires keeps { Keeps W.cancels W.setting self.old }
         ensures keeps { OnOk result (Keeps W.cancels W.setting self.new) }
-        ensures hears { OnOk result (Hears letter self.old.entries.items self.new.entries.items) }
+        ensures hears { OnOk result (Hears self.old.nodes self.old.workers letter self.old.entries.items self.new.entries.items) }
         ensures contexts { OnOk result (ContextsAfter letter self.old self.new.contexts) }
         ensures stopped { (stop : stops.Stop) → letter ≡ says.Stopped stop → result ≡ Err stop }
         ensures fails { IfErr result (λ stop. (letter ≡ says.Stopped stop) ⊎ (stop ≡ Stop.Memory)) }

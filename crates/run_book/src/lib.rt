@@ -18,6 +18,7 @@ mod parts;
 mod roots;
 mod scrolls;
 mod starts;
+mod workers;
 
 pub use book::{Book, Needs};
 pub use entry::{LineNote, PageNote};

@@ -13,21 +13,19 @@ use crate::begin::Begun;
 use crate::book::Book;
 use line_print::LineReply;
 use node_link::{Body, Letter};
-use run_facts::{Of, Post, Run, To};
+use run_facts::{Of, Post, Run};
 use std::alloc::AllocError;
 
 impl<'a, W: Run> Book<'a, W> {
     /// The letters by which the clock of each data worker goes on.
     fn tick_posts(&self, ms: u64) -> Result<Vec<Post<Letter<Of<W>>>>, AllocError>
         requires { IsTick ms }
-        ensures { IfOk result (λ posts. posts.items ≡ to_each self.now.nodes (says.Tick ms)) }
+        ensures { IfOk result (λ posts. posts.items ≡ to_each self.now.nodes self.now.workers (says.Tick ms)) }
     {
         let mut posts = Vec::new(self.alloc);
-        for before in 0..self.nodes {
-            posts.push(Post {
-                to: To::Data(before + 1),
-                letter: Letter::new(Body::Tick { ms }),
-            })?;
+        for to in self.data_workers()? {
+            let letter = Letter::new(Body::Tick { ms });
+            posts.push(Post { to, letter })?;
         }
         Ok(posts)
     }
@@ -37,7 +35,7 @@ impl<'a, W: Run> Book<'a, W> {
         requires ms { IsTick ms }
         requires clock { self.old.clock + ms < 2 ^ 64 }
         ensures state { IfOk result (λ b. b.state ≡ answered (LineReply.Now (self.old.clock + ms))) }
-        ensures posts { IfOk result (λ b. b.posts.items ≡ to_each self.old.nodes (says.Tick ms)) }
+        ensures posts { IfOk result (λ b. b.posts.items ≡ to_each self.old.nodes self.old.workers (says.Tick ms)) }
         ensures clock { OnOk result (self.new.clock ≡ self.old.clock + ms) }
         ensures left { OnOk result ((id : TaskId) → get self.new.contexts.table id ≡ unexpired (self.old.clock + ms) (get self.old.contexts.table id)) }
         ensures openers { self.new.contexts.openers ≡ self.old.contexts.openers }

@@ -103,7 +103,7 @@ fn start_letter<W: Run>(
     })))
 }
 
-/// A command whose root starts on a node.
+/// A command whose root starts on a node, by its first data worker.
 pub(crate) fn started<W: Run>(
     alloc: Global,
     number: u32,
@@ -125,7 +125,7 @@ pub(crate) fn started<W: Run>(
         page,
     } = root;
     let letter = start_letter(number, search, command, request, page)?;
-    let to = To::Data(node);
+    let to = To::Data { node, worker: 0 };
     let posts = one(alloc, Post { to, letter })?;
     Ok(Begun::waiting(Waits::Root(asked), posts))
 }

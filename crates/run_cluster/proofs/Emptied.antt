@@ -1,8 +1,9 @@
 -- A worker that drained leaves the race board with which it began, and holds nothing of it.
-use Rattle.std.proofs.Common.{◌≡◌, ℕ, List, [], ◌∷◌, Option, subst}
+use Rattle.std.proofs.Common.{◌≡◌, ℕ, List, Option, subst}
 use Rattle.task_ids.specs.declared.board_name.BoardName as name
 use Rattle.race_board.specs.Checks.{IsClear}
-use Rattle.race_board.specs.Closing.{bans_out, all_tickets}
+use Rattle.race_board.specs.Board.{tickets_out}
+use Rattle.race_board.specs.Closing.{bans_out}
 use Rattle.race_board.specs.Seats.{seat_view, control_view}
 use Rattle.node_boards.specs.Race.{unused}
 use Rattle.node_boards.specs.declared.race_control.RaceControl.{RaceControl}
@@ -21,7 +22,7 @@ use Rattle.run_cluster.specs.Workers.{ControlRest, DataRest, OwnBans, OwnTickets
 use Rattle.run_cluster.proofs.ControlStays as control_stays
 use Rattle.run_cluster.proofs.DataStays as data_stays
 use Rattle.run_cluster.proofs.Drained.{drained_keeps}
-use Rattle.run_cluster.proofs.NothingOut.{no_ban_out, none_of_all}
+use Rattle.run_cluster.proofs.NothingOut.{no_ban_out, no_ticket_out}
 
 module _ {M T : Type 0} {G : name.Ghosts M} where
   -- a control worker, of which this is seen
@@ -50,9 +51,9 @@ module _ {M T : Type 0} {G : name.Ghosts M} where
     no_ticket v rests fits n p has = subst (λ (o : Option Entry). HasParent p o) (rests.none n) ((fits.together.seated.tickets n p).0 has)
 
     pub data_emptied : {N : Type 0} (fits : T → Type 0) (fit : (v : T) → fits v → IsFit v) (begun : Begun T) (rest : Rest N T) → Drained DidOwn (λ v. own.Rests (seen v)) fits begun rest
-        → ((seen rest.worker).board.board.now ≡ (seen begun.worker).board.board.now) × (all_tickets ((seen rest.worker).board.seat ∷ []) ≡ 0)
+        → ((seen rest.worker).board.board.now ≡ (seen begun.worker).board.board.now) × (tickets_out (seat_view (seen rest.worker).board.seat) ≡ 0)
     data_emptied fits fit begun rest d = (
       drained_keeps DidOwn (λ v. (seen v).board.board.now) (λ v given posts w done. data_stays.does_keeps DataRest (λ b. b.board.now) (λ b c call r. r.0) (seen v) given posts (seen w) done)
           (λ v. own.Rests (seen v)) fits begun rest d,
-      none_of_all (seen rest.worker).board.seat (no_ticket rest.worker d.rests (fit rest.worker d.belongs)),
+      no_ticket_out (seat_view (seen rest.worker).board.seat) (no_ticket rest.worker d.rests (fit rest.worker d.belongs)),
     )

@@ -7,12 +7,14 @@ mod Drained
 mod Emptied
 mod Fitting
 mod Fresh
-mod Holding
 mod Leaving
 mod Linked
 mod Mailing
 mod Manning
+mod Mapping
 mod NothingOut
+mod Noting
+mod Pools
 mod Running
 mod Staying
 mod Through

@@ -1,14 +1,13 @@
 -- The mail of those who have ends, by these ends.
 use Rattle.std.proofs.Common.{◌≡◌, ℕ, zero, suc, List, [], ◌∷◌, length, Some, refl, sym, ap, ◌∙◌, subst, arith}
 use Rattle.std.specs.Prelude.{map, slice_get, slice_index_or}
-use Rattle.std.proofs.lemmas.Option.{slice_get_within, slice_get-map}
+use Rattle.std.proofs.lemmas.Option.{slice_get_within}
 use Rattle.std.proofs.lemmas.List.{length-map}
 use Rattle.node_link.specs.declared.body.Body.{Body}
 use Rattle.node_link.specs.declared.ends.Sender.{Sender}
 use Rattle.node_link.specs.declared.ends.Tally.{Tally}
 use Rattle.node_link.specs.Rule.{of, total}
 use Rattle.node_link.specs.Inbox.{put, got, Begins}
-use Rattle.node_link.proofs.Counts.{Some_injective}
 use Rattle.node_worker.specs.Turns.{Turn}
 use Rattle.run_inboxes.specs.declared.ends.Ends.{Ends}
 use Rattle.run_inboxes.specs.Ends.{AreLinked}
@@ -16,24 +15,13 @@ use Rattle.run_inboxes.specs.Closed.{put_by, sent_into, IsClosed}
 use Rattle.run_inboxes.proofs.Rows.{stands}
 use Rattle.run_cluster.specs.Crews.{Mailed}
 use Rattle.run_cluster.specs.Mail.{Mail, into, IsInbox, AreTurnsOf}
+use Rattle.run_cluster.proofs.Mapping.{mapped_at, made_of}
 
 abbrev pub mail_of : Ends Body → Mail
 mail_of e = record { took = got e.inbox; sent = map put e.senders.items }
 
 abbrev pub all_mail : List (Ends Body) → List Mail
 all_mail ends = map mail_of ends
-
-module _ {A B : Type 0} (f : A → B) where
-  pub mapped_at : (xs : List A) (k : ℕ) (x : A) → slice_get xs k ≡ Some x → slice_get (map f xs) k ≡ Some (f x)
-  mapped_at xs k x at = slice_get-map f xs k ∙ ap (Rattle.std.specs.Prelude.option_map f) at
-
-  -- what stands in the list that was made is made of what stands there
-  made_of : (xs : List A) (k : ℕ) (y : B) → slice_get (map f xs) k ≡ Some y → (x : A) × (slice_get xs k ≡ Some x) × (f x ≡ y)
-  made_of xs k y at =
-      let low = slice_get_within (map f xs) k y at in
-      let long = length-map xs f in
-      let x = stands xs k (omega arith) in
-      (x.0, x.1, Some_injective (f x.0) y (sym (mapped_at xs k x.0 x.1) ∙ at))
 
 total_map : {A B : Type 0} (f : B → ℕ) (g : A → B) (h : A → ℕ) → ((x : A) → f (g x) ≡ h x) → (xs : List A) → total f (map g xs) ≡ total h xs
 total_map f g h same [] = refl

@@ -3,11 +3,8 @@ use Rattle.std.proofs.Common.{◌≡◌, ◌≢◌, ℕ, inl, inr, suc, Bool, no
 use Rattle.std.specs.Prelude.{count_by}
 use Rattle.std.proofs.lemmas.Bool.{cases_eq}
 use Rattle.std.proofs.lemmas.List.Sums.{sum_by-cons}
-use Rattle.task_ids.specs.declared.board_name.BoardName as name
 use Rattle.race_board.specs.Board.{hold, ban, no_hold, no_ban, is_out, tickets_out}
-use Rattle.race_board.specs.Closing.{is_banned, bans_out, all_tickets}
-use Rattle.race_board.specs.Seats.{seat_view}
-use Rattle.race_board.specs.declared.seats.DataSeat.{DataSeat}
+use Rattle.race_board.specs.Closing.{is_banned, bans_out}
 use Rattle.race_board.specs.declared.views.View.{View}
 use Rattle.node_boards.specs.Seats.{HasNoBan}
 use Rattle.node_boards.specs.Race.{HoldsBan, HoldsTicket}
@@ -29,9 +26,5 @@ not_some n none = elim (cases_eq n 0) [
 pub no_ban_out : (v : View) → HasNoBan (HoldsBan v) → bans_out v ≡ 0
 no_ban_out v none = none_counted is_banned no_ban v.bans (λ j. not_some (ban v j).parent (λ some. none j (ban v j).parent (ban v j).cancel (refl, refl, some)))
 
-no_ticket_out : (v : View) → ((n p : ℕ) → ¬ HoldsTicket v n p) → tickets_out v ≡ 0
+pub no_ticket_out : (v : View) → ((n p : ℕ) → ¬ HoldsTicket v n p) → tickets_out v ≡ 0
 no_ticket_out v none = none_counted is_out no_hold v.held (λ i. not_some (hold v i).number (λ some. none (hold v i).number (hold v i).parent (i, (refl, refl, some))))
-
--- the only seat of a board
-pub none_of_all : {N : Type 0} {G : name.Ghosts N} (seat : DataSeat N G) → ((n p : ℕ) → ¬ HoldsTicket (seat_view seat) n p) → all_tickets (seat ∷ []) ≡ 0
-none_of_all seat none = let own = no_ticket_out (seat_view seat) none in sum_by-cons (λ (s : DataSeat _ _). tickets_out (seat_view s)) seat [] ∙ rw own (omega arith)

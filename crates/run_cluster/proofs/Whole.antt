@@ -17,17 +17,17 @@ use Rattle.run_cluster.specs.Boards.{AreNewBoards, AllHoldNothing}
 use Rattle.run_cluster.specs.Notes.{AreNotes, IsClear, AreClear}
 
 module _ {N : Type 0} {G : name.Ghosts N} where
-  -- each new board has one data seat
-  pub one_seat : (cluster : Cluster) (boards : List (RaceBoard N)) (seats : List (Seats N G)) → AreNewBoards cluster boards seats → (k : ℕ) (b : RaceBoard N) → slice_get boards k ≡ Some b → (board_size b).seats ≡ 1
-  one_seat cluster boards seats new k b at =
+  -- each new board has a seat for each data worker
+  pub seats_of : (cluster : Cluster) (workers : ℕ) (boards : List (RaceBoard N)) (seats : List (Seats N G)) → AreNewBoards cluster workers boards seats → (k : ℕ) (b : RaceBoard N) → slice_get boards k ≡ Some b → (board_size b).seats ≡ workers
+  seats_of cluster workers boards seats new k b at =
       let low = slice_get_within boards k b at in
       let m = new.boards_count in
       let n = new.seats_count in
       let s = stands seats k (omega arith) in
       ap (λ (z : Size). z.seats) (new.each k b s.0 at s.1).size
 
-  pub all_clear : (nodes : ℕ) (seats : List (Seats N G)) (ends : List (Ends Body)) (notes : RunNotes) → length seats ≡ nodes → AllHoldNothing seats → AreNotes seats ends notes → AreClear nodes notes.nodes.items
-  all_clear nodes seats ends notes long none are = record { count = are.count ∙ long; clear = clear }
+  pub all_clear : (nodes workers : ℕ) (seats : List (Seats N G)) (ends : List (Ends Body)) (notes : RunNotes) → length seats ≡ nodes → AllHoldNothing seats → AreNotes workers seats ends notes → AreClear nodes notes.nodes.items
+  all_clear nodes workers seats ends notes long none are = record { count = are.count ∙ long; clear = clear }
     where
       clear : (k : ℕ) (note : NodeNote) → slice_get notes.nodes.items k ≡ Some note → IsClear (k + 1) note
       clear k note at =

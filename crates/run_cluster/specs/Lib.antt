@@ -1,7 +1,6 @@
 -- The boards of a cluster, what its workers get, and what is left of it at the end.
 pub mod Boards
 pub mod Places
-pub mod Shards
 pub mod Closing
 pub mod Notes
 pub mod Mail

@@ -1,6 +1,7 @@
 // The boards of a cluster.
 ghost use Rattle.std.specs.Prelude.{◌≡◌, IfOk};
 ghost use Rattle.task_ids.specs.Limits.{IsNode};
+ghost use Rattle.run_facts.specs.Inboxes.{IsPoolSize};
 ghost use Rattle.run_cluster.specs.Boards.{IsNewBoard, AreNewBoards};
 
 use race_board::{BoardParts, ControlSeat, DataSeat, RaceBoard};
@@ -14,7 +15,8 @@ const BANS: u32 = 1024;
 #[derive(Drop)]
 pub(crate) struct Seats<N: BoardName> {
     pub(crate) control: ControlSeat<N>,
-    pub(crate) data: DataSeat<N>,
+    /// By the numbers of the data workers.
+    pub(crate) datas: Vec<DataSeat<N>>,
 }
 
 /// The boards of all nodes, and the seats of each.
@@ -24,36 +26,46 @@ pub(crate) struct Boards<N: BoardName> {
     pub(crate) seats: Vec<Seats<N>>,
 }
 
-// A new board of a node, with one data seat.
+// A new board of a node, with so many data seats.
 fn new_board<N: BoardName>(
     alloc: Global,
     cluster: &Cluster,
+    workers: u32,
     node: u32,
 ) -> Result<(RaceBoard<N>, Seats<N>), AllocError>
-    requires { IsNode node }
-    ensures { IfOk result (λ r. IsNewBoard cluster.now.slots node r.0 r.1) }
+    requires workers { IsPoolSize workers }
+    requires node { IsNode node }
+    ensures { IfOk result (λ r. IsNewBoard cluster.now.slots workers node r.0 r.1) }
 {
     let BoardParts {
         board,
         control,
-        mut seats,
-    } = RaceBoard::<N>::new(alloc, node, cluster.slots, BANS, 1)?;
-    let data = seats.pop().ok_or(AllocError)?;
-    Ok((board, Seats { control, data }))
+        seats,
+    } = RaceBoard::<N>::new(alloc, node, cluster.slots, BANS, workers)?;
+    let own = Seats {
+        control,
+        datas: seats,
+    };
+    Ok((board, own))
 }
 
 impl<N: BoardName> Boards<N> {
-    /// New boards for the nodes of a cluster, each with the slots of the cluster, room for 1,024 bans and one data seat. It fails only for want
-    /// of memory.
-    pub(crate) fn new(alloc: Global, cluster: &Cluster) -> Result<Boards<N>, AllocError>
-        ensures { IfOk result (λ all. AreNewBoards cluster.now all.boards.items all.seats.items) }
+    /// New boards for the nodes of a cluster, each with the slots of the cluster, room for 1,024 bans and so many data seats. It fails only
+    /// for want of memory.
+    pub(crate) fn new(
+        alloc: Global,
+        cluster: &Cluster,
+        workers: u32,
+    ) -> Result<Boards<N>, AllocError>
+        requires { IsPoolSize workers }
+        ensures { IfOk result (λ all. AreNewBoards cluster.now workers all.boards.items all.seats.items) }
     {
         let mut all = Boards {
             boards: Vec::new(alloc),
             seats: Vec::new(alloc),
         };
         for before in 0..cluster.nodes {
-            let (board, seats) = new_board::<N>(alloc, cluster, before + 1)?;
+            let (board, seats) = new_board::<N>(alloc, cluster, workers, before + 1)?;
             all.boards.push(board)?;
             all.seats.push(seats)?;
         }

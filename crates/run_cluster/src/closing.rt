@@ -1,35 +1,31 @@
 // The end of a cluster.
-ghost use Rattle.std.specs.Prelude.{◌≡◌, ◌*◌, ◌+◌, ◌≤◌, IfOk, length};
-ghost use Rattle.run_inboxes.specs.Pairs.{Pairwise, Threewise};
+ghost use Rattle.std.specs.Prelude.{◌≡◌, ◌+◌, ◌≤◌, IfOk, length};
+ghost use Rattle.run_facts.specs.Inboxes.{driver_of};
+ghost use Rattle.run_inboxes.specs.Pairs.{Pairwise};
 ghost use Rattle.run_inboxes.specs.Ends.{AreLinked};
 ghost use Rattle.run_cluster.specs.Boards.{AreSeatsOf};
 ghost use Rattle.run_cluster.specs.Closing.{IsClosedBoard};
-ghost use Rattle.run_cluster.specs.Notes.{AreNotesOf, AreNotes};
+ghost use Rattle.run_cluster.specs.Notes.{AreNoted, AreNotesOf, AreNotes};
 
 use crate::boards::Seats;
 use crate::left::Left;
 use crate::notes::{NodeNote, RunNotes};
+use crate::places::{Piles, Place, Places, deal};
 use node_link::Tally;
 use race_board::{Closed, RaceBoard};
 use run_facts::{Of, Run};
 use run_inboxes::close_all;
 use std::alloc::{AllocError, Global};
 use std::sync::Wait;
-use task_ids::BoardName;
+use task_ids::{BoardName, Items};
 
 // Closes a board.
-fn closed<N: BoardName>(
-    alloc: Global,
-    board: RaceBoard<N>,
-    seats: Seats<N>,
-) -> Result<Closed, AllocError>
+fn closed<N: BoardName>(board: RaceBoard<N>, seats: Seats<N>) -> Closed
     requires { AreSeatsOf board seats }
-    ensures { IfOk result (IsClosedBoard seats) }
+    ensures { IsClosedBoard seats result }
 {
-    let Seats { control, data } = seats;
-    let mut datas = Vec::new(alloc);
-    datas.push(data)?;
-    Ok(board.close(control, datas))
+    let Seats { control, datas } = seats;
+    board.close(control, datas)
 }
 
 // Closes the boards of all nodes.
@@ -46,51 +42,72 @@ fn all_closed<N: BoardName>(
     seats.reverse();
     for board in boards {
         let own = seats.pop().unwrap();
-        all.push(closed(alloc, board, own)?)?;
+        all.push(closed(board, own))?;
     }
     Ok(all)
 }
 
-// The notes of all nodes, of what their boards told and what was sent into all inboxes.
-fn notes_of(alloc: Global, boards: Vec<Closed>, inboxes: &[Tally]) -> Result<RunNotes, AllocError>
-    requires few { length boards.items ≤ 15 }
-    requires inboxes { length inboxes.now ≡ 2 * length boards.items + 1 }
-    ensures { IfOk result (AreNotesOf boards.items inboxes.now) }
+// The note of each node, of what belongs to it.
+fn node_notes(alloc: Global, places: Vec<Place<Closed, Tally>>) -> Result<Vec<NodeNote>, AllocError>
+    requires { length places.items ≤ 15 }
+    ensures { IfOk result (λ notes. AreNoted places.items notes.items) }
 {
-    let mut nodes = Vec::new(alloc);
+    let mut notes = Vec::new(alloc);
     let mut before = 0u32;
-    for closed in boards {
-        let place = 2 * before as usize;
-        nodes.push(NodeNote {
+    for place in places {
+        let Place {
+            board,
+            control,
+            datas,
+        } = place;
+        notes.push(NodeNote {
             node: before + 1,
-            closed,
-            control: inboxes[place],
-            data: inboxes[place + 1],
+            closed: board,
+            control,
+            datas: Items::from_vec(datas),
         })?;
         before += 1;
     }
-    Ok(RunNotes {
-        nodes,
-        driver: inboxes[2 * before as usize],
-    })
+    Ok(notes)
 }
 
-/// Closes the boards and the inboxes of a cluster with what its workers and its driver left. It fails only for want of memory.
+// The notes of all nodes, each with so many data workers, of what their boards told and what was sent into all inboxes.
+fn notes_of(
+    alloc: Global,
+    boards: Vec<Closed>,
+    inboxes: Vec<Tally>,
+    workers: u32,
+) -> Result<RunNotes, AllocError>
+    requires few { length boards.items ≤ 15 }
+    requires inboxes { length inboxes.items ≡ driver_of workers (length boards.items) + 1 }
+    ensures { IfOk result (AreNotesOf workers boards.items inboxes.items) }
+{
+    let Places { places, driver } = deal(alloc, Piles { boards, inboxes }, workers)?;
+    let nodes = node_notes(alloc, places)?;
+    Ok(RunNotes { nodes, driver })
+}
+
+/// Closes the boards and the inboxes of a cluster with what its workers, so many data workers on each node, and its driver left. It fails
+/// only for want of memory.
 pub(crate) fn close<W: Run, R: Wait>(
     rt: &R,
     alloc: Global,
     boards: Vec<RaceBoard<Of<W>>>,
     left: Left<Of<W>>,
+    workers: u32,
 ) -> Result<RunNotes, AllocError>
     requires few { length boards.items ≤ 15 }
-    requires seats { Pairwise AreSeatsOf boards.items left.seats.items }
-    requires linked { AreLinked left.ends.items }
-    requires ends { length left.ends.items ≡ 2 * length boards.items + 1 }
-    ensures { IfOk result (AreNotes left.seats.items left.ends.items) }
+    requires seats { Pairwise AreSeatsOf boards.items left.boards.items }
+    requires linked { AreLinked left.inboxes.items }
+    requires ends { length left.inboxes.items ≡ driver_of workers (length boards.items) + 1 }
+    ensures { IfOk result (AreNotes workers left.boards.items left.inboxes.items) }
 {
-    let Left { seats, ends } = left;
+    let Piles {
+        boards: seats,
+        inboxes: ends,
+    } = left;
     let inboxes = close_all(rt, alloc, ends)?;
     let boards = all_closed(alloc, boards, seats)?;
-    let notes = notes_of(alloc, boards, inboxes.as_slice())?;
+    let notes = notes_of(alloc, boards, inboxes, workers)?;
     Ok(notes)
 }

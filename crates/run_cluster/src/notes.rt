@@ -1,11 +1,12 @@
 // What is left of a run.
-ghost use Rattle.std.specs.Prelude.{◌≡◌, ◌+◌};
+ghost use Rattle.std.specs.Prelude.{◌≡◌, ◌≤◌, ◌+◌, ◌^◌, sum_by};
 
 use node_link::Tally;
 use race_board::Closed;
+use task_ids::Items;
 
 /// What is left of a node.
-#[derive(Clone, Copy)]
+#[derive(Drop)]
 pub struct NodeNote {
     /// The node, from 1.
     pub node: u32,
@@ -13,8 +14,8 @@ pub struct NodeNote {
     pub closed: Closed,
     /// What was sent into the inbox of its control worker, and taken out of it.
     pub control: Tally,
-    /// What was sent into the inbox of its data worker, and taken out of it.
-    pub data: Tally,
+    /// The same of the inbox of each of its data workers, worker 0 first.
+    pub datas: Items<Tally>,
 }
 
 impl NodeNote {
@@ -34,17 +35,41 @@ impl NodeNote {
 
     /// How many letters were sent into the inboxes of its workers, which may be more than 64 bits hold.
     pub fn sent(&self) -> u128
-        ensures { result ≡ self.now.control.sent + self.now.«data».sent }
+        ensures { result ≡ self.now.control.sent + sum_by (λ told. told.sent) self.now.datas }
     {
-        self.control.sent as u128 + self.data.sent as u128
+        self.control.sent as u128 + sent_in(self.datas.as_slice())
     }
 
     /// How many letters were taken out of them.
     pub fn taken(&self) -> u128
-        ensures { result ≡ self.now.control.taken + self.now.«data».taken }
+        ensures { result ≡ self.now.control.taken + sum_by (λ told. told.taken) self.now.datas }
     {
-        self.control.taken as u128 + self.data.taken as u128
+        self.control.taken as u128 + taken_in(self.datas.as_slice())
     }
+}
+
+// How many letters were sent into these inboxes.
+fn sent_in(inboxes: &[Tally]) -> u128
+    ensures sum { result ≡ sum_by (λ told. told.sent) inboxes.now }
+    ensures most { result ≤ 2 ^ 127 }
+{
+    let mut all = 0u128;
+    for told in inboxes {
+        all += told.sent as u128;
+    }
+    all
+}
+
+// How many letters were taken out of these inboxes.
+fn taken_in(inboxes: &[Tally]) -> u128
+    ensures sum { result ≡ sum_by (λ told. told.taken) inboxes.now }
+    ensures most { result ≤ 2 ^ 127 }
+{
+    let mut all = 0u128;
+    for told in inboxes {
+        all += told.taken as u128;
+    }
+    all
 }
 
 /// What is left of a run whose workers all drained.

@@ -2,13 +2,14 @@
 ghost use Rattle.std.specs.Prelude.{◌<◌, ◌≤◌, vec_len};
 ghost use Rattle.task_ids.specs.Limits.{IsNode};
 ghost use Rattle.node_link.specs.Inbox.{IsSame};
+ghost use Rattle.run_facts.specs.Inboxes.{IsPoolSize};
 ghost use Rattle.run_inboxes.specs.Ends.{SameEnds};
 ghost use Rattle.run_inboxes.specs.Pairs.{Pairwise};
 
 use node_link::{Back, Body, Letter, Place, Sender, Start};
 use query_match::{Query, SearchBody};
 use run_cluster::{Drive, Ends};
-use run_facts::{Of, Run};
+use run_facts::{Of, Run, To, inbox_of};
 use shared_value::Shared;
 use std::alloc::Global;
 use std::sync::Wait;
@@ -76,6 +77,8 @@ impl Drive<Name> for GivesUp {
 pub struct Searches {
     pub alloc: Global,
     pub nodes: u32,
+    /// How many data workers each node has.
+    pub workers: u32,
     /// How many searches it starts.
     pub count: u32,
     /// How many documents each of them found, added up.
@@ -83,6 +86,7 @@ pub struct Searches {
     /// How many were answered.
     pub answered: u32,
     pub ghost nodes_in_range: { IsNode nodes },
+    pub ghost pool_size: { IsPoolSize workers },
     pub ghost few: { count ≤ 65535 },
 }
 
@@ -224,8 +228,14 @@ impl Searches {
         let Some(letter) = search(self.alloc, command) else {
             return Err(Stop::Memory);
         };
-        let node = command % self.nodes;
-        self.send_in_time(rt, ends, 2 * node as usize + 1, letter)
+        let to = To::Data {
+            node: command % self.nodes + 1,
+            worker: 0,
+        };
+        match inbox_of(self.nodes, self.workers, to) {
+            Some(to) => self.send_in_time(rt, ends, to as usize, letter),
+            None => Ok(()),
+        }
     }
 
     // Starts all of them, and waits for none.

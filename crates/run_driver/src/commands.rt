@@ -3,6 +3,7 @@ ghost use Rattle.std.specs.Prelude.{◌≡◌, ◌+◌, ◌<◌, ◌≤◌, leng
 ghost use Rattle.std.specs.HashSet.{contains_by};
 ghost use Rattle.std.specs.Str.{bytes_eq};
 ghost use Rattle.run_facts.specs.Cancels.{cancels_of};
+ghost use Rattle.run_facts.specs.Inboxes.{IsPoolSize};
 ghost use Rattle.run_inboxes.specs.Ends.{SameEnds};
 ghost use Rattle.run_book.specs.Entries.{CanDrive, Keeps, SameRun, is_known_to};
 ghost use Rattle.run_driver.specs.Causes.{IsCauseAt};
@@ -10,12 +11,11 @@ ghost use Rattle.run_driver.specs.Drives.{AreNotes};
 
 use crate::gate::LineGate;
 use crate::hearing::{Note, answer_of, send_all, wait_for_answer, wait_for_pages, wait_for_root};
-use node_link::{Body, Letter};
 use run_book::{Book, LineNote, Needs};
-use run_facts::{Post, Run, To};
+use run_facts::Run;
 use run_inboxes::Ends;
 use script_lang::Command;
-use std::alloc::{AllocError, Global};
+use std::alloc::Global;
 use std::collections::HashSet;
 use std::sync::Wait;
 use task_events::Stop;
@@ -86,37 +86,20 @@ fn do_all<W: Run, G: LineGate, R: Wait>(
     Ok(())
 }
 
-/// The letters that tell each data worker of so many nodes that every due moment is past.
-fn drains<W: Run>(alloc: Global, nodes: u32) -> Result<Vec<Post<Note<W>>>, AllocError>
-    requires { nodes ≤ 15 }
-{
-    let mut posts = Vec::new(alloc);
-    for before in 0..nodes {
-        posts.push(Post {
-            to: To::Data(before + 1),
-            letter: Letter::new(Body::Drain),
-        })?;
-    }
-    Ok(posts)
-}
-
 /// Tells each data worker that every due moment is past.
 #[tactic(auto, using(run_inboxes::proofs::Same::same_ends, run_inboxes::proofs::Same::ends_on, run_book::proofs::Keeping::same_run))]
 fn drain<W: Run, R: Wait>(
     rt: &R,
-    alloc: Global,
     ends: &mut Ends<Note<W>>,
     book: &mut Book<'_, W>,
-    nodes: u32,
 ) -> Result<(), Stop>
     requires keeps { Keeps W.cancels W.setting book.old }
-    requires nodes { nodes ≤ 15 }
     ensures keeps { OnOk result (Keeps W.cancels W.setting book.new) }
     ensures run { SameRun book.old book.new }
     ensures ends { SameEnds ends.old ends.new }
     ensures fails { IfErr result (IsCauseAt ends.new.inbox) }
 {
-    match drains(alloc, nodes) {
+    match book.drain() {
         Ok(posts) => send_all(rt, ends, book, posts),
         Err(_) => Err(Stop::Memory),
     }
@@ -153,8 +136,8 @@ fn answers<W: Run, R: Wait>(
 /// for an answer, and a scroll, a clear and a tick for the searches and scrolls before that open or use a context. At last it tells
 /// the workers that every due moment is past, and waits for every answer. It passes the gate before each command.
 ///
-/// The ends are the driver's: its inbox, and a sender into each inbox of the run, for each node its control worker's and then its data
-/// worker's.
+/// Each node of the cluster has so many data workers, from 1 to 4. The ends are the driver's: its inbox, and a sender into each inbox of
+/// the run, for each node its control worker's and then its data workers'.
 ///
 /// It fails where a worker tells that it has stopped, for that cause, and for want of memory (`Memory`).
 #[tactic(auto, using(run_inboxes::proofs::Same::same_ends, run_inboxes::proofs::Same::ends_on, run_book::proofs::Keeping::same_run))]
@@ -162,18 +145,20 @@ pub fn drive<'a, W: Run, G: LineGate, R: Wait>(
     rt: &R,
     alloc: Global,
     cluster: &Cluster,
+    workers: u32,
     known: &'a HashSet<&'a str>,
     script: &'a [Command],
     ends: &mut Ends<Note<W>>,
     gate: &G,
 ) -> Result<Vec<LineNote>, Stop>
     requires can { CanDrive W.cancels W.setting cluster.now.nodes script.now }
+    requires workers { IsPoolSize workers }
     ensures ends { SameEnds ends.old ends.new }
     ensures fails { IfErr result (IsCauseAt ends.new.inbox) }
     ensures notes { IfOk result (λ notes. AreNotes W.cancels W.setting (λ index. contains_by (λ k. bytes_eq index k.now) known.now) script.now notes.items) }
 {
-    let mut book = Book::<W>::new(alloc, cluster, script, known);
+    let mut book = Book::<W>::new(alloc, cluster, workers, script, known);
     do_all(rt, ends, &mut book, script.len(), gate)?;
-    drain(rt, alloc, ends, &mut book, cluster.nodes)?;
+    drain(rt, ends, &mut book)?;
     answers(rt, alloc, ends, &mut book, script.len())
 }

@@ -9,7 +9,6 @@ ghost use Rattle.run_book.specs.Entries.{Keeps, SameRun, is_known_to};
 ghost use Rattle.run_book.specs.Notes.{IsNoteAt};
 ghost use Rattle.run_driver.specs.Causes.{IsCauseAt};
 
-use crate::ends::place_of;
 use node_link::{Back, Letter, Sender};
 use run_book::{Book, LineNote};
 use run_facts::{Of, Post, Run};
@@ -135,8 +134,8 @@ fn send<W: Run, R: Wait>(
     ensures fails { IfErr result (IsCauseAt ends.new.inbox) }
 {
     let Post { to, letter } = post;
-    match place_of(to) {
-        Some(place) => send_at(rt, ends, book, place, letter),
+    match book.inbox_of(to) {
+        Some(place) => send_at(rt, ends, book, place as usize, letter),
         None => Ok(()),
     }
 }

@@ -2,7 +2,6 @@
 #![tactic(auto)]
 
 mod commands;
-mod ends;
 mod gate;
 mod hearing;
 

@@ -1,6 +1,9 @@
 //! What is known of a run by the types of its letters, boards and cores.
 #![tactic(auto)]
 
+mod inboxes;
+
+pub use inboxes::{control_of, driver_of, inbox_of, inboxes_are_apart};
 use node_link::RunName;
 use std::marker::{Brand, PhantomData};
 use task_ids::{AnyCancel, BoardName};
@@ -54,13 +57,13 @@ impl<W: Run> RunName for Of<W> {
     ghost asks = { TellsPlainly W.setting };
 }
 
-/// The worker into whose inbox a letter goes, or the driver. A node has one data worker.
+/// The worker into whose inbox a letter goes, or the driver.
 #[derive(Clone, Copy, Debug, PartialEq, Eq)]
 pub enum To {
     /// The control worker of this node, from 1 to 15.
     Control(u32),
-    /// The data worker of this node, from 1 to 15.
-    Data(u32),
+    /// A data worker of a node: the node, from 1 to 15, and the worker, from 0 to 3.
+    Data { node: u32, worker: u32 },
     /// The driver of the run.
     Driver,
 }

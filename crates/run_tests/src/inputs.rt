@@ -66,6 +66,31 @@ pub const REJECTED: &str =
 {"command":3,"error":{"index":"b","type":"index_not_found"}}
 "#;
 
+/// Five documents in two shards, and a search for all of them.
+pub const TWO_SHARDS: &str = r#"{"index":{"_index":"a","_id":"1"}}
+{"c":"red","n":1}
+{"index":{"_index":"a","_id":"2"}}
+{"c":"blue","n":2}
+{"index":{"_index":"a","_id":"3"}}
+{"c":"red","n":3}
+{"index":{"_index":"a","_id":"4"}}
+{"c":"blue","n":4}
+{"index":{"_index":"a","_id":"5"}}
+{"c":"red","n":5}
+--
+{"search":{"index":"a","body":{}}}
+"#;
+
+/// Its line on one node with two shards.
+pub const TWO_SHARDS_FOUND: &str =
+    r#"{"command":1,"reply":{"_shards":{"failed":0,"successful":2,"total":2},"hits":{"hits":[{"_id":"2","_index":"a","_source":{"c":"blue","n":2}},{"_id":"4","_index":"a","_source":{"c":"blue","n":4}},{"_id":"1","_index":"a","_source":{"c":"red","n":1}},{"_id":"3","_index":"a","_source":{"c":"red","n":3}},{"_id":"5","_index":"a","_source":{"c":"red","n":5}}],"total":{"relation":"eq","value":5}}}}
+"#;
+
+/// Its line there where the node has one slot: the search has it, and the other data worker has none.
+pub const TWO_SHARDS_REJECTED: &str =
+    r#"{"command":1,"error":{"shards":[{"node":"n1","shard":0,"type":"rejected"},{"node":"n1","shard":1,"type":"rejected"}],"type":"all_shards_failed"}}
+"#;
+
 /// So many searches, of which none waits for another.
 pub fn many_searches(alloc: Global, count: u32) -> Result<String, AllocError> {
     let mut input = String::new(alloc);

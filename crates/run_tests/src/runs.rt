@@ -1,8 +1,8 @@
 //! A run of a script, and what it came to.
-ghost use Rattle.std.specs.Prelude.{◌<◌};
+ghost use Rattle.std.specs.Prelude.{◌<◌, ◌≤◌};
 
 use es_io::{Gate, ListSpawner, MemSink, MemSource};
-use run_top::run_top;
+use run_top::{pool_top, run_top};
 use std::alloc::{AllocError, Global};
 use std::sync::Wait;
 use std::thread::Threads;
@@ -61,6 +61,34 @@ pub fn run<G: Gate, R: Threads + Wait + Sync>(
         rt,
         alloc,
         cluster,
+        &mut source,
+        &mut out,
+        &mut spawner,
+        gate,
+    );
+    Ok(Ran { status, out })
+}
+
+/// Runs an input over threads, where each node has so many data workers, from 1 to 4. Nothing fails.
+pub fn run_pool<G: Gate, R: Threads + Wait + Sync>(
+    rt: &R,
+    alloc: Global,
+    cluster: &Cluster,
+    workers: u32,
+    input: &str,
+    gate: &G,
+) -> Result<Ran, AllocError>
+    requires { (1 ≤ workers) × (workers ≤ 4) }
+{
+    let bytes = Vec::from_slice(alloc, input.as_bytes())?;
+    let mut source = MemSource::new(bytes, PIECE, Vec::new(alloc));
+    let mut out = MemSink::new(alloc, PIECE, Vec::new(alloc));
+    let mut spawner = ListSpawner::new(Vec::new(alloc));
+    let (status, _) = pool_top(
+        rt,
+        alloc,
+        cluster,
+        workers,
         &mut source,
         &mut out,
         &mut spawner,

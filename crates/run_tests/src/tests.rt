@@ -2,8 +2,12 @@
 ghost use Rattle.std.specs.Prelude.{◌≤◌};
 ghost use Rattle.task_ids.specs.Limits.{IsNode};
 
-use crate::inputs::{CANCEL, CANCELLED, COPIED, COPY, REJECTED, SEARCHED, SEARCHES, many_searches};
-use crate::runs::{Failing, NOTHING, PIECE, run};
+use crate::inputs::{
+    CANCEL, CANCELLED, COPIED, COPY, REJECTED, SEARCHED, SEARCHES, TWO_SHARDS, TWO_SHARDS_FOUND,
+    TWO_SHARDS_REJECTED, many_searches,
+};
+use crate::runs::{Failing, NOTHING, PIECE, run, run_pool};
+use data_pool::MeetGate;
 use es_io::{HoldGate, OpenGate};
 use std::alloc::{AllocError, Global};
 use std::sync::Wait;
@@ -127,6 +131,84 @@ fn count_lines(text: &[u8]) -> usize {
 fn ten_thousand_searches_go_out_at_once(rt: HostRuntime) -> Result<(), AllocError> {
     let input = many_searches(rt.alloc(), 10_000)?;
     let ran = run(&rt, rt.alloc(), &TWO, input.as_str(), NOTHING, &OpenGate)?;
+    assert!(rt; ran.status == Status::Done);
+    assert_eq!(rt; count_lines(ran.out.bytes()), 10_000);
+    Ok(())
+}
+
+/// A cluster of one node with two shards.
+const TWO_OF_ONE: Cluster = Cluster {
+    nodes: 1,
+    shards: 2,
+    slots: 256,
+};
+
+#[test]
+fn two_workers_of_a_node_work_side_by_side(rt: HostRuntime) -> Result<(), AllocError> {
+    let gate = MeetGate::new(1, 2, 50_000_000);
+    let ran = run_pool(&rt, rt.alloc(), &TWO_OF_ONE, 2, TWO_SHARDS, &gate)?;
+    assert!(rt; ran.is(Status::Done, TWO_SHARDS_FOUND));
+    assert!(rt; gate.met());
+    Ok(())
+}
+
+#[test]
+fn a_worker_rejects_by_its_own_quota(rt: HostRuntime) -> Result<(), AllocError> {
+    let narrow = Cluster {
+        nodes: 1,
+        shards: 2,
+        slots: 1,
+    };
+    let ran = run_pool(&rt, rt.alloc(), &narrow, 2, TWO_SHARDS, &OpenGate)?;
+    assert!(rt; ran.is(Status::Done, TWO_SHARDS_REJECTED));
+    Ok(())
+}
+
+// Whether each pool of data workers gives what one worker gives, where every order of the threads gives the same.
+fn is_same_with<R: Threads + Wait + Sync>(
+    rt: &R,
+    alloc: Global,
+    workers: u32,
+) -> Result<bool, AllocError>
+    requires { (1 ≤ workers) × (workers ≤ 4) }
+{
+    let copied = run_pool(rt, alloc, &TWO, workers, COPY, &OpenGate)?;
+    let searched = run_pool(rt, alloc, &ONE, workers, SEARCHES, &OpenGate)?;
+    let found = run_pool(rt, alloc, &TWO_OF_ONE, workers, TWO_SHARDS, &OpenGate)?;
+    Ok(
+        copied.is(Status::Done, COPIED)
+            && searched.is(Status::Done, SEARCHED)
+            && found.is(Status::Done, TWO_SHARDS_FOUND),
+    )
+}
+
+#[test]
+fn a_pool_gives_what_one_worker_gives(rt: HostRuntime) -> Result<(), AllocError> {
+    for workers in 1..5 {
+        assert!(rt; is_same_with(&rt, rt.alloc(), workers)?, "{workers}");
+    }
+    Ok(())
+}
+
+#[test]
+fn a_search_is_cancelled_while_a_pool_works_for_it(rt: HostRuntime) -> Result<(), AllocError> {
+    let cluster = Cluster {
+        nodes: 2,
+        shards: 8,
+        slots: 64,
+    };
+    for workers in 1..5 {
+        let gate = HoldGate::new(1, 2, 1, 1 << 40);
+        let ran = run_pool(&rt, rt.alloc(), &cluster, workers, CANCEL, &gate)?;
+        assert!(rt; ran.is(Status::Done, CANCELLED), "{workers}");
+    }
+    Ok(())
+}
+
+#[test]
+fn a_pool_of_four_answers_ten_thousand_searches(rt: HostRuntime) -> Result<(), AllocError> {
+    let input = many_searches(rt.alloc(), 10_000)?;
+    let ran = run_pool(&rt, rt.alloc(), &TWO, 4, input.as_str(), &OpenGate)?;
     assert!(rt; ran.status == Status::Done);
     assert_eq!(rt; count_lines(ran.out.bytes()), 10_000);
     Ok(())

@@ -1,5 +1,5 @@
 -- Which of several causes is told.
-use Rattle.std.specs.Prelude.{◌≡◌, ℕ, ◌≤◌, List, Option, None, Some}
+use Rattle.std.specs.Prelude.{◌≡◌, ℕ, ◌≤◌, List, slice_get, Option, None, Some}
 use Rattle.es_io.specs.Count.{Rose}
 use Rattle.task_events.specs.declared.stop.Stop.{Stop}
 use Rattle.task_events.specs.declared.stop.Stop.TheVariants.{HistoryFull, NumbersSpent, Memory}
@@ -42,6 +42,10 @@ module _ {J R : Type 0} (gives : J → WorkerOut R → Type 0) where
   pub record AllEnded (jobs : List J) (told : Option Stop) : Type 0 where
     pub outs : List (WorkerOut R)
     pub each : Pairwise (EndedBy told) jobs outs
+
+  -- so have those of each list
+  abbrev pub EachEnded : List (List J) → Option Stop → Type 0
+  EachEnded lists told = (k : ℕ) (jobs : List J) → slice_get lists k ≡ Some jobs → AllEnded jobs told
 
 -- this holds of the cause for which a worker or the driver stopped
 abbrev pub IfStopped : (Stop → Type 0) → RunStop → Type 0

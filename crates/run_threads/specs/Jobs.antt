@@ -1,5 +1,6 @@
 -- The jobs of threads, and what they left.
-use Rattle.std.specs.Prelude.{List, [], ◌∷◌}
+use Rattle.std.specs.Prelude.{List, [], ◌∷◌, map}
+use Rattle.std.specs.Global.{Vec}
 use Rattle.es_io.specs.declared.worker.Started.{Started}
 use Rattle.es_io.specs.Worker.{job_of}
 use Rattle.node_link.specs.declared.body.Body.{Body}
@@ -14,6 +15,14 @@ use Rattle.run_threads.specs.declared.counted.Counted.{Counted}
 abbrev pub jobs_of : {J O : Type 0} → List (Started (Counted J) O) → List J
 jobs_of [] = []
 jobs_of (s ∷ ss) = (job_of s).job ∷ jobs_of ss
+
+-- those of each list of threads
+abbrev pub all_jobs : {J O : Type 0} → List (Vec (Started (Counted J) O)) → List (List J)
+all_jobs threads = map (λ own. jobs_of own.items) threads
+
+-- what is in each of these vectors
+abbrev pub lists_of : {X : Type 0} → List (Vec X) → List (List X)
+lists_of vectors = map (λ own. own.items) vectors
 
 -- A worker that drained left this: it lists its turns, over all letters that it took, sent just what they gave, and is at rest.
 pub record Drained {N T : Type 0} (did : T → Given → List (Post Body) → T → Type 0) (at_rest fits : T → Type 0) (job : Begun T) (rest : Rest N T) : Type 0 where

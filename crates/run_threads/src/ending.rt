@@ -14,9 +14,10 @@ use std::sync::atomic::{AtomicU32, Ordering};
 use std::thread;
 use task_events::Stop;
 
-/// How many workers of each kind were started, and how many of both are done.
+/// How many data workers each node has, how many workers of each kind were started, and how many of both are done.
 #[derive(Clone, Copy)]
 pub(crate) struct Watch<'c> {
+    pub(crate) workers: usize,
     pub(crate) controls: usize,
     pub(crate) datas: usize,
     pub(crate) done: &'c AtomicU32,
@@ -28,13 +29,25 @@ impl<'c> Watch<'c> {
         self.done.load(Ordering::SeqCst) as usize >= self.controls.saturating_add(self.datas)
     }
 
-    // Whether the worker with the inbox of that number was started. Workers are started by their nodes.
+    // How many inboxes each node has.
+    fn width(&self) -> usize
+        ensures { 0 < result }
+    {
+        self.workers.saturating_add(1)
+    }
+
+    // Whether the inbox of that number is that of a data worker. The driver's stands where that of one more control worker would.
+    fn is_of_data(&self, inbox: usize) -> bool {
+        inbox % self.width() != 0
+    }
+
+    // Whether the worker with the inbox of that number was started. Workers are started by their nodes, and those of a node by their
+    // numbers.
     fn is_started(&self, inbox: usize) -> bool {
-        let before = inbox / 2;
-        if inbox % 2 == 1 {
-            before < self.datas
-        } else {
-            before < self.controls
+        let before = inbox / self.width();
+        match inbox % self.width() {
+            0 => before < self.controls,
+            place => before.saturating_mul(self.workers).saturating_add(place) <= self.datas,
         }
     }
 }
@@ -169,7 +182,7 @@ fn tell_to_leave<W: Run, R: Wait>(
     ensures { SameEnds ends.old ends.new }
 {
     for to in 0..ends.senders.len() {
-        if to % 2 == 1 {
+        if watch.is_of_data(to) {
             let met = tell_one(rt, ends, to, watch);
             if met.is_some() {
                 return met;

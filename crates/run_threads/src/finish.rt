@@ -3,13 +3,14 @@ ghost use Rattle.std.specs.Prelude.{◌≡◌, ◌++◌, ◌∷◌, [], ◌≤�
 ghost use Rattle.node_worker.specs.declared.worker.WorkerOut.TheVariants.{Drained as drained_with};
 ghost use Rattle.run_inboxes.specs.Pairs.{Pairwise};
 ghost use Rattle.node_worker.specs.Job.{Gives};
-ghost use Rattle.run_threads.specs.Causes.{IsNoLater, cause_of, AllEnded};
-ghost use Rattle.run_threads.specs.Jobs.{jobs_of, Drained};
+ghost use Rattle.run_threads.specs.Causes.{IsNoLater, cause_of, AllEnded, EachEnded};
+ghost use Rattle.run_threads.specs.Jobs.{jobs_of, all_jobs, lists_of, Drained};
 
 use crate::cause::also;
 use crate::start::{Thread, finish};
 use node_link::RunName;
 use node_worker::{Rest, Turns, Worker, WorkerOut};
+use std::alloc::Global;
 use std::thread::Threads;
 use task_events::Stop;
 
@@ -55,6 +56,39 @@ pub(crate) fn finish_all<'s, 'c, N: RunName + Send, T: Turns<N> + Send + Drop, R
     let mut met = met;
     for thread in started {
         met = keep_also(rests, finish(rt, thread), met);
+    }
+    met
+}
+
+// Takes what the workers of one list left, and tells what was met, or that memory ran out.
+fn keep_list<R: Drop>(lists: &mut Vec<Vec<R>>, rests: Vec<R>, met: Option<Stop>) -> Option<Stop>
+    ensures none { result ≡ None → (met ≡ None) × (lists.new.items ≡ lists.old.items ++ rests ∷ []) }
+    ensures kept { IsNoLater met result }
+{
+    match lists.push(rests) {
+        Ok(()) => met,
+        Err(_) => Some(also(met, Stop::Memory)),
+    }
+}
+
+/// Waits for the workers of each of these lists, as `finish_all` does for one, and keeps what those of each list left together.
+pub(crate) fn finish_each<'s, 'c, N: RunName + Send, T: Turns<N> + Send + Drop, R: Threads>(
+    rt: &R,
+    alloc: Global,
+    started: Vec<Vec<Thread<'s, 'c, Worker<N, T>>>>,
+    rests: &mut Vec<Vec<Rest<N, T>>>,
+    met: Option<Stop>,
+) -> Option<Stop>
+    requires { rests.old.items ≡ [] }
+    ensures none { result ≡ None → (met ≡ None) × Pairwise (Pairwise (Drained T.did T.at_rest T.fits)) (all_jobs started.entry.items) (lists_of rests.new.items) }
+    ensures kept { IsNoLater met result }
+    ensures ended { EachEnded (Gives {N = N} T.did T.at_rest T.fits) (all_jobs started.entry.items) result }
+{
+    let mut met = met;
+    for threads in started {
+        let mut left = Vec::new(alloc);
+        met = finish_all(rt, threads, &mut left, met);
+        met = keep_list(rests, left, met);
     }
     met
 }

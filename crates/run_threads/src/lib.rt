@@ -1,6 +1,6 @@
 //! The workers of a cluster in threads of their own, with a driver.
 //!
-//! [`run_workers`] starts a control worker and a data worker for each node, lets a [`Drive`] tell them what to do, and waits until all have
+//! [`run_workers`] starts a control worker and the data workers of each node, lets a [`Drive`] tell them what to do, and waits until all have
 //! ended. It comes back with what they left only where all of them drained.
 #![tactic(auto)]
 

@@ -5,14 +5,14 @@ ghost use Rattle.run_inboxes.specs.Ends.{SameEnds};
 ghost use Rattle.run_inboxes.specs.Pairs.{Pairwise};
 ghost use Rattle.node_worker.specs.Job.{Gives};
 ghost use Rattle.run_facts.specs.declared.Of.{Of};
-ghost use Rattle.run_threads.specs.Causes.{AllEnded, IfStopped, IsCauseOf};
-ghost use Rattle.run_threads.specs.Jobs.{jobs_of, Drained};
+ghost use Rattle.run_threads.specs.Causes.{AllEnded, EachEnded, IfStopped, IsCauseOf};
+ghost use Rattle.run_threads.specs.Jobs.{jobs_of, all_jobs, lists_of, Drained};
 
 use crate::cause::RunStop;
 use crate::drive::Drive;
 use crate::ending::{Watch, settle};
-use crate::finish::finish_all;
-use crate::start::{Thread, start_all};
+use crate::finish::{finish_all, finish_each};
+use crate::start::{Thread, start_all, start_each};
 use es_io::Spawner;
 use node_link::{Letter, RunName};
 use node_worker::{Rest, Turns, Worker};
@@ -30,8 +30,8 @@ use task_events::Stop;
 pub struct Workers<N: RunName, C: Turns<N>, D: Turns<N>> {
     /// The control worker of each node.
     pub controls: Vec<Worker<N, C>>,
-    /// The data worker of each node.
-    pub datas: Vec<Worker<N, D>>,
+    /// The data workers of each node, worker 0 first. Each node has as many.
+    pub datas: Vec<Vec<Worker<N, D>>>,
     /// What the driver sends and takes by.
     pub driver: Ends<Letter<N>>,
 }
@@ -41,8 +41,8 @@ pub struct Workers<N: RunName, C: Turns<N>, D: Turns<N>> {
 pub struct WorkersRest<N: RunName, C, D> {
     /// What the control worker of each node left.
     pub controls: Vec<Rest<N, C>>,
-    /// What the data worker of each node left.
-    pub datas: Vec<Rest<N, D>>,
+    /// What the data workers of each node left, worker 0 first.
+    pub datas: Vec<Vec<Rest<N, D>>>,
     /// What the driver sent and took by.
     pub driver: Ends<Letter<N>>,
 }
@@ -50,7 +50,7 @@ pub struct WorkersRest<N: RunName, C, D> {
 // The threads of the workers that were started.
 struct Crew<'s, 'c, N: RunName + Send, C: Turns<N> + Send + Drop, D: Turns<N> + Send + Drop> {
     controls: Vec<Thread<'s, 'c, Worker<N, C>>>,
-    datas: Vec<Thread<'s, 'c, Worker<N, D>>>,
+    datas: Vec<Vec<Thread<'s, 'c, Worker<N, D>>>>,
 }
 
 impl<
@@ -65,21 +65,39 @@ impl<
         &mut self,
         rt: &'s R,
         scope: &'s Scope<'s, E>,
+        alloc: Global,
         controls: Vec<Worker<N, C>>,
-        datas: Vec<Worker<N, D>>,
+        datas: Vec<Vec<Worker<N, D>>>,
         done: &'c AtomicU32,
         spawner: &mut P,
     ) -> Result<(), RunStop>
         requires { (self.old.controls.items ≡ []) × (self.old.datas.items ≡ []) }
         ensures controls { IfOk result (λ _. jobs_of self.new.controls.items ≡ controls.items) }
-        ensures datas { IfOk result (λ _. jobs_of self.new.datas.items ≡ datas.items) }
+        ensures datas { IfOk result (λ _. all_jobs self.new.datas.items ≡ lists_of datas.items) }
         ensures quiet { OnOk result (P.faults spawner.new ≡ P.faults spawner.old) }
         ensures cause { IfErr result (IsCauseOf (P.faults spawner.old) (P.faults spawner.new)) }
     {
-        start_all(rt, scope, &mut self.datas, datas, done, spawner)?;
+        start_each(rt, scope, alloc, &mut self.datas, datas, done, spawner)?;
         start_all(rt, scope, &mut self.controls, controls, done, spawner)?;
         Ok(())
     }
+}
+
+// How long the first of these lists is, or 0 where there is none.
+fn first_len<T>(lists: &[Vec<T>]) -> usize {
+    match lists.first() {
+        Some(own) => own.len(),
+        None => 0,
+    }
+}
+
+// How long all of these lists are together.
+fn count_all<T>(lists: &[Vec<T>]) -> usize {
+    let mut count = 0usize;
+    for own in lists {
+        count = count.saturating_add(own.len());
+    }
+    count
 }
 
 // Lets the driver do its part, where all workers were started, and tells what was met.
@@ -103,7 +121,7 @@ fn driven<W: Run, V: Drive<Of<W>>, R: Wait>(
 }
 
 // Starts the workers, drives them, and waits until they have ended.
-#[tactic(auto, using(run_inboxes::proofs::Same::ends_on, crate::proofs::Ended::all_ended))]
+#[tactic(auto, using(run_inboxes::proofs::Same::ends_on, crate::proofs::Ended::all_ended, crate::proofs::Ended::each_ended))]
 fn run_in<
     's,
     'c: 's,
@@ -124,11 +142,11 @@ fn run_in<
     drive: &mut V,
 ) -> Result<WorkersRest<Of<W>, C, D>, RunStop>
     ensures controls { IfOk result (λ rest. Pairwise (Drained C.did C.at_rest C.fits) workers.controls.items rest.controls.items) }
-    ensures datas { IfOk result (λ rest. Pairwise (Drained D.did D.at_rest D.fits) workers.datas.items rest.datas.items) }
+    ensures datas { IfOk result (λ rest. Pairwise (Pairwise (Drained D.did D.at_rest D.fits)) (lists_of workers.datas.items) (lists_of rest.datas.items)) }
     ensures driver { IfOk result (λ rest. SameEnds workers.driver rest.driver) }
     ensures done { OnOk result (V.done drive.old drive.new) }
     ensures first_controls { IfErr result (IfStopped (λ stop. AllEnded (Gives {N = Of W} C.did C.at_rest C.fits) workers.controls.items (Some stop))) }
-    ensures first_datas { IfErr result (IfStopped (λ stop. AllEnded (Gives {N = Of W} D.did D.at_rest D.fits) workers.datas.items (Some stop))) }
+    ensures first_datas { IfErr result (IfStopped (λ stop. EachEnded (Gives {N = Of W} D.did D.at_rest D.fits) (lists_of workers.datas.items) (Some stop))) }
     ensures cause { MatchResult result (λ _. P.faults spawner.new ≡ P.faults spawner.old) (IsCauseOf (P.faults spawner.old) (P.faults spawner.new)) }
 {
     let Workers {
@@ -140,11 +158,13 @@ fn run_in<
         controls: Vec::new(alloc),
         datas: Vec::new(alloc),
     };
-    let begun = crew.start(rt, scope, controls, datas, done, spawner);
+    let size = first_len(datas.as_slice());
+    let begun = crew.start(rt, scope, alloc, controls, datas, done, spawner);
     let met = driven(rt, drive, &mut driver, begun);
     let watch = Watch {
+        workers: size,
         controls: crew.controls.len(),
-        datas: crew.datas.len(),
+        datas: count_all(crew.datas.as_slice()),
         done,
     };
     let met = settle(rt, &mut driver, met, &watch);
@@ -155,7 +175,7 @@ fn run_in<
     };
     let Crew { controls, datas } = crew;
     let met = finish_all(rt, controls, &mut rest.controls, met);
-    let met = finish_all(rt, datas, &mut rest.datas, met);
+    let met = finish_each(rt, alloc, datas, &mut rest.datas, met);
     match begun {
         Ok(()) => match met {
             None => Ok(rest),
@@ -193,11 +213,11 @@ fn run_lent<
     &'v mut V,
 )
     ensures controls { IfOk result.0 (λ rest. Pairwise (Drained C.did C.at_rest C.fits) workers.controls.items rest.controls.items) }
-    ensures datas { IfOk result.0 (λ rest. Pairwise (Drained D.did D.at_rest D.fits) workers.datas.items rest.datas.items) }
+    ensures datas { IfOk result.0 (λ rest. Pairwise (Pairwise (Drained D.did D.at_rest D.fits)) (lists_of workers.datas.items) (lists_of rest.datas.items)) }
     ensures driver { IfOk result.0 (λ rest. SameEnds workers.driver rest.driver) }
     ensures done { OnOk result.0 (V.done drive.old result.2.now) }
     ensures first_controls { IfErr result.0 (IfStopped (λ stop. AllEnded (Gives {N = Of W} C.did C.at_rest C.fits) workers.controls.items (Some stop))) }
-    ensures first_datas { IfErr result.0 (IfStopped (λ stop. AllEnded (Gives {N = Of W} D.did D.at_rest D.fits) workers.datas.items (Some stop))) }
+    ensures first_datas { IfErr result.0 (IfStopped (λ stop. EachEnded (Gives {N = Of W} D.did D.at_rest D.fits) (lists_of workers.datas.items) (Some stop))) }
     ensures cause { MatchResult result.0 (λ _. P.faults result.1.now ≡ P.faults spawner.old) (IsCauseOf (P.faults spawner.old) (P.faults result.1.now)) }
     ensures back { (result.1.ghost_name ≡ spawner.entry.ghost_name) × (result.2.ghost_name ≡ drive.entry.ghost_name) }
 {
@@ -224,11 +244,11 @@ pub fn run_workers<
     drive: &mut V,
 ) -> Result<WorkersRest<Of<W>, C, D>, RunStop>
     ensures controls { IfOk result (λ rest. Pairwise (Drained C.did C.at_rest C.fits) workers.controls.items rest.controls.items) }
-    ensures datas { IfOk result (λ rest. Pairwise (Drained D.did D.at_rest D.fits) workers.datas.items rest.datas.items) }
+    ensures datas { IfOk result (λ rest. Pairwise (Pairwise (Drained D.did D.at_rest D.fits)) (lists_of workers.datas.items) (lists_of rest.datas.items)) }
     ensures driver { IfOk result (λ rest. SameEnds workers.driver rest.driver) }
     ensures done { OnOk result (V.done drive.old drive.new) }
     ensures first_controls { IfErr result (IfStopped (λ stop. AllEnded (Gives {N = Of W} C.did C.at_rest C.fits) workers.controls.items (Some stop))) }
-    ensures first_datas { IfErr result (IfStopped (λ stop. AllEnded (Gives {N = Of W} D.did D.at_rest D.fits) workers.datas.items (Some stop))) }
+    ensures first_datas { IfErr result (IfStopped (λ stop. EachEnded (Gives {N = Of W} D.did D.at_rest D.fits) (lists_of workers.datas.items) (Some stop))) }
     ensures cause { MatchResult result (λ _. P.faults spawner.new ≡ P.faults spawner.old) (IsCauseOf (P.faults spawner.old) (P.faults spawner.new)) }
 {
     let count = AtomicU32::new(0);
@@ -239,11 +259,11 @@ pub fn run_workers<
         move |scope| -> (Result<WorkersRest<Of<W>, C, D>, RunStop>, &mut P, &mut V)
             requires { IsSend W.row × IsSend C.row × IsSend D.row }
             ensures controls { IfOk result.0 (λ rest. Pairwise (Drained C.did C.at_rest C.fits) workers.controls.items rest.controls.items) }
-            ensures datas { IfOk result.0 (λ rest. Pairwise (Drained D.did D.at_rest D.fits) workers.datas.items rest.datas.items) }
+            ensures datas { IfOk result.0 (λ rest. Pairwise (Pairwise (Drained D.did D.at_rest D.fits)) (lists_of workers.datas.items) (lists_of rest.datas.items)) }
             ensures driver { IfOk result.0 (λ rest. SameEnds workers.driver rest.driver) }
             ensures done { OnOk result.0 (V.done drive.entry.now result.2.now) }
             ensures first_controls { IfErr result.0 (IfStopped (λ stop. AllEnded (Gives {N = Of W} C.did C.at_rest C.fits) workers.controls.items (Some stop))) }
-            ensures first_datas { IfErr result.0 (IfStopped (λ stop. AllEnded (Gives {N = Of W} D.did D.at_rest D.fits) workers.datas.items (Some stop))) }
+            ensures first_datas { IfErr result.0 (IfStopped (λ stop. EachEnded (Gives {N = Of W} D.did D.at_rest D.fits) (lists_of workers.datas.items) (Some stop))) }
             ensures cause { MatchResult result.0 (λ _. P.faults result.1.now ≡ P.faults spawner.entry.now) (IsCauseOf (P.faults spawner.entry.now) (P.faults result.1.now)) }
             ensures back { (result.1.ghost_name ≡ spawner.entry.ghost_name) × (result.2.ghost_name ≡ drive.entry.ghost_name) }
         { run_lent(rt, scope, alloc, workers, done, spawner, drive) },

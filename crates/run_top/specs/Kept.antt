@@ -1,5 +1,5 @@
--- What the status of a call of `run_top` says of the input, of what is kept, and of what was written.
-use Rattle.std.specs.Prelude.{◌≡◌, ◌<◌, ◌⊎◌, ℕ, List, [], Option, Some, is_some, true, length, take}
+-- What the status of a call of `run_top` or `pool_top` says of the input, of what is kept, and of what was written.
+use Rattle.std.specs.Prelude.{◌≡◌, ◌<◌, ◌⊎◌, ℕ, List, [], Option, is_some, true, length, take}
 use Rattle.std.specs.declared.marker.Brand.{Brand}
 use Rattle.es_io.specs.Bytes.{Appends}
 use Rattle.task_ids.specs.declared.cluster.Cluster.{Cluster}
@@ -38,15 +38,15 @@ pub record IsNothing (kept : RunKept) : Type 0 where
   pub no_script : kept.script.commands ≡ []
   pub unrun : IsUnrun kept
 
--- the nodes of a run with these cancellations ran so, and of the driver's inbox something was told
-abbrev pub HaveRun : (W : Type 0) → (ℕ → Type 0) → Cluster → Corpus → List NodeNote → Type 0
-HaveRun W cancels cluster corpus nodes = (driver : Tally) × IsRunOf (Of W) (record { allowed = cancels_of cancels }) cluster corpus nodes driver
+-- the nodes of a run with these cancellations ran so, each with so many data workers, and of the driver's inbox something was told
+abbrev pub HaveRun : (W : Type 0) → (ℕ → Type 0) → Cluster → Corpus → ℕ → List NodeNote → Type 0
+HaveRun W cancels cluster corpus workers nodes = (driver : Tally) × IsRunOf (Of W) (record { allowed = cancels_of cancels }) cluster corpus workers nodes driver
 
--- A whole run: each command has its note, which is what such a command may come to; nothing is left on any node, and the workers of each did what such workers do.
-pub record IsWhole (cluster : Cluster) (kept : RunKept) : Type 0 where
+-- A whole run with so many data workers on each node: each command has its note, which is what such a command may come to; nothing is left on any node, and the workers of each did what such workers do.
+pub record IsWhole (cluster : Cluster) (workers : ℕ) (kept : RunKept) : Type 0 where
   pub lines : AreNotes (IsCancelOf kept.script.commands) (setting_of cluster kept.corpus kept.script.commands) (is_known kept.corpus kept.script.commands) kept.script.commands kept.lines
   pub nodes : AreClear cluster.nodes kept.nodes
-  pub ran : HaveRun Brand (IsCancelOf kept.script.commands) cluster kept.corpus kept.nodes
+  pub ran : HaveRun Brand (IsCancelOf kept.script.commands) cluster kept.corpus workers kept.nodes
 
 module _ (cluster : Cluster) where
   -- the input was read as what is kept
@@ -65,17 +65,17 @@ module _ (cluster : Cluster) where
   AnswersInput input HistoryFull kept = ⊥
   AnswersInput input Usage kept = ⊥
 
-  -- What is kept of the run: a whole one, or nothing.
-  abbrev pub RanAsRead : Status → RunKept → Type 0
-  RanAsRead Done kept = IsWhole cluster kept
-  RanAsRead WriteFault kept = IsWhole cluster kept
-  RanAsRead NumbersSpent kept = IsUnrun kept
-  RanAsRead NoThread kept = IsUnrun kept
-  RanAsRead Memory kept = IsUnrun kept
-  RanAsRead (Refused line cause) kept = IsNothing kept
-  RanAsRead ReadFault kept = IsNothing kept
-  RanAsRead HistoryFull kept = ⊥
-  RanAsRead Usage kept = ⊥
+  -- What is kept of the run with so many data workers on each node: a whole one, or nothing.
+  abbrev pub RanAsRead : ℕ → Status → RunKept → Type 0
+  RanAsRead workers Done kept = IsWhole cluster workers kept
+  RanAsRead workers WriteFault kept = IsWhole cluster workers kept
+  RanAsRead workers NumbersSpent kept = IsUnrun kept
+  RanAsRead workers NoThread kept = IsUnrun kept
+  RanAsRead workers Memory kept = IsUnrun kept
+  RanAsRead workers (Refused line cause) kept = IsNothing kept
+  RanAsRead workers ReadFault kept = IsNothing kept
+  RanAsRead workers HistoryFull kept = ⊥
+  RanAsRead workers Usage kept = ⊥
 
   -- the lines that what is kept prints
   abbrev pub lines_of : RunKept → List ℕ

@@ -3,6 +3,7 @@ ghost use Rattle.std.specs.Prelude.{◌≡◌, IfOk};
 ghost use Rattle.std.specs.HashSet.{contains_by};
 ghost use Rattle.std.specs.Str.{bytes_eq};
 ghost use Rattle.run_book.specs.Entries.{CanDrive};
+ghost use Rattle.run_facts.specs.Inboxes.{IsPoolSize};
 ghost use Rattle.run_driver.specs.Drives.{AreNotes};
 ghost use Rattle.run_inboxes.specs.Ends.{SameEnds};
 
@@ -23,6 +24,8 @@ use task_ids::Cluster;
 #[derive(Drop)]
 pub(crate) struct Task<'s, W: Run> {
     cluster: Cluster,
+    /// How many data workers each node has.
+    workers: u32,
     script: &'s [Command],
     of: PhantomData<W>,
 }
@@ -33,6 +36,7 @@ impl<'s, W: Run> Model for Task<'s, W> {
     ghost use Rattle.script_lang.specs.declared.command.Command.{Command};
     ghost use Rattle.script_lang.specs.contracts.command.Command as command;
     ghost use Rattle.run_book.specs.Entries.{CanDrive};
+    ghost use Rattle.run_facts.specs.Inboxes.{IsPoolSize};
 
     ghost Value = { List Command };
 
@@ -40,17 +44,19 @@ impl<'s, W: Run> Model for Task<'s, W> {
 
     ghost view = { λ task. task.script.now };
 
-    ghost invariant = { λ task. CanDrive W.cancels W.setting task.cluster.nodes task.script.now };
+    ghost invariant = { λ task. CanDrive W.cancels W.setting task.cluster.nodes task.script.now × IsPoolSize task.workers };
 }
 
 impl<'s, W: Run> Task<'s, W> {
-    /// A script on its cluster.
-    pub(crate) fn new(cluster: &Cluster, script: &'s [Command]) -> Task<'s, W>
-        requires { CanDrive W.cancels W.setting cluster.now.nodes script.now }
+    /// A script on its cluster, whose nodes have so many data workers each, from 1 to 4.
+    pub(crate) fn new(cluster: &Cluster, workers: u32, script: &'s [Command]) -> Task<'s, W>
+        requires can { CanDrive W.cancels W.setting cluster.now.nodes script.now }
+        requires workers { IsPoolSize workers }
         ensures { result ≡ script.now }
     {
         Task {
             cluster: *cluster,
+            workers,
             script,
             of: PhantomData,
         }
@@ -68,7 +74,16 @@ impl<'s, W: Run> Task<'s, W> {
         ensures ends { SameEnds ends.old ends.new }
         ensures notes { IfOk result (λ notes. AreNotes W.cancels W.setting (λ index. contains_by (λ k. bytes_eq index k.now) known.now) self.now notes.items) }
     {
-        drive(rt, alloc, &self.cluster, known, self.script, ends, gate)
+        drive(
+            rt,
+            alloc,
+            &self.cluster,
+            self.workers,
+            known,
+            self.script,
+            ends,
+            gate,
+        )
     }
 }
 

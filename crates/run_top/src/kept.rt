@@ -5,7 +5,7 @@ use script_lang::Script;
 use std::alloc::Global;
 use task_ids::{Corpus, Items};
 
-/// What a call of `run_top` read, and what came of it. All four are empty where reading was refused, and the notes also where the run came to an
+/// What a call of `run_top` or `pool_top` read, and what came of it. All four are empty where reading was refused, and the notes also where the run came to an
 /// early end.
 #[derive(Drop)]
 pub struct RunKept {

@@ -1,4 +1,4 @@
-//! A script over threads: what the program's word `run` calls.
+//! A script over threads: what the program's word `run` calls, with one data worker on each node or with several.
 #![tactic(auto)]
 
 mod driver;
@@ -10,4 +10,4 @@ mod top;
 pub use kept::RunKept;
 pub use run_book::{LineNote, PageNote};
 pub use run_cluster::NodeNote;
-pub use top::run_top;
+pub use top::{pool_top, run_top};

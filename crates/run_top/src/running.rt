@@ -7,6 +7,7 @@ ghost use Rattle.script_lang.specs.Fits.{AllFit};
 ghost use Rattle.command_roots.specs.Known.{is_known};
 ghost use Rattle.run_driver.specs.Drives.{AreNotes};
 ghost use Rattle.run_book.specs.Entries.{CanDrive};
+ghost use Rattle.run_facts.specs.Inboxes.{IsPoolSize};
 ghost use Rattle.run_book.specs.Runs.{setting_of};
 ghost use Rattle.run_threads.specs.Causes.{IsCauseOf};
 ghost use Rattle.run_cluster.specs.Notes.{AreClear};
@@ -43,6 +44,7 @@ fn run_named<W: Run + Send, P: Spawner, G: Gate, R: Threads + Wait + Sync>(
     rt: &R,
     alloc: Global,
     cluster: &Cluster,
+    workers: u32,
     corpus: &Corpus,
     known: &HashSet<&str>,
     script: &[Command],
@@ -50,15 +52,16 @@ fn run_named<W: Run + Send, P: Spawner, G: Gate, R: Threads + Wait + Sync>(
     gate: &G,
 ) -> Result<Ran, RunStop>
     requires setting { (W.setting.corpus ≡ corpus.now) × (W.setting.shards ≡ cluster.now.shards) }
+    requires workers { IsPoolSize workers }
     requires can { CanDrive W.cancels W.setting cluster.now.nodes script.now }
     ensures lines { IfOk result (λ ran. AreNotes W.cancels W.setting (λ index. contains_by (λ k. bytes_eq index k.now) known.now) script.now ran.lines.items) }
     ensures nodes { IfOk result (λ ran. AreClear cluster.now.nodes ran.nodes.items) }
-    ensures ran { IfOk result (λ ran. HaveRun W W.cancels cluster.now corpus.now ran.nodes.items) }
+    ensures ran { IfOk result (λ ran. HaveRun W W.cancels cluster.now corpus.now workers ran.nodes.items) }
     ensures cause { MatchResult result (λ _. P.faults spawner.new ≡ P.faults spawner.old) (IsCauseOf (P.faults spawner.old) (P.faults spawner.new)) }
 {
     let mut driver = ScriptDriver::<W, DriverGate<'_, G>> {
         alloc,
-        task: Task::new(cluster, script),
+        task: Task::new(cluster, workers, script),
         known,
         gate: DriverGate { gate },
         notes: Vec::new(alloc),
@@ -67,6 +70,7 @@ fn run_named<W: Run + Send, P: Spawner, G: Gate, R: Threads + Wait + Sync>(
         rt,
         alloc,
         cluster,
+        workers,
         corpus,
         CAPACITY,
         spawner,
@@ -85,20 +89,24 @@ fn run_known<P: Spawner, G: Gate, R: Threads + Wait + Sync>(
     rt: &R,
     alloc: Global,
     cluster: &Cluster,
+    workers: u32,
     corpus: &Corpus,
     known: &HashSet<&str>,
     script: &[Command],
     spawner: &mut P,
     gate: &G,
 ) -> Result<Ran, RunStop>
+    requires workers { IsPoolSize workers }
     requires fits { AllFit cluster.now.nodes [] script.now }
     requires few { length script.now ≤ 65535 }
     ensures lines { IfOk result (λ ran. AreNotes (IsCancelOf script.now) (setting_of cluster.now corpus.now script.now) (λ index. contains_by (λ k. bytes_eq index k.now) known.now) script.now ran.lines.items) }
     ensures nodes { IfOk result (λ ran. AreClear cluster.now.nodes ran.nodes.items) }
-    ensures ran { IfOk result (λ ran. HaveRun Brand (IsCancelOf script.now) cluster.now corpus.now ran.nodes.items) }
+    ensures ran { IfOk result (λ ran. HaveRun Brand (IsCancelOf script.now) cluster.now corpus.now workers ran.nodes.items) }
     ensures cause { MatchResult result (λ _. P.faults spawner.new ≡ P.faults spawner.old) (IsCauseOf (P.faults spawner.old) (P.faults spawner.new)) }
 {
-    run_named::<Brand, P, G, R>(rt, alloc, cluster, corpus, known, script, spawner, gate)
+    run_named::<Brand, P, G, R>(
+        rt, alloc, cluster, workers, corpus, known, script, spawner, gate,
+    )
 }
 
 /// Runs a script over threads.
@@ -106,19 +114,23 @@ pub(crate) fn run_script<P: Spawner, G: Gate, R: Threads + Wait + Sync>(
     rt: &R,
     alloc: Global,
     cluster: &Cluster,
+    workers: u32,
     corpus: &Corpus,
     script: &[Command],
     spawner: &mut P,
     gate: &G,
 ) -> Result<Ran, RunStop>
+    requires workers { IsPoolSize workers }
     requires fits { AllFit cluster.now.nodes [] script.now }
     requires few { length script.now ≤ 65535 }
     ensures lines { IfOk result (λ ran. AreNotes (IsCancelOf script.now) (setting_of cluster.now corpus.now script.now) (is_known corpus.now script.now) script.now ran.lines.items) }
     ensures nodes { IfOk result (λ ran. AreClear cluster.now.nodes ran.nodes.items) }
-    ensures ran { IfOk result (λ ran. HaveRun Brand (IsCancelOf script.now) cluster.now corpus.now ran.nodes.items) }
+    ensures ran { IfOk result (λ ran. HaveRun Brand (IsCancelOf script.now) cluster.now corpus.now workers ran.nodes.items) }
     ensures cause { MatchResult result (λ _. P.faults spawner.new ≡ P.faults spawner.old) (IsCauseOf (P.faults spawner.old) (P.faults spawner.new)) }
 {
     let dests = dests_of(alloc, script)?;
     let known = indices_of(alloc, corpus, dests.as_slice())?;
-    run_known(rt, alloc, cluster, corpus, &known, script, spawner, gate)
+    run_known(
+        rt, alloc, cluster, workers, corpus, &known, script, spawner, gate,
+    )
 }

@@ -15,22 +15,24 @@ use Rattle.task_ids.specs.declared.cause.Cause.TheVariants.{TooManyLines, Unknow
 use Rattle.script_lang.specs.declared.command.CancelTarget.{CancelTarget}
 use Rattle.script_lang.specs.declared.command.CancelTarget.TheVariants as targets
 use Rattle.script_lang.specs.declared.command.Command.{Command}
-use Rattle.script_lang.specs.declared.command.Command.TheVariants.{Search, Scroll, ClearScroll, Reindex, Cancel, ListTasks, Tick, Deliver, Step, ListStep, Settle, Shuffle, WaitFor, History, Summary}
+use Rattle.script_lang.specs.declared.command.Command.TheVariants.{Search, Scroll, ClearScroll, Reindex, Cancel, ListTasks, GetTask, ForgetTask, ListResults, Tick, Deliver, Step, ListStep, Settle, Shuffle, WaitFor, History, Summary}
 use Rattle.script_lang.specs.declared.command.ContextTarget.{ContextTarget}
 use Rattle.script_lang.specs.declared.command.ContextTarget.TheVariants as contexts
 use Rattle.script_lang.specs.declared.command.Mode.{Mode}
+use Rattle.script_lang.specs.declared.command.TaskTarget.{TaskTarget}
+use Rattle.script_lang.specs.declared.command.TaskTarget.TheVariants as tasks
 use Rattle.script_lang.specs.declared.kind.Kind.{Kind}
 use Rattle.script_lang.specs.declared.kind.Kind.TheVariants as kinds
 use Rattle.script_lang.specs.declared.targets.NamedFor.TheVariants as uses
-use Rattle.script_lang.specs.Commands.{search_fields, search_in, scroll_fields, scroll_in, clear_fields, clear_in, reindex_fields, reindex_in, cancel_fields, cancel_in, list_fields, list_in, list_step_fields, list_step_in, shuffle_fields, shuffle_in, wait_fields, wait_in, command_of_kind, only_member, is_run, command_in}
+use Rattle.script_lang.specs.Commands.{search_fields, search_in, scroll_fields, scroll_in, clear_fields, clear_in, reindex_fields, reindex_in, cancel_fields, cancel_in, list_fields, list_in, get_fields, get_in, forget_fields, forget_in, no_fields, results_in, list_step_fields, list_step_in, shuffle_fields, shuffle_in, wait_fields, wait_in, command_of_kind, only_member, is_run, is_for_sim, command_in}
 use Rattle.script_lang.specs.Fields.{both, fields_of, text_of, text_or, optional_text, node_in, node_or_first, task_in, group_or_nodes, flag_or_false, body_in, object_in, number_in, from_1_to, max_slices, slices_or_one, max_rate, rate_of, rate_or_none, max_moves, needed_number, moves_in, optional_keep_alive, time_in, truth_in}
 use Rattle.script_lang.specs.Filters.{has_filter, filter_in}
-use Rattle.script_lang.specs.Fits.{IsNodeOf, IsSliceCount, IsRate, NamesStart, NamesContext, Fits, AllFit}
+use Rattle.script_lang.specs.Fits.{IsNodeOf, IsSliceCount, IsRate, NamesStart, NamesContext, NamesTask, Fits, AllFit}
 use Rattle.script_lang.specs.KeepAlives.{day_ms}
-use Rattle.script_lang.specs.Kinds.{kind_named, is_schedule}
+use Rattle.script_lang.specs.Kinds.{kind_named}
 use Rattle.script_lang.specs.Names.{node_names, node_of}
 use Rattle.script_lang.specs.Script.{max_commands, command_of, commands_of}
-use Rattle.script_lang.specs.Targets.{starts_task, opens_context, can_be_awaited, allows, is_at, number_at, reference_in, target_of, target_in, context_of, context_in, awaited_in}
+use Rattle.script_lang.specs.Targets.{starts_task, opens_context, can_be_awaited, allows, is_at, number_at, reference_in, target_of, target_in, context_of, context_in, one_task_of, one_task_in, awaited_in}
 use Rattle.script_lang.proofs.FieldLemmas.{both_first, both_second, first_ok}
 use Rattle.script_lang.proofs.Ranges.{in_range}
 
@@ -129,6 +131,22 @@ context_fits : (before : List Command) (fields : Members) (context : ContextTarg
 unfolding context_in
 context_fits before fields context e = context_of_fits before _ _ context e
 
+one_task_of_fits : (before : List Command) (id command : Option Data) (task : TaskTarget) → one_task_of before id command ≡ Ok task → NamesTask before task
+one_task_of_fits before None None task e = cc
+one_task_of_fits before (Some id) None task e =
+    let read = first_ok (task_in (Some id)) _ task e in
+    let same : tasks.Id read.0 ≡ task = cc (read.2) in
+    subst (NamesTask before) same tt
+one_task_of_fits before None (Some command) task e =
+    let number = first_ok (reference_in starts_task before command) _ task e in
+    let same : tasks.Command number.0 ≡ task = cc (number.2) in
+    subst (NamesTask before) same (reference_fits starts_task before command number.0 number.1)
+one_task_of_fits before (Some id) (Some command) task e = cc
+
+one_task_fits : (before : List Command) (fields : Members) (task : TaskTarget) → one_task_in before fields ≡ Ok task → NamesTask before task
+unfolding one_task_in
+one_task_fits before fields task e = one_task_of_fits before _ _ task e
+
 awaited_fits : (before : List Command) (field : Option Data) (number : ℕ) → awaited_in before field ≡ Ok number → is_at can_be_awaited before number ≡ true
 unfolding awaited_in
 awaited_fits before None number e = cc
@@ -224,20 +242,20 @@ module _ (nodes : ℕ) (some : 1 ≤ nodes) (before : List Command) where
       let same : ClearScroll found.0 ≡ command = cc (found.2) in
       subst (Fits nodes before) same (context_fits before parts.0 found.0 found.1)
 
-  with_numbers : (node : ℕ) (body : Data) (slices : ℕ) (rate : Option ℕ) (opaque_id : Option (List ℕ)) (command : Command) → Reindex node body slices rate opaque_id ≡ command → IsNodeOf nodes node → IsSliceCount slices → IsRate rate → Fits nodes before command
-  with_numbers node body slices rate opaque_id command same its_node its_slices its_rate = subst (Fits nodes before) same (its_node, its_slices, its_rate)
+  with_numbers : (node : ℕ) (body : Data) (slices : ℕ) (rate : Option ℕ) (opaque_id : Option (List ℕ)) (store : Bool) (command : Command) → Reindex node body slices rate opaque_id store ≡ command → IsNodeOf nodes node → IsSliceCount slices → IsRate rate → Fits nodes before command
+  with_numbers node body slices rate opaque_id store command same its_node its_slices its_rate = subst (Fits nodes before) same (its_node, its_slices, its_rate)
 
   reindex_fits : (value : Data) (command : Command) → reindex_in nodes value ≡ Ok command → Fits nodes before command
   unfolding reindex_in
   reindex_fits value command e =
       let parts = first_ok (fields_of reindex_fields value) _ command e in
-      let found = first_ok (both (node_or_first nodes (get_member (codes "node") parts.0)) (both (object_in (get_member (codes "body") parts.0)) (both (slices_or_one (get_member (codes "slices") parts.0)) (both (rate_or_none (get_member (codes "requests_per_second") parts.0)) (optional_text (get_member (codes "opaque_id") parts.0)))))) _ command parts.2 in
-      let same : Reindex found.0.0 found.0.1.0 found.0.1.1.0 found.0.1.1.1.0 found.0.1.1.1.1 ≡ command = cc (found.2) in
+      let found = first_ok (both (node_or_first nodes (get_member (codes "node") parts.0)) (both (object_in (get_member (codes "body") parts.0)) (both (slices_or_one (get_member (codes "slices") parts.0)) (both (rate_or_none (get_member (codes "requests_per_second") parts.0)) (both (optional_text (get_member (codes "opaque_id") parts.0)) (flag_or_false (get_member (codes "store") parts.0))))))) _ command parts.2 in
+      let same : Reindex found.0.0 found.0.1.0 found.0.1.1.0 found.0.1.1.1.0 found.0.1.1.1.1.0 found.0.1.1.1.1.1 ≡ command = cc (found.2) in
       let node = both_first _ _ found.0 found.1 in
       let rest = both_second _ _ found.0.1 (both_second _ _ found.0 found.1) in
       let slices = both_first _ _ found.0.1.1 rest in
       let rate = both_first _ _ found.0.1.1.1 (both_second _ _ found.0.1.1 rest) in
-      with_numbers found.0.0 found.0.1.0 found.0.1.1.0 found.0.1.1.1.0 found.0.1.1.1.1 command same (node_or_first_fits nodes (get_member (codes "node") parts.0) found.0.0 some node)
+      with_numbers found.0.0 found.0.1.0 found.0.1.1.0 found.0.1.1.1.0 found.0.1.1.1.1.0 found.0.1.1.1.1.1 command same (node_or_first_fits nodes (get_member (codes "node") parts.0) found.0.0 some node)
       (slices_fit (get_member (codes "slices") parts.0) found.0.1.1.0 slices) (rate_fits (get_member (codes "requests_per_second") parts.0) found.0.1.1.1.0 rate)
 
   cancel_fits : (value : Data) (command : Command) → cancel_in before value ≡ Ok command → Fits nodes before command
@@ -255,6 +273,30 @@ module _ (nodes : ℕ) (some : 1 ≤ nodes) (before : List Command) where
       let parts = first_ok (fields_of list_fields value) _ command e in
       let found = first_ok (both (filter_in parts.0) (both (group_or_nodes (get_member (codes "group_by") parts.0)) (flag_or_false (get_member (codes "detailed") parts.0)))) _ command parts.2 in
       let same : ListTasks found.0.0 found.0.1.0 found.0.1.1 ≡ command = cc (found.2) in
+      subst (Fits nodes before) same tt
+
+  get_fits : (value : Data) (command : Command) → get_in before value ≡ Ok command → Fits nodes before command
+  unfolding get_in
+  get_fits value command e =
+      let parts = first_ok (fields_of get_fields value) _ command e in
+      let found = first_ok (both (one_task_in before parts.0) (flag_or_false (get_member (codes "wait_for_completion") parts.0))) _ command parts.2 in
+      let same : GetTask found.0.0 found.0.1 ≡ command = cc (found.2) in
+      let task = both_first _ _ found.0 found.1 in
+      subst (Fits nodes before) same (one_task_fits before parts.0 found.0.0 task)
+
+  forget_fits : (value : Data) (command : Command) → forget_in before value ≡ Ok command → Fits nodes before command
+  unfolding forget_in
+  forget_fits value command e =
+      let parts = first_ok (fields_of forget_fields value) _ command e in
+      let found = first_ok (one_task_in before parts.0) _ command parts.2 in
+      let same : ForgetTask found.0 ≡ command = cc (found.2) in
+      subst (Fits nodes before) same (one_task_fits before parts.0 found.0 found.1)
+
+  results_fits : (value : Data) (command : Command) → results_in value ≡ Ok command → Fits nodes before command
+  unfolding results_in
+  results_fits value command e =
+      let parts = first_ok (fields_of no_fields value) _ command e in
+      let same : ListResults ≡ command = cc (parts.2) in
       subst (Fits nodes before) same tt
 
   list_step_fits : (value : Data) (command : Command) → list_step_in nodes value ≡ Ok command → Fits nodes before command
@@ -293,6 +335,9 @@ module _ (nodes : ℕ) (some : 1 ≤ nodes) (before : List Command) where
   of_kind_fits kinds.Reindex value command e = reindex_fits value command e
   of_kind_fits kinds.Cancel value command e = cancel_fits value command e
   of_kind_fits kinds.ListTasks value command e = list_fits value command e
+  of_kind_fits kinds.GetTask value command e = get_fits value command e
+  of_kind_fits kinds.ForgetTask value command e = forget_fits value command e
+  of_kind_fits kinds.ListResults value command e = results_fits value command e
   of_kind_fits kinds.ListStep value command e = list_step_fits value command e
   of_kind_fits kinds.Deliver value command e =
       let found = first_ok (number_in value) _ command e in
@@ -317,7 +362,7 @@ module _ (nodes : ℕ) (some : 1 ≤ nodes) (before : List Command) where
   command_fits mode value command e =
       let entry = first_ok (ok_or (only_member value) NotObject) _ command e in
       let kind = first_ok (kind_named entry.0.0) _ command entry.2 in
-      allowed (is_run mode && is_schedule kind.0) kind.0 entry.0.1 kind.2
+      allowed (is_run mode && is_for_sim kind.0 entry.0.1) kind.0 entry.0.1 kind.2
     where
       allowed : (schedules : Bool) (kind : Kind) (inner : Data) → cond schedules (Err ScheduleLineInRun) (command_of_kind nodes before kind inner) ≡ Ok command → Fits nodes before command
       allowed true kind inner e' = cc

@@ -14,14 +14,14 @@ use Rattle.script_lang.specs.declared.command.Mode.{Mode}
 use Rattle.script_lang.specs.declared.kind.Kind.{Kind}
 use Rattle.script_lang.specs.declared.kind.Kind.TheVariants as kinds
 use Rattle.script_lang.specs.declared.targets.NamedFor.TheVariants as uses
-use Rattle.script_lang.specs.Commands.{search_fields, search_in, scroll_fields, scroll_in, clear_fields, clear_in, reindex_fields, reindex_in, cancel_fields, cancel_in, list_fields, list_in, list_step_fields, list_step_in, shuffle_fields, shuffle_in, wait_fields, wait_in, command_of_kind, only_member, is_run, command_in}
+use Rattle.script_lang.specs.Commands.{search_fields, search_in, scroll_fields, scroll_in, clear_fields, clear_in, reindex_fields, reindex_in, cancel_fields, cancel_in, list_fields, list_in, get_fields, get_in, forget_fields, forget_in, no_fields, results_in, list_step_fields, list_step_in, shuffle_fields, shuffle_in, wait_fields, wait_in, command_of_kind, only_member, is_run, is_for_sim, command_in}
 use Rattle.script_lang.specs.Fields.{place_of, both, expects, are_among, fields_of, text_of, text_or, optional_text, node_in, node_or_first, task_in, optional_task, group_or_nodes, flag_or_false, body_in, object_in, number_in, from_1_to, max_slices, slices_or_one, max_rate, rate_of, rate_or_none, max_moves, needed_number, moves_in, optional_keep_alive, time_in, truth_of, truth_in}
 use Rattle.script_lang.specs.Filters.{has_filter, filter_in}
 use Rattle.script_lang.specs.KeepAlives.{keep_alive_of, day_ms}
-use Rattle.script_lang.specs.Kinds.{kind_named, is_schedule}
+use Rattle.script_lang.specs.Kinds.{kind_named}
 use Rattle.script_lang.specs.Names.{task_id_of, node_of, group_named}
 use Rattle.script_lang.specs.Script.{max_commands, command_of}
-use Rattle.script_lang.specs.Targets.{starts_task, opens_context, can_be_awaited, allows, is_at, number_at, reference_in, target_of, target_in, context_of, context_in, awaited_in}
+use Rattle.script_lang.specs.Targets.{starts_task, opens_context, can_be_awaited, allows, is_at, number_at, reference_in, target_of, target_in, context_of, context_in, one_task_of, one_task_in, awaited_in}
 
 -- ---- fields
 
@@ -155,6 +155,16 @@ context_late : (before : List Command) (fields : Members) → NotAtOnce (context
 unfolding context_in
 context_late before fields = context_of_late before (get_member (codes "scroll_id") fields) (get_member (codes "command") fields)
 
+one_task_of_late : (before : List Command) (id command : Option Data) → NotAtOnce (one_task_of before id command)
+one_task_of_late before None None = refl
+one_task_of_late before (Some id) None = then_not_at_once (task_in (Some id)) _ (task_late (Some id)) (λ id. tt)
+one_task_of_late before None (Some command) = then_not_at_once (reference_in starts_task before command) _ (reference_late starts_task before command) (λ number. tt)
+one_task_of_late before (Some id) (Some command) = refl
+
+one_task_late : (before : List Command) (fields : Members) → NotAtOnce (one_task_in before fields)
+unfolding one_task_in
+one_task_late before fields = one_task_of_late before (get_member (codes "task_id") fields) (get_member (codes "command") fields)
+
 awaited_late : (before : List Command) (field : Option Data) → NotAtOnce (awaited_in before field)
 unfolding awaited_in
 awaited_late before None = refl
@@ -171,6 +181,9 @@ kind_late name =
     (either (bytes_eq name (codes "reindex")) _ _ tt
     (either (bytes_eq name (codes "cancel")) _ _ tt
     (either (bytes_eq name (codes "list")) _ _ tt
+    (either (bytes_eq name (codes "get_task")) _ _ tt
+    (either (bytes_eq name (codes "forget_task")) _ _ tt
+    (either (bytes_eq name (codes "list_results")) _ _ tt
     (either (bytes_eq name (codes "tick")) _ _ tt
     (either (bytes_eq name (codes "deliver")) _ _ tt
     (either (bytes_eq name (codes "step")) _ _ tt
@@ -179,11 +192,11 @@ kind_late name =
     (either (bytes_eq name (codes "shuffle")) _ _ tt
     (either (bytes_eq name (codes "wait_for")) _ _ tt
     (either (bytes_eq name (codes "history")) _ _ tt
-    (either (bytes_eq name (codes "summary")) _ _ tt refl))))))))))))))
+    (either (bytes_eq name (codes "summary")) _ _ tt refl)))))))))))))))))
 
 module _ (nodes : ℕ) (before : List Command) where
   of_kind_late : (kind : Kind) (value : Data) → NotAtOnce (command_of_kind nodes before kind value)
-  unfolding search_in scroll_in clear_in reindex_in cancel_in list_in list_step_in shuffle_in wait_in
+  unfolding search_in scroll_in clear_in reindex_in cancel_in list_in get_in forget_in results_in list_step_in shuffle_in wait_in
   of_kind_late kinds.Search value =
       then_not_at_once (fields_of search_fields value) _ (fields_late search_fields value) (λ fields. then_not_at_once _ _
       (both_late _ _ (text_late (get_member (codes "index") fields)) (both_late _ _ (node_or_first_late nodes (get_member (codes "node") fields)) (both_late _ _ (keep_alive_late (get_member (codes "scroll") fields)) (both_late _ _ (body_late (get_member (codes "body") fields)) (optional_text_late (get_member (codes "opaque_id") fields)))))) (λ found. tt))
@@ -194,13 +207,19 @@ module _ (nodes : ℕ) (before : List Command) where
       then_not_at_once (fields_of clear_fields value) _ (fields_late clear_fields value) (λ fields. then_not_at_once _ _ (context_late before fields) (λ found. tt))
   of_kind_late kinds.Reindex value =
       then_not_at_once (fields_of reindex_fields value) _ (fields_late reindex_fields value) (λ fields. then_not_at_once _ _
-      (both_late _ _ (node_or_first_late nodes (get_member (codes "node") fields)) (both_late _ _ (object_late (get_member (codes "body") fields)) (both_late _ _ (slices_late (get_member (codes "slices") fields)) (both_late _ _ (rate_late (get_member (codes "requests_per_second") fields)) (optional_text_late (get_member (codes "opaque_id") fields)))))) (λ found. tt))
+      (both_late _ _ (node_or_first_late nodes (get_member (codes "node") fields)) (both_late _ _ (object_late (get_member (codes "body") fields)) (both_late _ _ (slices_late (get_member (codes "slices") fields)) (both_late _ _ (rate_late (get_member (codes "requests_per_second") fields)) (both_late _ _ (optional_text_late (get_member (codes "opaque_id") fields)) (flag_late (get_member (codes "store") fields))))))) (λ found. tt))
   of_kind_late kinds.Cancel value =
       then_not_at_once (fields_of cancel_fields value) _ (fields_late cancel_fields value) (λ fields. then_not_at_once _ _
       (both_late _ _ (target_late before fields) (both_late _ _ (text_or_late (codes "by user request") (get_member (codes "reason") fields)) (flag_late (get_member (codes "wait_for_completion") fields)))) (λ found. tt))
   of_kind_late kinds.ListTasks value =
       then_not_at_once (fields_of list_fields value) _ (fields_late list_fields value) (λ fields. then_not_at_once _ _
       (both_late _ _ (filter_late fields) (both_late _ _ (group_late (get_member (codes "group_by") fields)) (flag_late (get_member (codes "detailed") fields)))) (λ found. tt))
+  of_kind_late kinds.GetTask value =
+      then_not_at_once (fields_of get_fields value) _ (fields_late get_fields value) (λ fields. then_not_at_once _ _
+      (both_late _ _ (one_task_late before fields) (flag_late (get_member (codes "wait_for_completion") fields))) (λ found. tt))
+  of_kind_late kinds.ForgetTask value =
+      then_not_at_once (fields_of forget_fields value) _ (fields_late forget_fields value) (λ fields. then_not_at_once _ _ (one_task_late before fields) (λ found. tt))
+  of_kind_late kinds.ListResults value = then_not_at_once (fields_of no_fields value) _ (fields_late no_fields value) (λ fields. tt)
   of_kind_late kinds.Tick value = then_not_at_once (time_in value) _ (time_late value) (λ ms. tt)
   of_kind_late kinds.Deliver value = then_not_at_once (number_in value) _ (number_late value) (λ nth. tt)
   of_kind_late kinds.Step value = then_not_at_once (task_in (Some value)) _ (task_late (Some value)) (λ task. tt)
@@ -220,7 +239,7 @@ module _ (nodes : ℕ) (before : List Command) where
   unfolding command_in
   command_late mode value =
       then_not_at_once (ok_or (only_member value) NotObject) _ (or_late (only_member value) NotObject refl)
-      (λ entry. then_not_at_once (kind_named entry.0) _ (kind_late entry.0) (λ kind. either (is_run mode && is_schedule kind) _ _ refl (of_kind_late kind entry.1)))
+      (λ entry. then_not_at_once (kind_named entry.0) _ (kind_late entry.0) (λ kind. either (is_run mode && is_for_sim kind entry.1) _ _ refl (of_kind_late kind entry.1)))
 
   -- Where there is room for one more command and its line may be read, a cause is found only once it is.
   pub command_not_at_once : (mode : Mode) (line : List ℕ) → nat_le max_commands (length before) ≡ false → IsTrue (is_text line) → NotAtOnce (command_of mode nodes before line)

@@ -12,7 +12,7 @@ use Rattle.shard_docs.specs.Fault.{and_then}
 use Rattle.task_ids.specs.Source.{IsSource}
 use Rattle.task_ids.specs.declared.cause.Cause.TheVariants.{BadField, UnknownField}
 use Rattle.script_lang.specs.declared.command.Command.TheVariants.{Search, Reindex}
-use Rattle.script_lang.specs.Fields.{both, are_among, expects, fields_of, text_of, optional_text, node_or_first, optional_keep_alive, body_in, object_in, slices_or_one, rate_or_none}
+use Rattle.script_lang.specs.Fields.{both, are_among, expects, fields_of, text_of, optional_text, flag_or_false, node_or_first, optional_keep_alive, body_in, object_in, slices_or_one, rate_or_none}
 use Rattle.script_lang.specs.Commands.{search_fields, search_in, reindex_fields, reindex_in}
 use Rattle.script_lang.proofs.FieldLemmas.{both_first, both_second, first_ok}
 
@@ -84,14 +84,14 @@ object_found None body found e = cc
 object_found (Some value) body found e = body_found (Some value) body found e
 
 -- the body of a reindex is a source, where the reindex is of whole numbers and nests no deeper than 127
-pub reindex_body_is_source : (nodes : ℕ) (value : Data) (node : ℕ) (body : Data) (slices : ℕ) (rate : Option ℕ) (opaque_id : Option (List ℕ)) → has_float value ≡ false → depth value ≤ max_depth
-    → reindex_in nodes value ≡ Ok (Reindex node body slices rate opaque_id) → IsSource body
+pub reindex_body_is_source : (nodes : ℕ) (value : Data) (node : ℕ) (body : Data) (slices : ℕ) (rate : Option ℕ) (opaque_id : Option (List ℕ)) (store : Bool) → has_float value ≡ false → depth value ≤ max_depth
+    → reindex_in nodes value ≡ Ok (Reindex node body slices rate opaque_id store) → IsSource body
 unfolding reindex_in
-reindex_body_is_source nodes value node body slices rate opaque_id whole nests e =
-    let step = first_ok (fields_of reindex_fields value) _ (Reindex node body slices rate opaque_id) e in
+reindex_body_is_source nodes value node body slices rate opaque_id store whole nests e =
+    let step = first_ok (fields_of reindex_fields value) _ (Reindex node body slices rate opaque_id store) e in
     let is : value ≡ object step.0 = fields_are reindex_fields value step.0 step.1 in
     let below : depth (object step.0) ≤ max_depth = subst (λ d. depth d ≤ max_depth) is nests in
-    let found = first_ok (both (node_or_first nodes (get_member (codes "node") step.0)) (both (object_in (get_member (codes "body") step.0)) (both (slices_or_one (get_member (codes "slices") step.0)) (both (rate_or_none (get_member (codes "requests_per_second") step.0)) (optional_text (get_member (codes "opaque_id") step.0)))))) _ (Reindex node body slices rate opaque_id) step.2 in
+    let found = first_ok (both (node_or_first nodes (get_member (codes "node") step.0)) (both (object_in (get_member (codes "body") step.0)) (both (slices_or_one (get_member (codes "slices") step.0)) (both (rate_or_none (get_member (codes "requests_per_second") step.0)) (both (optional_text (get_member (codes "opaque_id") step.0)) (flag_or_false (get_member (codes "store") step.0))))))) _ (Reindex node body slices rate opaque_id store) step.2 in
     let same : found.0.1.0 ≡ body = cc (found.2) in
     let at = both_first _ _ found.0.1 (both_second _ _ found.0 found.1) in
     subst IsSource same (object_found (get_member (codes "body") step.0) found.0.1.0 (λ d at.

@@ -1,5 +1,5 @@
 -- The command that a JSON value is, or the first of its causes.
-use Rattle.std.specs.Prelude.{ℕ, List, [], ◌∷◌, codes, Bool, true, false, ◌&&◌, Option, Some, None, option_and_then, Result, Ok, Err, if◌then◌else◌}
+use Rattle.std.specs.Prelude.{ℕ, List, [], ◌∷◌, codes, Bool, true, false, ◌&&◌, ◌||◌, Option, Some, None, is_some, option_and_then, Result, Ok, Err, if◌then◌else◌}
 use Rattle.std.specs.Option.{ok_or}
 use Rattle.serde_json.specs.Data.{Data, Members, no_members, member}
 use Rattle.serde_json.specs.Find.{get_member, as_object}
@@ -7,7 +7,7 @@ use Rattle.task_ids.specs.declared.cause.Cause.{Cause}
 use Rattle.task_ids.specs.declared.cause.Cause.TheVariants.{NotObject, ScheduleLineInRun}
 use Rattle.shard_docs.specs.Fault.{◌>>=◌}
 use Rattle.script_lang.specs.declared.command.Command.{Command}
-use Rattle.script_lang.specs.declared.command.Command.TheVariants.{Search, Scroll, ClearScroll, Reindex, Cancel, ListTasks, Tick, Deliver, Step, ListStep, Settle, Shuffle, WaitFor, History, Summary}
+use Rattle.script_lang.specs.declared.command.Command.TheVariants.{Search, Scroll, ClearScroll, Reindex, Cancel, ListTasks, GetTask, ForgetTask, ListResults, Tick, Deliver, Step, ListStep, Settle, Shuffle, WaitFor, History, Summary}
 use Rattle.script_lang.specs.declared.command.Mode.{Mode}
 use Rattle.script_lang.specs.declared.command.Mode.TheVariants.{Sim, Run}
 use Rattle.script_lang.specs.declared.kind.Kind.{Kind}
@@ -15,7 +15,7 @@ use Rattle.script_lang.specs.declared.kind.Kind.TheVariants as kinds
 use Rattle.script_lang.specs.Fields.{both, fields_of, text_of, text_or, optional_text, node_in, node_or_first, task_in, group_or_nodes, flag_or_false, body_in, object_in, number_in, slices_or_one, rate_or_none, optional_keep_alive, time_in, truth_in, needed_number, moves_in}
 use Rattle.script_lang.specs.Filters.{filter_in}
 use Rattle.script_lang.specs.Kinds.{kind_named, is_schedule}
-use Rattle.script_lang.specs.Targets.{target_in, context_in, awaited_in}
+use Rattle.script_lang.specs.Targets.{target_in, context_in, one_task_in, awaited_in}
 
 -- ---- the fields of the commands
 
@@ -29,13 +29,22 @@ abbrev pub clear_fields : List (List ℕ)
 clear_fields = codes "scroll_id" ∷ codes "command" ∷ []
 
 abbrev pub reindex_fields : List (List ℕ)
-reindex_fields = codes "body" ∷ codes "node" ∷ codes "slices" ∷ codes "requests_per_second" ∷ codes "opaque_id" ∷ []
+reindex_fields = codes "body" ∷ codes "node" ∷ codes "slices" ∷ codes "requests_per_second" ∷ codes "opaque_id" ∷ codes "store" ∷ []
 
 abbrev pub cancel_fields : List (List ℕ)
 cancel_fields = codes "task_id" ∷ codes "command" ∷ codes "reason" ∷ codes "wait_for_completion" ∷ codes "actions" ∷ codes "nodes" ∷ codes "parent_task_id" ∷ []
 
 abbrev pub list_fields : List (List ℕ)
 list_fields = codes "group_by" ∷ codes "actions" ∷ codes "nodes" ∷ codes "parent_task_id" ∷ codes "detailed" ∷ []
+
+abbrev pub get_fields : List (List ℕ)
+get_fields = codes "task_id" ∷ codes "command" ∷ codes "wait_for_completion" ∷ []
+
+abbrev pub forget_fields : List (List ℕ)
+forget_fields = codes "task_id" ∷ codes "command" ∷ []
+
+abbrev pub no_fields : List (List ℕ)
+no_fields = []
 
 abbrev pub list_step_fields : List (List ℕ)
 list_step_fields = codes "node" ∷ codes "parent" ∷ []
@@ -73,8 +82,8 @@ clear_in before value = do
 unfoldable pub reindex_in : ℕ → Data → Result Command Cause
 reindex_in nodes value = do
   fields ← fields_of reindex_fields value
-  found ← both (node_or_first nodes (get_member (codes "node") fields)) (both (object_in (get_member (codes "body") fields)) (both (slices_or_one (get_member (codes "slices") fields)) (both (rate_or_none (get_member (codes "requests_per_second") fields)) (optional_text (get_member (codes "opaque_id") fields)))))
-  Ok (Reindex found.0 found.1.0 found.1.1.0 found.1.1.1.0 found.1.1.1.1)
+  found ← both (node_or_first nodes (get_member (codes "node") fields)) (both (object_in (get_member (codes "body") fields)) (both (slices_or_one (get_member (codes "slices") fields)) (both (rate_or_none (get_member (codes "requests_per_second") fields)) (both (optional_text (get_member (codes "opaque_id") fields)) (flag_or_false (get_member (codes "store") fields))))))
+  Ok (Reindex found.0 found.1.0 found.1.1.0 found.1.1.1.0 found.1.1.1.1.0 found.1.1.1.1.1)
 
 -- a cancel after some commands
 unfoldable pub cancel_in : List Command → Data → Result Command Cause
@@ -89,6 +98,26 @@ list_in value = do
   fields ← fields_of list_fields value
   found ← both (filter_in fields) (both (group_or_nodes (get_member (codes "group_by") fields)) (flag_or_false (get_member (codes "detailed") fields)))
   Ok (ListTasks found.0 found.1.0 found.1.1)
+
+-- a get of a task after some commands
+unfoldable pub get_in : List Command → Data → Result Command Cause
+get_in before value = do
+  fields ← fields_of get_fields value
+  found ← both (one_task_in before fields) (flag_or_false (get_member (codes "wait_for_completion") fields))
+  Ok (GetTask found.0 found.1)
+
+-- a forget after some commands
+unfoldable pub forget_in : List Command → Data → Result Command Cause
+forget_in before value = do
+  fields ← fields_of forget_fields value
+  task ← one_task_in before fields
+  Ok (ForgetTask task)
+
+-- a list of results, which says nothing
+unfoldable pub results_in : Data → Result Command Cause
+results_in value = do
+  fields ← fields_of no_fields value
+  Ok ListResults
 
 -- a step of a listing on a cluster of so many nodes
 unfoldable pub list_step_in : ℕ → Data → Result Command Cause
@@ -119,6 +148,9 @@ command_of_kind nodes before kinds.ClearScroll value = clear_in before value
 command_of_kind nodes before kinds.Reindex value = reindex_in nodes value
 command_of_kind nodes before kinds.Cancel value = cancel_in before value
 command_of_kind nodes before kinds.ListTasks value = list_in value
+command_of_kind nodes before kinds.GetTask value = get_in before value
+command_of_kind nodes before kinds.ForgetTask value = forget_in before value
+command_of_kind nodes before kinds.ListResults value = results_in value
 command_of_kind nodes before kinds.Tick value = time_in value >>= λ ms. Ok (Tick ms)
 command_of_kind nodes before kinds.Deliver value = number_in value >>= λ nth. Ok (Deliver nth)
 command_of_kind nodes before kinds.Step value = task_in (Some value) >>= λ task. Ok (Step task)
@@ -144,9 +176,18 @@ abbrev pub is_run : Mode → Bool
 is_run Sim = false
 is_run Run = true
 
+-- a reindex says whether its reply is stored, whatever it says
+abbrev pub has_store : Kind → Data → Bool
+has_store kinds.Reindex value = is_some (option_and_then (get_member (codes "store")) (as_object value))
+has_store _ value = false
+
+-- it is no line for threads, which neither take a schedule nor store results
+abbrev pub is_for_sim : Kind → Data → Bool
+is_for_sim kind value = is_schedule kind || has_store kind value
+
 -- the command that a JSON value is, after other commands, on a cluster of so many nodes
 unfoldable pub command_in : Mode → ℕ → List Command → Data → Result Command Cause
 command_in mode nodes before value = do
   entry ← ok_or (only_member value) NotObject
   kind ← kind_named entry.0
-  if is_run mode && is_schedule kind then Err ScheduleLineInRun else command_of_kind nodes before kind entry.1
+  if is_run mode && is_for_sim kind entry.1 then Err ScheduleLineInRun else command_of_kind nodes before kind entry.1

@@ -4,9 +4,11 @@ use Rattle.std.specs.Option.{ForSome}
 use Rattle.script_lang.specs.declared.command.CancelTarget.{CancelTarget}
 use Rattle.script_lang.specs.declared.command.CancelTarget.TheVariants as targets
 use Rattle.script_lang.specs.declared.command.Command.{Command}
-use Rattle.script_lang.specs.declared.command.Command.TheVariants.{Search, Scroll, ClearScroll, Reindex, Cancel, ListTasks, Tick, Deliver, Step, ListStep, Settle, Shuffle, WaitFor, History, Summary}
+use Rattle.script_lang.specs.declared.command.Command.TheVariants.{Search, Scroll, ClearScroll, Reindex, Cancel, ListTasks, GetTask, ForgetTask, ListResults, Tick, Deliver, Step, ListStep, Settle, Shuffle, WaitFor, History, Summary}
 use Rattle.script_lang.specs.declared.command.ContextTarget.{ContextTarget}
 use Rattle.script_lang.specs.declared.command.ContextTarget.TheVariants as contexts
+use Rattle.script_lang.specs.declared.command.TaskTarget.{TaskTarget}
+use Rattle.script_lang.specs.declared.command.TaskTarget.TheVariants as tasks
 use Rattle.script_lang.specs.Fields.{max_slices, max_rate, max_moves}
 use Rattle.script_lang.specs.KeepAlives.{day_ms}
 use Rattle.script_lang.specs.Targets.{starts_task, opens_context, can_be_awaited, is_at}
@@ -34,14 +36,22 @@ abbrev pub NamesContext : List Command → ContextTarget → Type 0
 NamesContext before (contexts.Id id) = Unit {0}
 NamesContext before (contexts.Command number) = is_at opens_context before number ≡ true
 
+-- a command that is named comes before and starts a task
+abbrev pub NamesTask : List Command → TaskTarget → Type 0
+NamesTask before (tasks.Id id) = Unit {0}
+NamesTask before (tasks.Command number) = is_at starts_task before number ≡ true
+
 -- a command after others, on a cluster of so many nodes
 abbrev pub Fits : ℕ → List Command → Command → Type 0
 Fits nodes before (Search index node scroll body opaque_id) = IsNodeOf nodes node
 Fits nodes before (Scroll context keep opaque_id) = NamesContext before context
 Fits nodes before (ClearScroll context) = NamesContext before context
-Fits nodes before (Reindex node body slices rate opaque_id) = IsNodeOf nodes node × IsSliceCount slices × IsRate rate
+Fits nodes before (Reindex node body slices rate opaque_id store) = IsNodeOf nodes node × IsSliceCount slices × IsRate rate
 Fits nodes before (Cancel target reason wait) = NamesStart before target
 Fits nodes before (ListTasks filter group detailed) = Unit {0}
+Fits nodes before (GetTask task wait) = NamesTask before task
+Fits nodes before (ForgetTask task) = NamesTask before task
+Fits nodes before ListResults = Unit {0}
 Fits nodes before (Tick ms) = ms ≤ day_ms
 Fits nodes before (Deliver nth) = Unit {0}
 Fits nodes before (Step task) = Unit {0}

@@ -4,7 +4,7 @@ use Rattle.std.specs.Str.{bytes_eq}
 use Rattle.task_ids.specs.declared.cause.Cause.{Cause}
 use Rattle.task_ids.specs.declared.cause.Cause.TheVariants.{UnknownCommand}
 use Rattle.script_lang.specs.declared.kind.Kind.{Kind}
-use Rattle.script_lang.specs.declared.kind.Kind.TheVariants.{Search, Scroll, ClearScroll, Reindex, Cancel, ListTasks, Tick, Deliver, Step, ListStep, Settle, Shuffle, WaitFor, History, Summary}
+use Rattle.script_lang.specs.declared.kind.Kind.TheVariants.{Search, Scroll, ClearScroll, Reindex, Cancel, ListTasks, GetTask, ForgetTask, ListResults, Tick, Deliver, Step, ListStep, Settle, Shuffle, WaitFor, History, Summary}
 
 abbrev pub kind_named : List ℕ → Result Kind Cause
 kind_named name =
@@ -14,6 +14,9 @@ kind_named name =
     (if bytes_eq name (codes "reindex") then Ok Reindex else
     (if bytes_eq name (codes "cancel") then Ok Cancel else
     (if bytes_eq name (codes "list") then Ok ListTasks else
+    (if bytes_eq name (codes "get_task") then Ok GetTask else
+    (if bytes_eq name (codes "forget_task") then Ok ForgetTask else
+    (if bytes_eq name (codes "list_results") then Ok ListResults else
     (if bytes_eq name (codes "tick") then Ok Tick else
     (if bytes_eq name (codes "deliver") then Ok Deliver else
     (if bytes_eq name (codes "step") then Ok Step else
@@ -22,9 +25,9 @@ kind_named name =
     (if bytes_eq name (codes "shuffle") then Ok Shuffle else
     (if bytes_eq name (codes "wait_for") then Ok WaitFor else
     (if bytes_eq name (codes "history") then Ok History else
-    (if bytes_eq name (codes "summary") then Ok Summary else Err UnknownCommand))))))))))))))
+    (if bytes_eq name (codes "summary") then Ok Summary else Err UnknownCommand)))))))))))))))))
 
--- it writes a schedule, which threads do not take
+-- it writes a schedule or is about results, which threads do not take
 abbrev pub is_schedule : Kind → Bool
 is_schedule Search = false
 is_schedule Scroll = false
@@ -32,6 +35,9 @@ is_schedule ClearScroll = false
 is_schedule Reindex = false
 is_schedule Cancel = false
 is_schedule ListTasks = false
+is_schedule GetTask = true
+is_schedule ForgetTask = true
+is_schedule ListResults = true
 is_schedule Tick = false
 is_schedule Deliver = true
 is_schedule Step = true

@@ -32,7 +32,7 @@ abbrev pub scroll_seen : ScrollParts → Command
 scroll_seen parts = Scroll parts.context parts.keep (option_map (λ text. text.now) parts.opaque_id)
 
 abbrev pub reindex_seen : ReindexParts → Command
-reindex_seen parts = Reindex parts.node (view parts.body.now) parts.slices parts.rate (option_map (λ text. text.now) parts.opaque_id)
+reindex_seen parts = Reindex parts.node (view parts.body.now) parts.slices parts.rate (option_map (λ text. text.now) parts.opaque_id) parts.store
 
 abbrev pub cancel_seen : CancelParts → Command
 cancel_seen parts = Cancel (target_seen parts.target) parts.reason.now parts.wait

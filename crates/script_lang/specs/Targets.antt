@@ -1,4 +1,4 @@
--- What commands name: a cancel a task or tasks, a scroll and a clear a context.
+-- What commands name: a cancel a task or tasks, a scroll and a clear a context, a get and a forget a task.
 use Rattle.std.specs.Prelude.{ℕ, zero, suc, List, Bool, true, false, codes, Option, Some, None, is_some, is_none, option_and_then, Result, Ok, Err, if◌then◌else◌, slice_get}
 use Rattle.std.specs.Option.{ok_or, option_map_or}
 use Rattle.serde_json.specs.Data.{Data, Members}
@@ -9,9 +9,11 @@ use Rattle.shard_docs.specs.Fault.{◌>>=◌}
 use Rattle.script_lang.specs.declared.command.CancelTarget.{CancelTarget}
 use Rattle.script_lang.specs.declared.command.CancelTarget.TheVariants as targets
 use Rattle.script_lang.specs.declared.command.Command.{Command}
-use Rattle.script_lang.specs.declared.command.Command.TheVariants.{Search, Scroll, ClearScroll, Reindex, Cancel, ListTasks, Tick, Deliver, Step, ListStep, Settle, Shuffle, WaitFor, History, Summary}
+use Rattle.script_lang.specs.declared.command.Command.TheVariants.{Search, Scroll, ClearScroll, Reindex, Cancel, ListTasks, GetTask, ForgetTask, ListResults, Tick, Deliver, Step, ListStep, Settle, Shuffle, WaitFor, History, Summary}
 use Rattle.script_lang.specs.declared.command.ContextTarget.{ContextTarget}
 use Rattle.script_lang.specs.declared.command.ContextTarget.TheVariants as contexts
+use Rattle.script_lang.specs.declared.command.TaskTarget.{TaskTarget}
+use Rattle.script_lang.specs.declared.command.TaskTarget.TheVariants as tasks
 use Rattle.script_lang.specs.declared.targets.NamedFor.{NamedFor}
 use Rattle.script_lang.specs.declared.targets.NamedFor.TheVariants as uses
 use Rattle.script_lang.specs.Fields.{task_in}
@@ -21,9 +23,12 @@ abbrev pub starts_task : Command → Bool
 starts_task (Search index node scroll body opaque_id) = true
 starts_task (Scroll context keep opaque_id) = true
 starts_task (ClearScroll context) = false
-starts_task (Reindex node body slices rate opaque_id) = true
+starts_task (Reindex node body slices rate opaque_id store) = true
 starts_task (Cancel target reason wait) = false
 starts_task (ListTasks filter group detailed) = false
+starts_task (GetTask task wait) = false
+starts_task (ForgetTask task) = false
+starts_task ListResults = false
 starts_task (Tick ms) = false
 starts_task (Deliver nth) = false
 starts_task (Step task) = false
@@ -39,9 +44,12 @@ abbrev pub opens_context : Command → Bool
 opens_context (Search index node scroll body opaque_id) = is_some scroll
 opens_context (Scroll context keep opaque_id) = false
 opens_context (ClearScroll context) = false
-opens_context (Reindex node body slices rate opaque_id) = false
+opens_context (Reindex node body slices rate opaque_id store) = false
 opens_context (Cancel target reason wait) = false
 opens_context (ListTasks filter group detailed) = false
+opens_context (GetTask task wait) = false
+opens_context (ForgetTask task) = false
+opens_context ListResults = false
 opens_context (Tick ms) = false
 opens_context (Deliver nth) = false
 opens_context (Step task) = false
@@ -57,9 +65,12 @@ abbrev pub can_be_awaited : Command → Bool
 can_be_awaited (Search index node scroll body opaque_id) = true
 can_be_awaited (Scroll context keep opaque_id) = true
 can_be_awaited (ClearScroll context) = false
-can_be_awaited (Reindex node body slices rate opaque_id) = is_none rate
+can_be_awaited (Reindex node body slices rate opaque_id store) = is_none rate
 can_be_awaited (Cancel target reason wait) = true
 can_be_awaited (ListTasks filter group detailed) = false
+can_be_awaited (GetTask task wait) = false
+can_be_awaited (ForgetTask task) = false
+can_be_awaited ListResults = false
 can_be_awaited (Tick ms) = false
 can_be_awaited (Deliver nth) = false
 can_be_awaited (Step task) = false
@@ -120,6 +131,19 @@ context_of before (Some id) (Some command) = Err BadField
 -- the id of a search, or an earlier search with a keep-alive
 unfoldable pub context_in : List Command → Members → Result ContextTarget Cause
 context_in before fields = context_of before (get_member (codes "scroll_id") fields) (get_member (codes "command") fields)
+
+-- ---- the task of a get and of a forget
+
+-- by what stands at `task_id` and at `command`, one of which must be there
+abbrev pub one_task_of : List Command → Option Data → Option Data → Result TaskTarget Cause
+one_task_of before None None = Err BadField
+one_task_of before (Some task) None = task_in (Some task) >>= λ id. Ok (tasks.Id id)
+one_task_of before None (Some command) = reference_in starts_task before command >>= λ number. Ok (tasks.Command number)
+one_task_of before (Some task) (Some command) = Err BadField
+
+-- a task id, or an earlier command that starts a task
+unfoldable pub one_task_in : List Command → Members → Result TaskTarget Cause
+one_task_in before fields = one_task_of before (get_member (codes "task_id") fields) (get_member (codes "command") fields)
 
 -- ---- the command that is waited for
 

@@ -5,7 +5,8 @@ use tasks_api::{Filter, GroupBy};
 /// How a script runs: step by step in one order that it may choose, or on threads.
 #[derive(Clone, Copy, PartialEq, Eq)]
 pub enum Mode {
-    /// The script may write a schedule, by `deliver`, `step`, `list_step`, `settle`, `shuffle`, `history` and `summary`.
+    /// The script may write a schedule, by `deliver`, `step`, `list_step`, `settle`, `shuffle`, `history` and `summary`, and may have results
+    /// of tasks stored, by `store`, `get_task`, `forget_task` and `list_results`.
     Sim,
     /// The threads make the schedule.
     Run,
@@ -28,6 +29,15 @@ pub enum ContextTarget {
     /// That of a search, by the search's id, whose node need not be of the cluster.
     Id(TaskId),
     /// That of an earlier command's search, by the command's number, from 1.
+    Command(u32),
+}
+
+/// The task that a command is about.
+#[derive(Clone, Copy, PartialEq, Eq)]
+pub enum TaskTarget {
+    /// A task by its id, whose node need not be of the cluster.
+    Id(TaskId),
+    /// The task of an earlier command that starts one, by the command's number, from 1.
     Command(u32),
 }
 
@@ -73,6 +83,8 @@ pub enum Command {
         rate: Option<u32>,
         /// The text by which a client knows what it started, if it is written. Each task that the reindex asks for carries it on.
         opaque_id: Option<Shared<Text>>,
+        /// Whether its reply is stored when it has ended, as the result of its task; false where it is not written.
+        store: bool,
     },
     /// A cancel, after Elasticsearch's task cancellation.
     Cancel {
@@ -92,6 +104,20 @@ pub enum Command {
         /// Whether it tells what each works on; false where it is not written.
         detailed: bool,
     },
+    /// Shows a task, live or ended, after Elasticsearch's task management.
+    GetTask {
+        /// The task.
+        task: TaskTarget,
+        /// Whether it is answered only once the task has ended; false where it is not written.
+        wait: bool,
+    },
+    /// Takes the result of a task away.
+    ForgetTask {
+        /// The task.
+        task: TaskTarget,
+    },
+    /// Shows which tasks have results.
+    ListResults,
     /// Moves the clock.
     Tick {
         /// By how many milliseconds, from 0 to 86,400,000.

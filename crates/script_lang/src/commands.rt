@@ -16,6 +16,7 @@ use crate::fields::{
 use crate::kind::Kind;
 use crate::lists::list_in;
 use crate::reindexes::reindex_in;
+use crate::results::{forget_in, get_in, results_in};
 use crate::scrolls::{clear_in, scroll_in};
 use crate::searches::search_in;
 use crate::targets::awaited_in;
@@ -113,6 +114,9 @@ fn command_of_kind(
         Kind::Reindex => reindex_in(alloc, nodes, value),
         Kind::Cancel => cancel_in(alloc, before, value),
         Kind::ListTasks => list_in(alloc, value),
+        Kind::GetTask => Ok(get_in(before, value)?),
+        Kind::ForgetTask => Ok(forget_in(before, value)?),
+        Kind::ListResults => Ok(results_in(value)?),
         Kind::Tick => Ok(Command::Tick {
             ms: time_in(value)?,
         }),
@@ -140,6 +144,23 @@ fn command_of_kind(
     }
 }
 
+/// Whether a reindex says whether its reply is stored, whatever it says.
+fn has_store(kind: Kind, value: &Value) -> bool
+    ensures { result ≡ spec.has_store kind (view value.now) }
+{
+    match (kind, value.as_object()) {
+        (Kind::Reindex, Some(fields)) => field(fields, "store").is_some(),
+        _ => false,
+    }
+}
+
+/// Whether a command is not for threads, which neither take a schedule nor store results.
+fn is_for_sim(kind: Kind, value: &Value) -> bool
+    ensures { result ≡ spec.is_for_sim kind (view value.now) }
+{
+    kind.is_schedule() || has_store(kind, value)
+}
+
 /// The command that a JSON value is, after other commands, on a cluster of so many nodes. A command that is refused is refused whatever
 /// memory there is.
 #[tactic(auto, unfolding(crate::specs::Commands::command_in))]
@@ -160,7 +181,7 @@ pub(crate) fn command_in(
         return Err(LineError::Refused(Cause::NotObject));
     };
     let kind = Kind::named(name)?;
-    if mode == Mode::Run && kind.is_schedule() {
+    if mode == Mode::Run && is_for_sim(kind, value) {
         return Err(LineError::Refused(Cause::ScheduleLineInRun));
     }
     command_of_kind(alloc, nodes, before, kind, value)

@@ -12,6 +12,9 @@ pub(crate) enum Kind {
     Reindex,
     Cancel,
     ListTasks,
+    GetTask,
+    ForgetTask,
+    ListResults,
     Tick,
     Deliver,
     Step,
@@ -35,6 +38,9 @@ impl Kind {
             "reindex" => Ok(Kind::Reindex),
             "cancel" => Ok(Kind::Cancel),
             "list" => Ok(Kind::ListTasks),
+            "get_task" => Ok(Kind::GetTask),
+            "forget_task" => Ok(Kind::ForgetTask),
+            "list_results" => Ok(Kind::ListResults),
             "tick" => Ok(Kind::Tick),
             "deliver" => Ok(Kind::Deliver),
             "step" => Ok(Kind::Step),
@@ -48,7 +54,7 @@ impl Kind {
         }
     }
 
-    /// Whether it writes a schedule, which threads do not take.
+    /// Whether it writes a schedule or is about results, which threads do not take.
     pub(crate) fn is_schedule(self) -> bool
         ensures { result ≡ is_schedule self }
     {
@@ -61,7 +67,10 @@ impl Kind {
             | Kind::ListTasks
             | Kind::Tick
             | Kind::WaitFor => false,
-            Kind::Deliver
+            Kind::GetTask
+            | Kind::ForgetTask
+            | Kind::ListResults
+            | Kind::Deliver
             | Kind::Step
             | Kind::ListStep
             | Kind::Settle

@@ -13,13 +13,14 @@ mod kind;
 mod lists;
 mod names;
 mod reindexes;
+mod results;
 mod script;
 mod scrolls;
 mod searches;
 mod targets;
 mod texts;
 
-pub use command::{CancelTarget, Command, ContextTarget, Mode, Script};
+pub use command::{CancelTarget, Command, ContextTarget, Mode, Script, TaskTarget};
 pub use error::ScriptError;
 pub use generator::{generate, next_number};
 pub use script::read_script;

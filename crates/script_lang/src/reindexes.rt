@@ -12,7 +12,8 @@ ghost use Rattle.script_lang.specs.Seen.{reindex_seen};
 
 use crate::command::Command;
 use crate::fields::{
-    both, field, fields_of, node_or_first, object_in, optional_text, rate_or_none, slices_or_one,
+    both, field, fields_of, flag_or_false, node_or_first, object_in, optional_text, rate_or_none,
+    slices_or_one,
 };
 use crate::texts::shared_from;
 use serde_json::Value;
@@ -21,7 +22,14 @@ use std::alloc::Global;
 use task_ids::{Body, Cause};
 
 /// The fields of a reindex.
-const REINDEX_FIELDS: [&str; 5] = ["body", "node", "slices", "requests_per_second", "opaque_id"];
+const REINDEX_FIELDS: [&str; 6] = [
+    "body",
+    "node",
+    "slices",
+    "requests_per_second",
+    "opaque_id",
+    "store",
+];
 
 /// A reindex, as its line says it.
 #[derive(Clone, Copy)]
@@ -31,6 +39,7 @@ struct ReindexParts<'v> {
     slices: u32,
     rate: Option<u32>,
     opaque_id: Option<&'v str>,
+    store: bool,
 }
 
 /// What a reindex on a cluster of so many nodes says.
@@ -45,14 +54,16 @@ fn reindex_parts(nodes: u32, value: &Value) -> Result<ReindexParts<'_>, Cause>
     let slices = slices_or_one(field(fields, "slices"));
     let rate = rate_or_none(field(fields, "requests_per_second"));
     let opaque_id = optional_text(field(fields, "opaque_id"));
-    let rest = both(slices, both(rate, opaque_id));
-    let (node, (body, (slices, (rate, opaque_id)))) = both(node, both(body, rest))?;
+    let store = flag_or_false(field(fields, "store"));
+    let rest = both(slices, both(rate, both(opaque_id, store)));
+    let (node, (body, (slices, (rate, (opaque_id, store))))) = both(node, both(body, rest))?;
     Ok(ReindexParts {
         node,
         body,
         slices,
         rate,
         opaque_id,
+        store,
     })
 }
 
@@ -70,5 +81,6 @@ pub(crate) fn reindex_in(alloc: Global, nodes: u32, value: &Value) -> Result<Com
         slices: parts.slices,
         rate: parts.rate,
         opaque_id: shared_from(alloc, parts.opaque_id)?,
+        store: parts.store,
     })
 }

@@ -5,6 +5,8 @@
 #[cfg(test)]
 mod reindexes;
 #[cfg(test)]
+mod results;
+#[cfg(test)]
 mod roots;
 #[cfg(test)]
 mod scripts;

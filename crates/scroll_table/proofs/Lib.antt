@@ -1,11 +1,11 @@
 mod Answered
 mod Cleared
-mod Kept
+pub mod Kept
 mod KeptOrder
-mod Least
+pub mod Least
 mod NoneDue
 mod Owned
-mod Places
+pub mod Places
 mod Ranked
-mod Timed
-mod Versioned
+pub mod Timed
+pub mod Versioned

@@ -22,7 +22,7 @@ due_after now since (Some keep) shown = go (nat_lt (since + keep) (2 ^ 64)) refl
         let past = ltb-false (since + keep) (2 ^ 64) e in
         sym (lt-leb (since + keep) now (omega (arith, past, shown)))
 
-due_end : (now : ℕ) (c : Context) → now < 2 ^ 64 → is_due now (end_of c) ≡ is_expired now c
+pub due_end : (now : ℕ) (c : Context) → now < 2 ^ 64 → is_due now (end_of c) ≡ is_expired now c
 due_end now c shown = go (is_busy c)
   where
     go : (b : Bool) → is_due now (cond b None (end_after c.last_ms c.keep_ms)) ≡ not b && is_over now c.last_ms c.keep_ms

@@ -16,7 +16,7 @@ pub enum PageError {
 
 /// The moment at which the context expires, unless it is used before; none where it has no keep-alive, where a task uses it, or where no
 /// clock shows that moment.
-pub(crate) fn end_of(context: &Context) -> Option<u64>
+pub fn end_of(context: &Context) -> Option<u64>
     ensures { result ≡ ends.end_of context.now }
 {
     if context.busy.is_some() {

@@ -14,7 +14,7 @@ use task_ids::TaskId;
 
 /// The moments at which contexts expire, of those that have one. Each change and the search for the soonest cost a logarithm.
 #[derive(Drop)]
-pub(crate) struct Ends {
+pub struct Ends {
     alloc: Global,
     moments: Moments,
     /// Whose moment stands at each place that is taken.
@@ -24,7 +24,7 @@ pub(crate) struct Ends {
 
 impl Ends {
     /// None yet, which takes no memory.
-    pub(crate) fn new(alloc: Global) -> Ends
+    pub fn new(alloc: Global) -> Ends
         ensures ends { AreEnds result }
         ensures empty { (id : TaskId) → kept_at result id ≡ None }
     {
@@ -37,7 +37,7 @@ impl Ends {
     }
 
     /// The moment of one more context.
-    pub(crate) fn add(&mut self, id: TaskId, moment: Option<u64>) -> Result<(), AllocError>
+    pub fn add(&mut self, id: TaskId, moment: Option<u64>) -> Result<(), AllocError>
         requires ends { AreEnds self.old }
         requires fresh { kept_at self.old id ≡ None }
         ensures ends { AreEnds self.new }
@@ -91,7 +91,7 @@ impl Ends {
     }
 
     /// Another moment for a context that is there.
-    pub(crate) fn set(&mut self, id: &TaskId, moment: Option<u64>)
+    pub fn set(&mut self, id: &TaskId, moment: Option<u64>)
         requires { AreEnds self.old }
         ensures ends { AreEnds self.new }
         ensures set { (q : TaskId) → kept_at self.new q
@@ -103,7 +103,7 @@ impl Ends {
     }
 
     /// A context is gone.
-    pub(crate) fn remove(&mut self, id: &TaskId)
+    pub fn remove(&mut self, id: &TaskId)
         requires { AreEnds self.old }
         ensures ends { AreEnds self.new }
         ensures removed { (q : TaskId) → kept_at self.new q
@@ -123,7 +123,7 @@ impl Ends {
     }
 
     /// Takes away a context whose moment has come, where there is one.
-    pub(crate) fn take_due(&mut self, now: u64) -> Option<TaskId>
+    pub fn take_due(&mut self, now: u64) -> Option<TaskId>
         requires { AreEnds self.old }
         ensures ends { AreEnds self.new }
         ensures due { IfSome result (λ id. IsSomeAnd (kept_at self.old id) (λ moment. moments.is_due now moment ≡ true)) }

@@ -11,6 +11,8 @@ mod owners;
 mod table;
 mod versions;
 
-pub use context::PageError;
+pub use context::{PageError, end_of};
+pub use ends::Ends;
 pub use table::ScrollTable;
 pub use task_events::{Context, ShardCount, ShardCounts};
+pub use versions::Versions;

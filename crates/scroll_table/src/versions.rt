@@ -25,14 +25,14 @@ pub(crate) struct Kept {
 
 /// The versions of shards that contexts keep, by index. An index of which one was kept stays here.
 #[derive(Drop)]
-pub(crate) struct Versions {
+pub struct Versions {
     alloc: Global,
     by_index: HashMap<String, BTreeSet<Kept>>,
 }
 
 impl Versions {
     /// None yet, which takes no memory.
-    pub(crate) fn new(alloc: Global) -> Versions
+    pub fn new(alloc: Global) -> Versions
         ensures { (index : List ℕ) (k : Kept) → keeps result index k ≡ false }
     {
         Versions {
@@ -43,7 +43,7 @@ impl Versions {
 
     /// The least version that is kept of a shard of an index, where one is kept. Its time does not depend on how many are kept, but for a
     /// logarithm.
-    pub(crate) fn oldest(&self, index: &str, shard: u32) -> Option<u32>
+    pub fn oldest(&self, index: &str, shard: u32) -> Option<u32>
         ensures kept { IfSome result (λ version. (id : TaskId) × (keeps self.now index.now (record { shard = shard; version = version; id = id }) ≡ true)) }
         ensures least { IfSome result (λ version. (k : Kept) → k.shard ≡ shard → keeps self.now index.now k ≡ true → version ≤ k.version) }
         ensures none { IfNone result ((k : Kept) → k.shard ≡ shard → keeps self.now index.now k ≡ false) }
@@ -81,7 +81,7 @@ impl Versions {
     }
 
     /// What one more context keeps. Where memory runs out nothing has changed.
-    pub(crate) fn add(&mut self, id: TaskId, context: &Context) -> Result<(), AllocError>
+    pub fn add(&mut self, id: TaskId, context: &Context) -> Result<(), AllocError>
         requires fresh { (i : List ℕ) (k : Kept) → is_at (task_id_cmp id) k.id ≡ true → keeps self.old i k ≡ false }
         ensures ok { OnOk result ((i : List ℕ) (k : Kept) → keeps self.new i k
             ≡ (if is_kept_by id context.now i k then true else keeps self.old i k)) }
@@ -103,7 +103,7 @@ impl Versions {
     }
 
     /// A context is gone, and what it kept. It takes no memory.
-    pub(crate) fn remove(&mut self, id: TaskId, context: &Context)
+    pub fn remove(&mut self, id: TaskId, context: &Context)
         ensures { (i : List ℕ) (k : Kept) → keeps self.new i k
             ≡ (if is_kept_by id context.now i k then false else keeps self.old i k) }
     {

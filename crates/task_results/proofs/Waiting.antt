@@ -1,13 +1,15 @@
 -- The commands that wait for a task, as the tree keeps them.
 use Rattle.std.proofs.Common.{◌≡◌, ℕ, ◌+◌, ◌<◌, List, [], ◌∷◌, ◌++◌, length, Option, None, Some, IfSome, cond, All, sym, ap, subst, arith, ◌∙◌}
 use Rattle.std.specs.BTreeMap.{is_at}
-use Rattle.std.specs.FinMap.{FinMap, get, from_entries}
+use Rattle.std.specs.Cmp.{eq_by_cmp_equiv}
+use Rattle.std.specs.FinMap.{FinMap, get, get-insert, insert, from_entries}
 use Rattle.std.specs.List.Sorted.{IsStrictlyIncreasing}
 use Rattle.std.specs.Option.{unwrap_or}
-use Rattle.std.proofs.lemmas.Bool.{cond_both, cases_lt}
+use Rattle.std.specs.Ordering.{eq_by_cmp}
+use Rattle.std.proofs.lemmas.Bool.{cond_both, cond-true, cases_lt}
 use Rattle.std.proofs.lemmas.List.{get_or_append_left, get_or_push, length_push}
 use Rattle.std.proofs.Math.Logic.{⊎_elim}
-use Rattle.task_ids.proofs.TaskIdKeys.{get_id, value_at}
+use Rattle.task_ids.proofs.TaskIdKeys.{get_id, ids_total, value_at}
 use Rattle.task_ids.specs.TaskIdOrder.{task_id_cmp}
 use Rattle.task_ids.specs.declared.task_id.TaskId.{TaskId}
 use Rattle.task_results.specs.Results.{waiting_for}
@@ -15,6 +17,11 @@ use Rattle.task_results.specs.Results.{waiting_for}
 -- what the tree keeps of a task, or nothing
 pub waiting_is : (es : List (TaskId × List ℕ)) (m : FinMap task_id_cmp (List ℕ)) (id : TaskId) (o : Option (List ℕ)) → from_entries es ≡ m → value_at es id ≡ o → waiting_for id m ≡ unwrap_or o []
 waiting_is es m id o view is = ap (λ x. unwrap_or x []) (ap (λ x. get x id) (sym view) ∙ get_id es id ∙ is)
+
+-- those that were put there last
+pub waiting_then : (m : FinMap task_id_cmp (List ℕ)) (id : TaskId) (xs : List ℕ) → waiting_for id (insert m id xs) ≡ xs
+waiting_then m id xs =
+    ap (λ o. unwrap_or o []) (get-insert ids_total m id xs id ∙ cond-true (eq_by_cmp task_id_cmp id id) (Some xs) (get m id) ((eq_by_cmp_equiv ids_total).refl id))
 
 -- a command above all others goes to the end
 pub one_later : (xs : List ℕ) (y : ℕ) → IsStrictlyIncreasing xs → All (λ k. k < y) xs → IsStrictlyIncreasing (xs ++ y ∷ [])

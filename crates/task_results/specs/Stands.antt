@@ -1,7 +1,9 @@
 -- When the result of a task stands, by the past.
 use Rattle.std.specs.Prelude.{◌≡◌, ℕ, List, [], ◌∷◌, Bool, false, ◌&&◌, Option, Some, None, if◌then◌else◌}
 use Rattle.std.specs.Option.{option_map_or}
+use Rattle.std.specs.FinMap.{FinMap, empty, insert, remove}
 use Rattle.task_ids.specs.declared.task_id.TaskId.{TaskId}
+use Rattle.task_ids.specs.TaskIdOrder.{task_id_cmp}
 use Rattle.task_events.specs.declared.event.Event.{Event}
 use Rattle.task_events.specs.declared.event.Event.TheVariants.{Begin, Root, End}
 use Rattle.task_events.specs.declared.reply.Reply.{Reply}
@@ -34,6 +36,13 @@ result_at script t (_ ∷ h) = result_at script t h
 
 abbrev pub ResultStands : Keeping → TaskId → Reply → List Event → Type 0
 ResultStands script t reply h = result_at script t h ≡ Some reply
+
+-- All results that stand, by their tasks.
+abbrev pub results_at : Keeping → List Event → FinMap task_id_cmp Reply
+results_at script [] = empty
+results_at script (Begin k ∷ h) = option_map_or (remove (results_at script h)) (script.forgets k h) (results_at script h)
+results_at script (End t reply ∷ h) = if is_stored script t h then insert (results_at script h) t reply else results_at script h
+results_at script (_ ∷ h) = results_at script h
 
 -- What a command is told that waited for a task, once it has ended: its reply, where its command stores it.
 abbrev pub told_at_end : Keeping → TaskId → List Event → Option Reply

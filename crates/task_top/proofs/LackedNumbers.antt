@@ -13,7 +13,7 @@ use Rattle.task_events.specs.Messages.{Message, in_flight}
 use Rattle.task_events.specs.Messages.Message.{Request}
 use Rattle.task_events.specs.Tasks.{last_number}
 use Rattle.script_lang.specs.declared.command.Command.{Command}
-use Rattle.script_lang.specs.declared.command.Command.TheVariants.{Search, Scroll, ClearScroll, Reindex, Cancel, ListTasks, Tick, Deliver, Step, ListStep, Settle, Shuffle, WaitFor, History, Summary}
+use Rattle.script_lang.specs.declared.command.Command.TheVariants.{Search, Scroll, ClearScroll, Reindex, Cancel, ListTasks, GetTask, ForgetTask, ListResults, Tick, Deliver, Step, ListStep, Settle, Shuffle, WaitFor, History, Summary}
 use Rattle.script_lang.specs.declared.command.Script.{Script}
 use Rattle.script_lang.specs.Generator.{next_number}
 use Rattle.world_moves.specs.Moves.{greatest_number, IsDelivery, Delivers, IsStart, NodeLacksNumber, LacksNumber, DeliveryLacksNumber}
@@ -118,7 +118,7 @@ module _ (cluster : Cluster) (corpus : Corpus) (script : Script) where
   does_none : (k : ℕ) (command : Command) (h past new : List Event) → CommandLacksNumber cluster corpus script command h past → Does cluster corpus script k command h new → ⊥
   does_none k (Search index node scroll body opaque_id) h past new (can, lacks, same) d = starts_none cluster h k node new lacks (subst (λ b. StartsWhere cluster b k node h new) can d)
   does_none k (Scroll target keep opaque_id) h past new (can, lacks, same) d = starts_none cluster h k (page_node target h) new lacks (subst (λ b. StartsWhere cluster b k (page_node target h) h new) can d)
-  does_none k (Reindex node body slices rate opaque_id) h past new (can, lacks, same) d = starts_none cluster h k node new lacks (subst (λ b. StartsWhere cluster b k node h new) can d)
+  does_none k (Reindex node body slices rate opaque_id store) h past new (can, lacks, same) d = starts_none cluster h k node new lacks (subst (λ b. StartsWhere cluster b k node h new) can d)
   does_none k (Deliver nth) h past new (lacks, same) (inl d) = delivers_none cluster h nth new lacks d
   does_none k (Deliver nth) h past new (lacks, same) (inr (beyond, still)) = let low = there_is cluster h nth lacks in omega (arith, low, beyond)
   does_none k Settle h past new lacks d = settles_none h past new lacks d
@@ -127,6 +127,9 @@ module _ (cluster : Cluster) (corpus : Corpus) (script : Script) where
   does_none k (ClearScroll target) h past new lacks d = lacks
   does_none k (Cancel target reason wait) h past new lacks d = lacks
   does_none k (ListTasks wanted group detailed) h past new lacks d = lacks
+  does_none k (GetTask task wait) h past new lacks d = lacks
+  does_none k (ForgetTask task) h past new lacks d = lacks
+  does_none k ListResults h past new lacks d = lacks
   does_none k (Tick ms) h past new lacks d = lacks
   does_none k (Step task) h past new lacks d = lacks
   does_none k (ListStep node parent) h past new lacks d = lacks

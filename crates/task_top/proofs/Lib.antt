@@ -1,8 +1,10 @@
 pub mod AtMoments
 pub mod CancelLines
 pub mod EarlierRuns
+pub mod GetsTold
 pub mod LackedNumbers
 pub mod LinesOfCommands
+pub mod LiveRows
 pub mod OneLine
 pub mod PagesBegun
 pub mod PrintedLines

@@ -28,7 +28,7 @@ use Rattle.task_events.specs.Tasks.{is_live, reply_of}
 use Rattle.task_events.specs.Turns.{events_of, history_before}
 use Rattle.command_roots.proofs.AskLemmas.{ask_there}
 use Rattle.command_roots.proofs.BatchLemmas.{batch_read}
-use Rattle.world_steps.proofs.Commanded.{asks_page, can_do}
+use Rattle.world_steps.proofs.Commanded.{asks_page}
 use Rattle.world_steps.proofs.Passing.{due_longer, step_longer}
 use Rattle.script_lang.specs.declared.command.ContextTarget.{ContextTarget}
 use Rattle.script_lang.specs.declared.command.Command.{Command}
@@ -46,10 +46,12 @@ use Rattle.command_roots.specs.Roots.{command_at, context_named, least_size, pag
 use Rattle.world_steps.specs.declared.acting.Stepped.{Stepped}
 use Rattle.world_steps.specs.declared.acting.Stepped.TheVariants.{Done, Waiting, NotRunning}
 use Rattle.world_steps.specs.Runs.{after_step, AnswersStep}
-use Rattle.world_steps.specs.Scripts.{StartsWhere, DeliversWhere, ListsWhere, CanDo, CanRun, IsRun, can_copy, can_page, can_start, page_node}
+use Rattle.world_steps.specs.Scripts.{StartsWhere, DeliversWhere, ListsWhere, CanRun, IsRun, IsRunSoFar, can_copy, can_page, can_start, page_node}
 use Rattle.task_top.specs.EachLine.{as_began, IsSearchReply, TellsPage, TellsReindex, TellsSearch, HasEnded, Moved, Waits, HasItsLine, EachHasItsLine}
 use Rattle.query_parse.proofs.FaultsTold.{fault_told}
 use Rattle.task_top.proofs.CancelLines.{cancel_told}
+use Rattle.task_top.proofs.GetsTold.{get_told}
+use Rattle.task_top.proofs.LiveRows.{can_at, run_asked}
 use Rattle.task_top.proofs.PagesBegun.{node_before, page_before}
 use Rattle.task_top.proofs.RootEnds.{IsReplyOf, has_replied, replies_so}
 use Rattle.task_top.proofs.TurnEvents.{HasDone, told_as, some_told, done_in_whole}
@@ -145,8 +147,8 @@ module _ (cluster : Cluster) (corpus : Corpus) (script : Script) (h : List Event
 
   -- ---- a reindex
 
-  module _ (node : ℕ) (body : Data) (slices : ℕ) (rate : Option ℕ) (opaque_id : Option Text) (lawful : Lawful cluster h) (drained : IsDrained h) (plain : AnswersPlainly cluster corpus script h)
-      (count : IsSliceCount slices) (bounded : IsRate rate) (at : command_at script k ≡ Some (commands.Reindex node body slices rate opaque_id)) (done : HasDone cluster corpus script k (commands.Reindex node body slices rate opaque_id) h) where
+  module _ (node : ℕ) (body : Data) (slices : ℕ) (rate : Option ℕ) (opaque_id : Option Text) (store : Bool) (lawful : Lawful cluster h) (drained : IsDrained h) (plain : AnswersPlainly cluster corpus script h)
+      (count : IsSliceCount slices) (bounded : IsRate rate) (at : command_at script k ≡ Some (commands.Reindex node body slices rate opaque_id store)) (done : HasDone cluster corpus script k (commands.Reindex node body slices rate opaque_id store) h) where
     asks_to_copy : (what : ReindexBody) → reindex_at body ≡ Ok what → (ask : ReindexAsk) → reindex_ask what slices rate ≡ Some ask → root_request script k (Begin k ∷ done.before) ≡ Some (asks.Reindex ask)
     asks_to_copy what good ask is =
         ap (λ (o : Option Command). option_and_then (λ command. request_in command (Begin k ∷ done.before)) o) at
@@ -199,22 +201,20 @@ module _ (cluster : Cluster) (corpus : Corpus) (script : Script) (h : List Event
 -- ---- all
 
 module _ (cluster : Cluster) (corpus : Corpus) (script : Script) (h : List Event) (lawful : Lawful cluster h) (drained : IsDrained h) (answered : AllAnswered h) (plain : AnswersPlainly cluster corpus script h)
-    (can : CanRun cluster.nodes script.commands) where
-  -- what the world can do with a command of the script
-  can_at : (k : ℕ) (command : Command) → command_at script k ≡ Some command → CanDo cluster.nodes command
-  can_at zero command at = absurd (cc)
-  can_at (suc n) command at = can_do cluster.nodes script.commands can n command at
-
+    (can : CanRun cluster.nodes script.commands) (so_far : IsRunSoFar cluster corpus script h) where
   by_command : (k : ℕ) (command : Command) → command_at script k ≡ Some command → HasDone cluster corpus script k command h → HasItsLine cluster corpus script h k command
   by_command k (commands.Search index node scroll body opaque_id) at done = search_told cluster corpus script h k index node scroll body opaque_id lawful drained plain at done
   by_command k (commands.Scroll target keep opaque_id) at done = page_told cluster corpus script h k target keep opaque_id lawful drained plain at done
   by_command k (commands.ClearScroll target) at done = tt
-  by_command k (commands.Reindex node body slices rate opaque_id) at done =
-      let fits = can_at k (commands.Reindex node body slices rate opaque_id) at in
-      reindex_told cluster corpus script h k node body slices rate opaque_id lawful drained plain fits.1 fits.2 at done
+  by_command k (commands.Reindex node body slices rate opaque_id store) at done =
+      let fits = can_at cluster.nodes script can k (commands.Reindex node body slices rate opaque_id store) at in
+      reindex_told cluster corpus script h k node body slices rate opaque_id store lawful drained plain fits.1 fits.2 at done
   by_command k (commands.Tick ms) at done = told_as cluster corpus script k _ h done (Tick ms ∷ []) done.does
   by_command k (commands.Cancel target reason wait) at done = cancel_told cluster corpus script h answered k reason wait target done
   by_command k (commands.ListTasks wanted group detailed) at done = tt
+  by_command k (commands.GetTask target wait) at done = get_told cluster corpus script h k target wait lawful drained (run_asked cluster corpus script h can so_far) done
+  by_command k (commands.ForgetTask target) at done = tt
+  by_command k commands.ListResults at done = tt
   by_command k (commands.Deliver nth) at done = deliver_told cluster corpus script h k _ done nth done.does
   by_command k (commands.Step t) at done = step_told cluster corpus script h k _ done t done.does.0 done.does.1
   by_command k (commands.ListStep node parent) at done = list_told cluster corpus script h k _ done (record { node = node; parent = parent }) done.does

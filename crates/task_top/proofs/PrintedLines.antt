@@ -23,7 +23,13 @@ use Rattle.task_events.specs.Summaries.{summary_of}
 use Rattle.task_events.specs.Tasks.{is_live, reply_of}
 use Rattle.task_events.specs.Turns.{events_before, events_of, history_before}
 use Rattle.script_lang.specs.declared.command.Command.{Command}
-use Rattle.script_lang.specs.declared.command.Command.TheVariants.{Search, Scroll, ClearScroll, Reindex, Tick, Cancel, ListTasks, Deliver, Step, ListStep, Settle, Shuffle, WaitFor, History, Summary}
+use Rattle.script_lang.specs.declared.command.TaskTarget.{TaskTarget}
+use Rattle.std.specs.FinMap.{keys}
+use Rattle.task_results.specs.Stands.{is_stored, results_at}
+use Rattle.command_roots.specs.declared.results.TaskFound.{TaskFound}
+use Rattle.command_roots.specs.declared.results.TaskFound.TheVariants.{Live, Ended, Missing}
+use Rattle.command_roots.specs.Results.{found_of, has_result, keeping, status_of, task_named}
+use Rattle.script_lang.specs.declared.command.Command.TheVariants.{Search, Scroll, ClearScroll, Reindex, Tick, Cancel, ListTasks, GetTask, ForgetTask, ListResults, Deliver, Step, ListStep, Settle, Shuffle, WaitFor, History, Summary}
 use Rattle.script_lang.specs.declared.command.Script.{Script}
 use Rattle.tasks_api.specs.declared.filter.Filter.{Filter}
 use Rattle.tasks_api.specs.declared.list.GroupBy.{GroupBy}
@@ -38,9 +44,9 @@ use Rattle.script_lang.specs.declared.command.ContextTarget.{ContextTarget}
 use Rattle.line_print.specs.declared.note.Note.{Note}
 use Rattle.line_print.specs.declared.note.Note.TheVariants.{NoSuchMessage, NotRunning, Waiting, NoListing}
 use Rattle.line_print.specs.Errors.{all_shards_failed, body_error, context_error, index_not_found, not_found, reindex_error, rejected, task_cancelled}
-use Rattle.line_print.specs.Lines.{cancel_line, cancelled, cancelled_json, cleared, done_json, frees, moment_json, page_note, page_refusal, ended_line, error_line, finds_none, first_in, full_node_in, idle_error, idle_line, line_of, lines_from, moved_line, named_in, note_of, printed, reason_of, refusal, reindex_line, reindex_refusal, search_line, start_refusal, settled, started, summary_json, target_in, told_all, wrote_line}
-use Rattle.line_print.proofs.PrintLemmas.{text_is_reply}
-use Rattle.task_top.specs.EachLine.{is_newline, EachHasItsLine, EachPrintsALine, HasItsLine, IsLine, IsReindexReply, IsSearchReply, TellsPage, TellsReindex, TellsSearch}
+use Rattle.line_print.specs.Lines.{cancel_line, cancelled, cancelled_json, cleared, completed_json, completed_task, done_json, forgotten_json, get_line, get_note, results_json, running_json, wrote_json, frees, moment_json, page_note, page_refusal, ended_line, error_line, finds_none, first_in, full_node_in, idle_error, idle_line, line_of, lines_from, moved_line, named_in, note_of, printed, reason_of, refusal, reindex_line, reindex_refusal, search_line, start_refusal, settled, started, summary_json, target_in, told_all, wrote_line}
+use Rattle.line_print.proofs.PrintLemmas.{running_is_reply, text_is_reply}
+use Rattle.task_top.specs.EachLine.{TellsFound, TellsTask, is_newline, EachHasItsLine, EachPrintsALine, HasItsLine, IsLine, IsReindexReply, IsSearchReply, TellsPage, TellsReindex, TellsSearch}
 use Rattle.task_top.proofs.OneLine.{value_line}
 use Rattle.task_top.proofs.ProgressLemmas.{both_false}
 
@@ -121,17 +127,17 @@ module _ (cluster : Cluster) (corpus : Corpus) (commands : List Command) (h : Li
   no_place_for known (Err fault) node reply = error_prints k (reindex_error fault)
   no_place_for known (Ok read) node reply = no_place read.source (known read.source) node reply
 
-  reindex_prints : (node : ℕ) (body : Data) (slices : ℕ) (rate : Option ℕ) (opaque_id : Option (List ℕ)) → TellsReindex corpus commands node body k h
-      → (noted : Option Note) → IsLine (line_of cluster corpus commands h k (Reindex node body slices rate opaque_id) noted)
-  reindex_prints node body slices rate opaque_id (inl bad) noted =
+  reindex_prints : (node : ℕ) (body : Data) (slices : ℕ) (rate : Option ℕ) (opaque_id : Option (List ℕ)) (store : Bool) → TellsReindex corpus commands node body k h
+      → (noted : Option Note) → IsLine (line_of cluster corpus commands h k (Reindex node body slices rate opaque_id store) noted)
+  reindex_prints node body slices rate opaque_id store (inl bad) noted =
       faulty_refused (is_known corpus commands) (reindex_at body) (first_in full_node_in (events_of k h)) (option_and_then (λ t. reply_of t h) (started k h)) bad
-  reindex_prints node body slices rate opaque_id (inr (inl (read, is, unknown))) noted =
+  reindex_prints node body slices rate opaque_id store (inr (inl (read, is, unknown))) noted =
       let full = first_in full_node_in (events_of k h) in
       let reply = option_and_then (λ t. reply_of t h) (started k h) in
       subst (λ (r : Result ReindexBody ReindexError). IsLine (reindex_line commands k (reindex_refusal (is_known corpus commands) r full) reply)) (sym is)
       (subst (λ (known : Bool). IsLine (reindex_line commands k (start_refusal read.source known full) reply)) (sym unknown) (source_refused read.source full reply))
-  reindex_prints node body slices rate opaque_id (inr (inr (inl full))) noted = rw full (no_place_for (is_known corpus commands) (reindex_at body) node None)
-  reindex_prints node body slices rate opaque_id (inr (inr (inr told))) noted =
+  reindex_prints node body slices rate opaque_id store (inr (inr (inl full))) noted = rw full (no_place_for (is_known corpus commands) (reindex_at body) node None)
+  reindex_prints node body slices rate opaque_id store (inr (inr (inr told))) noted =
       let begun = told.started in
       let replied = told.replied in
       rw begun (either_wrote (reindex_refusal (is_known corpus commands) (reindex_at body) None) (reply_of told.task h) (rw replied (wrote told.task told.reply told.told)))
@@ -181,14 +187,30 @@ module _ (cluster : Cluster) (corpus : Corpus) (script : Script) (h : List Event
       let listed = list_json group (task_json detailed (clock past)) (shown wanted (rows_of cluster script past)) in
       subst IsLine (sym (text_is_reply k listed)) (reply_prints k listed)
 
+  get_prints : (k : ℕ) (target : TaskTarget) (wait : Bool) → TellsTask script target wait k h → IsLine (line_of cluster corpus script.commands h k (GetTask target wait) (note_of cluster script (GetTask target wait) (history_before k h)))
+  get_prints k target wait told = by_found wait (found_of script target (history_before k h)) told
+    where
+      by_found : (wait : Bool) (found : TaskFound) → TellsFound script wait (history_before k h) h found
+          → IsLine (get_line script.commands k (get_note script wait (history_before k h) found) (option_and_then (λ t. reply_of t h) (completed_task (get_note script wait (history_before k h) found))))
+      by_found wait (Missing t) told = error_prints k (not_found t)
+      by_found wait (Ended t) told = reply_prints k (completed_json t (option_and_then (wrote_json script.commands) (reply_of t h)))
+      by_found true (Live t) told = reply_prints k (completed_json t (if is_stored (keeping script) t (history_before k h) then option_and_then (wrote_json script.commands) (reply_of t h) else None))
+      by_found false (Live t) (row, is) =
+          let now = clock (history_before k h) in
+          let status = status_of script t (history_before k h) in
+          rw is (subst IsLine (sym (running_is_reply k (task_json true now [] row) status)) (reply_prints k (running_json (task_json true now [] row) status)))
+
   by_command : (k : ℕ) (command : Command) → HasItsLine cluster corpus script h k command → IsLine (line_of cluster corpus script.commands h k command (note_of cluster script command (history_before k h)))
   by_command k (Search index node scroll body opaque_id) told = search_prints cluster corpus script.commands h k index node scroll body opaque_id told None
   by_command k (Scroll target keep opaque_id) told = page_prints cluster corpus script.commands h k script target keep opaque_id told
-  by_command k (Reindex node body slices rate opaque_id) told = reindex_prints cluster corpus script.commands h k node body slices rate opaque_id told None
+  by_command k (Reindex node body slices rate opaque_id store) told = reindex_prints cluster corpus script.commands h k node body slices rate opaque_id store told None
   by_command k (ClearScroll target) told = reply_prints k (cleared (frees script (context_named target (history_before k h)) (history_before k h)))
   by_command k (Tick ms) told = reply_prints k (moment_json (clock (history_before k h) + ms))
   by_command k (Cancel target reason wait) told = cancel_prints cluster corpus script.commands h k (target_in script.commands h target) wait (events_of k h)
   by_command k (ListTasks wanted group detailed) told = list_prints k wanted group detailed
+  by_command k (GetTask target wait) told = get_prints k target wait told
+  by_command k (ForgetTask target) told = reply_prints k (forgotten_json (has_result script (task_named target (history_before k h)) (history_before k h)))
+  by_command k ListResults told = reply_prints k (results_json (keys (results_at (keeping script) (history_before k h))))
   by_command k (Deliver nth) told = move_prints cluster corpus script.commands h k (events_of k h) (NoSuchMessage (length (in_flight (history_before k h)))) _ refl
   by_command k (Step t) told = step_prints cluster corpus script.commands h k (events_of k h) (is_live t (history_before k h))
   by_command k (ListStep node parent) told = move_prints cluster corpus script.commands h k (events_of k h) NoListing _ refl

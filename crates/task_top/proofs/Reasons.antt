@@ -237,7 +237,7 @@ module _ (c : ℕ) (t : TaskId) where
     by_command : (k : ℕ) (command : Command) → command_at script k ≡ Some command → (h new : List Event) → Does cluster corpus script k command h new → is_named c t new ≡ true → (is_named c t h ≡ true) ⊎ IsCancelAt script c
     by_command k (commands.Search index node scroll body opaque_id) at h new does named = inl (sym (starts_where (can_start corpus script.commands index scroll body) k node h new does) ∙ named)
     by_command k (commands.Scroll target keep opaque_id) at h new does named = inl (sym (starts_where (can_page script target h) k (page_node target h) h new does) ∙ named)
-    by_command k (commands.Reindex node body slices rate opaque_id) at h new does named = inl (sym (starts_where (can_copy corpus script.commands body) k node h new does) ∙ named)
+    by_command k (commands.Reindex node body slices rate opaque_id store) at h new does named = inl (sym (starts_where (can_copy corpus script.commands body) k node h new does) ∙ named)
     by_command k (commands.ClearScroll target) at h new does named = inl (sym (ap (is_named c t) does) ∙ named)
     by_command k (commands.Tick ms) at h new does named = inl (sym (ap (is_named c t) does) ∙ named)
     by_command k (commands.Cancel target reason wait) at h new does named =
@@ -245,6 +245,9 @@ module _ (c : ℕ) (t : TaskId) where
         (λ yes. let same : c ≡ k = grind (arith, same_tests) in inr (target, reason, wait, ap (command_at script) same ∙ at))
         (λ no. inl (sym (ap (is_named c t) does ∙ after_more k no wait target h) ∙ named))
     by_command k (commands.ListTasks wanted group detailed) at h new does named = inl (sym (ap (is_named c t) does) ∙ named)
+    by_command k (commands.GetTask task wait) at h new does named = inl (sym (ap (is_named c t) does) ∙ named)
+    by_command k (commands.ForgetTask task) at h new does named = inl (sym (ap (is_named c t) does) ∙ named)
+    by_command k commands.ListResults at h new does named = inl (sym (ap (is_named c t) does) ∙ named)
     by_command k (commands.Deliver nth) at h new does named = inl (sym (delivers_where nth h new does) ∙ named)
     by_command k (commands.Step u) at h new does named = inl (sym (answers_step_more u h new does.0 does.1) ∙ named)
     by_command k (commands.ListStep node parent) at h new does named = inl (sym (lists_where (record { node = node; parent = parent }) h new does) ∙ named)

@@ -10,25 +10,32 @@ use Rattle.query_parse.specs.declared.fault.BodyError.TheVariants.{Memory}
 use Rattle.task_ids.specs.declared.cluster.Cluster.{Cluster}
 use Rattle.task_ids.specs.declared.corpus.Corpus.{Corpus}
 use Rattle.task_ids.specs.declared.task_id.TaskId.{TaskId}
+use Rattle.task_ids.specs.declared.task_info.TaskInfo.{TaskInfo}
 use Rattle.task_ids.specs.declared.text.Text.{Text}
 use Rattle.script_lang.specs.declared.command.CancelTarget.{CancelTarget}
 use Rattle.script_lang.specs.declared.command.CancelTarget.TheVariants.{Matching}
 use Rattle.script_lang.specs.declared.command.ContextTarget.{ContextTarget}
 use Rattle.script_lang.specs.declared.command.Command.{Command}
-use Rattle.script_lang.specs.declared.command.Command.TheVariants.{Search, Scroll, ClearScroll, Reindex, Tick, Cancel, ListTasks, Deliver, Step, ListStep, Settle, Shuffle, WaitFor, History, Summary}
+use Rattle.script_lang.specs.declared.command.Command.TheVariants.{Search, Scroll, ClearScroll, Reindex, Tick, Cancel, ListTasks, GetTask, ForgetTask, ListResults, Deliver, Step, ListStep, Settle, Shuffle, WaitFor, History, Summary}
 use Rattle.script_lang.specs.declared.command.Script.{Script}
+use Rattle.script_lang.specs.declared.command.TaskTarget.{TaskTarget}
 use Rattle.task_events.specs.declared.event.Event.{Event}
 use Rattle.task_events.specs.declared.event.Event.TheVariants as events
 use Rattle.task_events.specs.declared.reply.Reply.{Reply}
 use Rattle.task_events.specs.declared.reply.Reply.TheVariants as replies
 use Rattle.task_events.specs.Bans.{mark_of}
 use Rattle.task_events.specs.Messages.{in_flight}
+use Rattle.task_events.specs.TaskRows.{row_of}
 use Rattle.task_events.specs.Tasks.{is_live, refusal_of, reply_of}
 use Rattle.task_events.specs.Turns.{events_of, history_before}
 use Rattle.world_moves.specs.Cancels.{is_answered, target_of, targets}
 use Rattle.world_moves.specs.Listings.{is_open}
 use Rattle.command_roots.specs.Known.{is_known}
-use Rattle.command_roots.specs.Roots.{command_at, least_size}
+use Rattle.task_results.specs.Stands.{ResultStands}
+use Rattle.command_roots.specs.declared.results.TaskFound.{TaskFound}
+use Rattle.command_roots.specs.declared.results.TaskFound.TheVariants.{Live, Ended, Missing}
+use Rattle.command_roots.specs.Results.{found_of, keeping}
+use Rattle.command_roots.specs.Roots.{command_at, least_size, scripted}
 use Rattle.world_steps.specs.Runs.{next_of}
 use Rattle.world_steps.specs.Scripts.{can_page, page_node}
 use Rattle.line_print.specs.Lines.{named_in, finds_none, note_of, line_of, printed}
@@ -112,6 +119,19 @@ abbrev pub TellsCancel : Cluster → Script → CancelTarget → ℕ → List Ev
 TellsCancel cluster script (Matching wanted) k h = HasNamed k (targets cluster script wanted (as_began k h)) h
 TellsCancel cluster script target k h = (events_of k h ≡ events.NotFound k ∷ []) ⊎ HasNamedOne k target h
 
+-- ---- a get
+
+-- Whatever a get found as it came stands behind what it tells. A result is the reply of its task. A live task has a row, which is shown;
+-- where the get waits it has ended by now, and so it is told as completed only once it has.
+abbrev pub TellsFound : Script → Bool → List Event → List Event → TaskFound → Type 0
+TellsFound script wait past h (Missing t) = ⊤
+TellsFound script wait past h (Ended t) = (reply : Reply) × ResultStands (keeping script) t reply past × (reply_of t h ≡ Some reply)
+TellsFound script true past h (Live t) = (reply : Reply) × (reply_of t h ≡ Some reply)
+TellsFound script false past h (Live t) = (row : TaskInfo) × (row_of (scripted script) t past ≡ Some row)
+
+abbrev pub TellsTask : Script → TaskTarget → Bool → ℕ → List Event → Type 0
+TellsTask script target wait k h = TellsFound script wait (history_before k h) h (found_of script target (history_before k h))
+
 -- ---- a line of a schedule
 
 -- something happened in the command
@@ -125,15 +145,18 @@ module _ (cluster : Cluster) (corpus : Corpus) (script : Script) where
   abbrev pub Waits : TaskId → List Event → Type 0
   Waits t past = (is_live t past ≡ true) × (next_of cluster corpus script t past ≡ None)
 
-  -- What the line of a command tells: a `deliver`, a `step` or a `list_step` of its events, or else of why nothing happened. A list, a clear and a summary tell what was noted of them; a `settle`, a `shuffle`, a `wait_for` and a `history` tell of any number of events.
+  -- What the line of a command tells: a `deliver`, a `step` or a `list_step` of its events, or else of why nothing happened. A list, a clear, a forget, a list of results and a summary tell what was noted of them; a `settle`, a `shuffle`, a `wait_for` and a `history` tell of any number of events.
   abbrev pub HasItsLine : List Event → ℕ → Command → Type 0
   HasItsLine h k (Search index node scroll body opaque_id) = TellsSearch corpus script.commands index node scroll body k h
   HasItsLine h k (Scroll target keep opaque_id) = TellsPage script target k h
   HasItsLine h k (ClearScroll target) = ⊤
-  HasItsLine h k (Reindex node body slices rate opaque_id) = TellsReindex corpus script.commands node body k h
+  HasItsLine h k (Reindex node body slices rate opaque_id store) = TellsReindex corpus script.commands node body k h
   HasItsLine h k (Tick ms) = events_of k h ≡ events.Tick ms ∷ []
   HasItsLine h k (Cancel target reason wait) = TellsCancel cluster script target k h
   HasItsLine h k (ListTasks wanted group detailed) = ⊤
+  HasItsLine h k (GetTask target wait) = TellsTask script target wait k h
+  HasItsLine h k (ForgetTask target) = ⊤
+  HasItsLine h k ListResults = ⊤
   HasItsLine h k (Deliver nth) = Moved k h ⊎ (length (in_flight (as_began k h)) ≤ nth)
   HasItsLine h k (Step t) = Moved k h ⊎ (is_live t (as_began k h) ≡ false) ⊎ Waits t (as_began k h)
   HasItsLine h k (ListStep node parent) = Moved k h ⊎ (is_open (record { node = node; parent = parent }) (as_began k h) ≡ false)

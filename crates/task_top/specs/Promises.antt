@@ -1,5 +1,5 @@
 -- What is promised of every moment of what happened, and of its end.
-use Rattle.std.specs.Prelude.{◌≡◌, ℕ, List, ◌∷◌, ◌++◌, Some, None, option_map, ⊤}
+use Rattle.std.specs.Prelude.{◌≡◌, ℕ, false, List, ◌∷◌, ◌++◌, Some, None, option_map, ⊤}
 use Rattle.task_ids.specs.declared.task_id.TaskId.{TaskId}
 use Rattle.task_events.specs.declared.event.Event.{Event}
 use Rattle.task_events.specs.declared.event.Event.TheVariants.{Ask, Pass, Listed, Acked, Work, AnswerPlaced, AnswerDone}
@@ -7,7 +7,10 @@ use Rattle.task_events.specs.declared.reply.Reply.{Reply}
 use Rattle.task_events.specs.Allowed.{cancellation_in}
 use Rattle.task_events.specs.Bans.{ban_put, mark_of, standing_ban}
 use Rattle.task_events.specs.Laws.{OnePlace, OneStage, RefusesLateChildren, LetsNoChildEscape, ListsAllChildren, HasListedAll, HasStoppedChildren, HasStoppedTrees, StopsPlacedTrees, IsCalledOff, WaitsForDescendants, LeavesNoBan, PlacesBans, CancelsWithCause, IsDrained}
-use Rattle.task_events.specs.Tasks.{parent_of, ancestors, reply_of}
+use Rattle.task_events.specs.Tasks.{parent_of, ancestors, is_live, reply_of}
+use Rattle.task_results.specs.Stands.{ResultStands}
+use Rattle.script_lang.specs.declared.command.Script.{Script}
+use Rattle.command_roots.specs.Results.{keeping}
 use Rattle.world_moves.specs.Cancels.{AllAnswered}
 use Rattle.line_print.specs.Lines.{started}
 
@@ -67,6 +70,12 @@ pub record IsOver (h : List Event) : Type 0 where
   pub nothing_left : IsDrained h
   pub no_ban : (n : ℕ) (p : TaskId) → standing_ban n p h ≡ None
   pub answered : AllAnswered h
+
+-- A result stands only of a task that has ended, and it is the reply with which that ended. So no get tells a result of a live task, and
+-- what it tells is what the line of the task's own command does, whatever came between.
+pub record TellsResults (script : Script) (h : List Event) : Type 0 where
+  pub ended : (t : TaskId) (reply : Reply) → ResultStands (keeping script) t reply h → is_live t h ≡ false
+  pub same : (t : TaskId) (reply : Reply) → ResultStands (keeping script) t reply h → reply_of t h ≡ Some reply
 
 -- The reply of a command's task is cancelled exactly where the task was marked, with the number of its mark.
 abbrev pub CancelsExactly : List Event → Type 0

@@ -21,7 +21,7 @@ ghost use Rattle.write_laws.specs.CopiedAll.{CopiesItsRows};
 ghost use Rattle.write_laws.specs.Throttled.{KeepsToRates};
 ghost use Rattle.write_laws.specs.TreeWrites.{CountsItsWrites};
 ghost use Rattle.task_top.specs.EachLine.{HasLines};
-ghost use Rattle.task_top.specs.Promises.{CancelsExactly, KeepsAllLaws};
+ghost use Rattle.task_top.specs.Promises.{CancelsExactly, KeepsAllLaws, TellsResults};
 ghost use Rattle.top_parts.specs.Reading.{max_input, Reads, Refuses, IsRead, IsRefused};
 ghost use Rattle.task_top.specs.Unharmed.{AnswersWholly};
 
@@ -29,6 +29,7 @@ use task_laws::{
     causes, drained_bans, early_children, late_children, one_place, one_stage, stopped_trees,
     waiting,
 };
+use world_steps::{results_stand, whole_is_so_far};
 use write_laws::{copies_all_rows, counts_its_writes, keeps_to_its_rate};
 
 /// In a mode and for a cluster any bytes are read as one corpus and one script or refused at one line for one cause, and
@@ -78,14 +79,15 @@ pub fn early_ends()
         → StopsRun cluster corpus script past NumbersSpent → IsRun cluster corpus script h → ⊥ }
 {}
 
-/// The laws of cancellation hold at a moment of a lawful history; where it is drained no ban stands; and a command's task
-/// is told as cancelled exactly where it was marked.
+/// The laws of cancellation hold at a moment of a lawful history; where it is drained no ban stands; a command's task is told as cancelled
+/// exactly where it was marked; and a result is the reply of a task that has ended.
 ///
 /// It computes nothing: its contract is the law.
 pub(crate) fn all_laws()
     ensures laws { (cluster : Cluster) (h : List Event) → Lawful cluster h → KeepsAllLaws h }
     ensures over { (cluster : Cluster) (h : List Event) → Lawful cluster h → IsDrained h → (n : ℕ) (p : TaskId) → standing_ban n p h ≡ None }
     ensures cancelled { (cluster : Cluster) (h : List Event) → Lawful cluster h → CancelsExactly h }
+    ensures results { (cluster : Cluster) (script : Script) (h : List Event) → Lawful cluster h → TellsResults script h }
 {
     one_place();
     one_stage();
@@ -95,6 +97,7 @@ pub(crate) fn all_laws()
     waiting();
     drained_bans();
     causes();
+    results_stand();
 }
 
 /// In a whole run each command has its line. In any run a search to which nothing happened has no failed shard, a task that was to
@@ -118,4 +121,5 @@ pub(crate) fn answer_laws()
     counts_its_writes();
     copies_all_rows();
     keeps_to_its_rate();
+    whole_is_so_far();
 }

@@ -1,24 +1,66 @@
 //! The run of a script in a serial world.
 
-ghost use Rattle.std.specs.Prelude.{◌≡◌, ◌+◌, ◌≤◌, [], None, Some, length, slice_get, OnOk, IfOk, IfErr};
+ghost use Rattle.std.specs.Prelude.{◌≡◌, ◌+◌, ◌≤◌, true, [], None, Some, length, slice_get, OnOk, IfOk, IfErr};
 ghost use Rattle.task_events.specs.Cancels.{last_command};
 ghost use Rattle.task_events.specs.Lawful.{Lawful};
 ghost use Rattle.command_roots.specs.Roots.{scripted};
 ghost use Rattle.world_moves.specs.Owning.{OneAtATime};
 ghost use Rattle.world_moves.specs.Plain.{AnswersPlainly};
 ghost use Rattle.world_steps.specs.Scripts.{CanDo, CanRun};
-ghost use Rattle.line_print.specs.Lines.{note_of};
+ghost use Rattle.task_events.specs.Tasks.{is_live};
+ghost use Rattle.command_roots.specs.Results.{found_of};
+ghost use Rattle.line_print.specs.Lines.{get_note, note_of, running_note};
 ghost use Rattle.task_top.specs.Progress.{HasCome, EndsEarly, EndsWhole};
 
+use command_roots::TaskFound;
 use line_print::Note;
-use script_lang::{Command, Script};
+use script_lang::{Command, Script, TaskTarget};
 use std::alloc::Global;
 use task_events::{History, Stop};
-use task_ids::{Cluster, Corpus, Items};
+use task_ids::{Cluster, Corpus, Items, TaskId};
 use world_steps::World;
 
+/// What is noted of a get of a live task for which it does not wait. It fails only for want of memory.
+fn running_note(world: &World<'_>, task: TaskId) -> Result<Option<Note>, Stop>
+    requires goes_on { world.now.stopped ≡ None }
+    requires live { is_live task world.now.past ≡ true }
+    requires before { last_command world.now.past ≤ length world.now.script.commands }
+    ensures ok { IfOk result (λ note. note ≡ running_note world.now.script task world.now.past) }
+    ensures early { IfErr result (λ stop. stop ≡ Stop.Memory) }
+{
+    let status = world.status(task);
+    match world.task_line(task)? {
+        Some(text) => {
+            let task = Items::from_vec(text);
+            Ok(Some(Note::Running { task, status }))
+        }
+        None => Ok(None),
+    }
+}
+
+/// What is noted of a get before it begins: what it finds. It fails only for want of memory.
+fn get_note(world: &World<'_>, target: &TaskTarget, wait: bool) -> Result<Option<Note>, Stop>
+    requires goes_on { world.now.stopped ≡ None }
+    requires before { last_command world.now.past ≤ length world.now.script.commands }
+    ensures ok { IfOk result (λ note. note ≡ get_note world.now.script wait world.now.past (found_of world.now.script target.now world.now.past)) }
+    ensures early { IfErr result (λ stop. stop ≡ Stop.Memory) }
+{
+    match world.find(target) {
+        TaskFound::Missing(task) => Ok(Some(Note::NoResult(task))),
+        TaskFound::Ended(task) => {
+            let stored = true;
+            Ok(Some(Note::Completed { task, stored }))
+        }
+        TaskFound::Live(task) if wait => {
+            let stored = world.is_stored(task);
+            Ok(Some(Note::Completed { task, stored }))
+        }
+        TaskFound::Live(task) => running_note(world, task),
+    }
+}
+
 /// What is noted of a command before it runs: what it lists, why it has no page, whether it frees a context, the moment that it makes,
-/// or why it makes nothing happen if it does not. It fails only for want of memory.
+/// what it finds or forgets of a task, which results stand, or why it makes nothing happen if it does not. It fails only for want of memory.
 fn note_of(world: &World<'_>, command: &Command) -> Result<Option<Note>, Stop>
     requires goes_on { world.now.stopped ≡ None }
     requires can { CanDo world.now.cluster.nodes command.now }
@@ -44,6 +86,12 @@ fn note_of(world: &World<'_>, command: &Command) -> Result<Option<Note>, Stop>
             )
         }
         Command::ClearScroll { context } => Ok(Some(Note::Freed(world.can_clear(context)))),
+        Command::GetTask { task, wait } => get_note(world, task, *wait),
+        Command::ForgetTask { task } => Ok(Some(Note::Forgotten(world.has_result(task)))),
+        Command::ListResults => {
+            let tasks = world.results()?;
+            Ok(Some(Note::Results(Items::from_vec(tasks))))
+        }
         Command::Tick { ms } => Ok(Some(Note::Moment(world.now() + *ms))),
         Command::Summary => Ok(Some(Note::Counted(world.summary()))),
         Command::Deliver { .. } => {

@@ -9,7 +9,7 @@ ghost use Rattle.world_moves.specs.Plain.{AnswersPlainly};
 ghost use Rattle.world_steps.specs.Scripts.{CanRun};
 ghost use Rattle.task_top.specs.Kept.{AnswersInput, IsWholeOrNone, RanAsRead, Rests, TellsEach, WritesLines, HasCause, IsAfterReading, early_status};
 ghost use Rattle.task_top.specs.Progress.{EndsWhole};
-ghost use Rattle.task_top.specs.Promises.{AtEachMoment, KeepsAllLaws, CancelsExactly};
+ghost use Rattle.task_top.specs.Promises.{AtEachMoment, KeepsAllLaws, CancelsExactly, TellsResults};
 ghost use Rattle.top_parts.specs.Reading.{max_input};
 ghost use Rattle.top_parts.specs.Status.{IsReadWhole, TellsFault};
 ghost use Rattle.task_top.specs.Unharmed.{AnswersWholly};
@@ -66,6 +66,8 @@ pub fn sim_top<S: Source, K: Sink>(
     ensures laws { AtEachMoment KeepsAllLaws result.1.history }
     // The reply of a search or of a page is cancelled exactly where its task was marked, with the number of the mark.
     ensures cancelled { AtEachMoment CancelsExactly result.1.history }
+    // A result stands only of a task that has ended, and it is the reply with which that ended.
+    ensures results { AtEachMoment (λ h. TellsResults result.1.script h) result.1.history }
     // Each search that has ended by then without being cancelled replied with the plain answer, and each page of one with that over its context:
     // of the shards that this keeps, each as it was read, the rows after its cursor.
     ensures plain { AtEachMoment (λ h. AnswersPlainly cluster.now result.1.corpus result.1.script h) result.1.history }

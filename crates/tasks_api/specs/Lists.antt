@@ -112,6 +112,10 @@ HasEachOnce rows = IsDistinct is_task (map (λ row. row.id) rows)
 abbrev pub shown : Filter → List TaskInfo → List TaskInfo
 shown wanted rows = filter (λ row. filter_matches wanted row) rows
 
+-- One task as a detailed list shows it that shows no task below another.
+abbrev pub task_text : ℕ → TaskInfo → List ℕ
+task_text now row = compact_text (task_json true now [] row)
+
 -- The reply to a list of the tasks that a filter shows.
 abbrev pub list_text : GroupBy → Bool → ℕ → Filter → List TaskInfo → List ℕ
 list_text group detailed now wanted rows = compact_text (list_json group (task_json detailed now) (shown wanted rows))

@@ -13,4 +13,4 @@ mod tree;
 
 pub use filter::Filter;
 pub use levels::no_level_is_missing;
-pub use list::{GroupBy, list_line};
+pub use list::{GroupBy, list_line, task_line};

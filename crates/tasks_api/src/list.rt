@@ -6,13 +6,13 @@ ghost use Rattle.task_ids.specs.Limits.{IsNode};
 ghost use Rattle.tasks_api.specs.declared.list.GroupBy.TheVariants as groups;
 ghost use Rattle.tasks_api.specs.Groups.{group_in};
 ghost use Rattle.tasks_api.specs.Objects.{object_with};
-ghost use Rattle.tasks_api.specs.Lists.{list_text, list_json, task_json, node_json, with_node, shown};
+ghost use Rattle.tasks_api.specs.Lists.{list_text, list_json, task_json, task_text, node_json, with_node, shown};
 
 use crate::filter::Filter;
 use crate::groups::{by_node, by_parent, push_if, tops};
 use crate::members::{object_value, put_text};
 use crate::names::name_of;
-use crate::task::Look;
+use crate::task::{Look, task_value};
 use crate::tree::{by_id, listed};
 use serde_json::{Map, Value, put};
 use std::alloc::{AllocError, Global};
@@ -48,6 +48,21 @@ pub fn list_line(
     let list = list_value(alloc, look, group, shown.as_slice())?;
     let text = list.to_string(alloc);
     drop(list);
+    Ok(text?.into_bytes())
+}
+
+/// One task, as JSON: as a detailed list shows it at this moment where it stands below no other. It fails only for want of memory.
+pub fn task_line(alloc: Global, row: &TaskInfo, now: u64) -> Result<Vec<u8>, AllocError>
+    requires { now < 2 ^ 43 }
+    ensures { IfOk result (λ line. line.items ≡ task_text now row.now) }
+{
+    let look = Look {
+        detailed: true,
+        now,
+    };
+    let task = task_value(alloc, look, Vec::new(alloc), row)?;
+    let text = task.to_string(alloc);
+    drop(task);
     Ok(text?.into_bytes())
 }
 

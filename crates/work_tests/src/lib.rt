@@ -1,4 +1,4 @@
-//! Tests of single calls: of shards, and of the work of queries, fetches, pages, reindexes and their slices.
+//! Tests of single calls: of shards, and of the work of queries, fetches, pages, reindexes and their slices, and of updates by query.
 //! They stand in a crate of their own, since a crate with tests is proved twice.
 #![tactic(auto)]
 
@@ -14,5 +14,7 @@ mod phases;
 mod shards;
 #[cfg(test)]
 mod slices;
+#[cfg(test)]
+mod updates;
 #[cfg(test)]
 mod writes;

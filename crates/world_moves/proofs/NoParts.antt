@@ -38,7 +38,7 @@ none_of f other (Some x) q e looks = other x (subst LooksAtShard (let same : q �
 command_asks : (command : Command) (h : List Event) (q : Request) → request_in command h ≡ Some q → LooksAtShard q → ⊥
 command_asks (Scroll context keep opaque_id) h q e looks = none_of (λ (id : TaskId). asks.Scroll (record { id = id; keep = keep; owner = None })) (λ id x. x) (context_named context h) q e looks
 command_asks (Search index node scroll body opaque_id) h q e looks = none_of asks.Search (λ ask x. x) (search_of (Search index node scroll body opaque_id)) q e looks
-command_asks (Reindex node body slices rate opaque_id) h q e looks = none_of asks.Reindex (λ ask x. x) (reindex_of (Reindex node body slices rate opaque_id)) q e looks
+command_asks (Reindex node body slices rate opaque_id store) h q e looks = none_of asks.Reindex (λ ask x. x) (reindex_of (Reindex node body slices rate opaque_id store)) q e looks
 command_asks _ h q e looks = absurd (cc)
 
 -- a root is asked for none

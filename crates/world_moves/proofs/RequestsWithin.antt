@@ -46,7 +46,7 @@ module _ (cluster : Cluster) (corpus : Corpus) where
   command_within : (command : Command) (h : List Event) (q : Request) → request_in command h ≡ Some q → IsWithin cluster corpus q
   command_within (Scroll context keep opaque_id) h q e = pages (context_named context h) _ q e
   command_within (Search index node scroll body opaque_id) h q e = searches index scroll (body_at (is_some scroll) (least_size scroll) body) q (size_low (is_some scroll) (least_size scroll) body) e
-  command_within (Reindex node body slices rate opaque_id) h q e = copies (reindex_of (Reindex node body slices rate opaque_id)) q e
+  command_within (Reindex node body slices rate opaque_id store) h q e = copies (reindex_of (Reindex node body slices rate opaque_id store)) q e
   command_within _ h q e = absurd (cc)
 
   pub root_within : (o : Option Command) (h : List Event) (q : Request) → option_and_then (λ command. request_in command h) o ≡ Some q → IsWithin cluster corpus q

@@ -1,6 +1,6 @@
 -- The rows of all tables are those of the live tasks.
-use Rattle.std.proofs.Common.{◌≡◌, ◌+◌, ◌-◌, ◌<◌, ◌≤◌, ℕ, zero, suc, true, Bool, List, [], ◌∷◌, ◌++◌, map, filter, Option, Some, None, refl, sym, ap, subst, ◌∙◌, arith}
-use Rattle.std.specs.Prelude.{All, slice_get, filter_map}
+use Rattle.std.proofs.Common.{◌≡◌, ◌≢◌, ◌⊎◌, ◌+◌, ◌-◌, ◌<◌, ◌≤◌, ℕ, zero, suc, true, false, inl, inr, Bool, List, [], ◌∷◌, ◌++◌, map, filter, Option, Some, None, refl, sym, ap, subst, ◌∙◌, arith}
+use Rattle.std.specs.Prelude.{All, find, slice_get, filter_map}
 use Rattle.std.specs.List.{flat_map, range_with_len}
 use Rattle.std.proofs.lemmas.List.{map-append}
 use Rattle.std.proofs.lemmas.List.Elements.{All-head, All-tail, filter-append}
@@ -13,19 +13,27 @@ use Rattle.task_events.specs.declared.event.Event.{Event}
 use Rattle.task_events.specs.Asks.{up_to}
 use Rattle.task_events.specs.Bans.{mark_of}
 use Rattle.task_events.specs.Kinds.{action_of, description_of}
+use Rattle.task_events.specs.Same.{same_task}
 use Rattle.task_events.specs.Lawful.{Lawful}
 use Rattle.task_events.specs.Tasks.{is_live, parent_of}
 use Rattle.task_events.specs.TaskRows.{row_of, living_on, started_at, headers_of}
+use Rattle.task_laws.proofs.Numbers.{number}
 use Rattle.task_laws.proofs.Reach.{reach_facts}
+use Rattle.task_laws.proofs.Same.{same_task_tells}
 use Rattle.command_roots.specs.Roots.{rows_of, scripted}
 use Rattle.tasks_api.specs.declared.filter.Filter.{Filter}
-use Rattle.tasks_api.specs.Filters.{filter_matches}
+use Rattle.tasks_api.specs.Filters.{filter_matches, is_task}
 use Rattle.tasks_api.specs.Lists.{shown}
 use Rattle.world_moves.specs.declared.state.State.{State}
 use Rattle.world_moves.specs.Cancelling.{IsRowOf, HasRows}
 use Rattle.world_moves.specs.Describing.{IsDescribed, DescribesAll}
 use Rattle.world_moves.specs.Ties.{IsTableOf, IsTableAt, IsTied}
-use Rattle.world_moves.proofs.LiveRows.{rows_live}
+use Rattle.world_moves.proofs.LiveRows.{rows_live, live_counted}
+
+-- the two tests on ids are one
+one_test : (t u : TaskId) → is_task t u ≡ same_task t u
+unfolding same_task
+one_test t u = refl
 
 -- what is kept of lists end to end is what is kept of each
 kept_of_each : {X Y : Type 0} (test : Y → Bool) (f : X → List Y) (xs : List X) → filter test (flat_map f xs) ≡ flat_map (λ x. filter test (f x)) xs
@@ -94,6 +102,18 @@ module _ (script : Script) (h : List Event) where
       let rest = all_told rows (All-tail (IsRowOf h) row rows are) (All-tail (IsDescribed script h) row rows described) in
       rw (this, rest) refl
 
+  -- and that row is found
+  told_found : (t : TaskId) (rows : List TaskInfo) → All (IsRowOf h) rows → All (IsDescribed script h) rows → 0 < number (same_task t) (map (λ row. row.id) rows) → find (λ row. is_task t row.id) rows ≡ told t
+  told_found t [] are described among = absurd (omega arith)
+  told_found t (row ∷ rows) are described among = by_case (same_task_tells t row.id) (told_found t rows (All-tail (IsRowOf h) row rows are) (All-tail (IsDescribed script h) row rows described))
+    where
+      by_case : ((same_task t row.id ≡ true) × (t ≡ row.id)) ⊎ ((same_task t row.id ≡ false) × (t ≢ row.id)) → (0 < number (same_task t) (map (λ row. row.id) rows) → find (λ row. is_task t row.id) rows ≡ told t)
+          → find (λ row. is_task t row.id) (row ∷ rows) ≡ told t
+      by_case (inl (is_one, same)) rest = rw (one_test t row.id ∙ is_one) (sym (ap told same ∙ row_told row (All-head (IsRowOf h) row rows are) (All-head (IsDescribed script h) row rows described)))
+      by_case (inr (differs, apart)) rest =
+          let more = rw differs at among in
+          rw (one_test t row.id ∙ differs) (rest (omega (arith, more)))
+
 -- beyond the last node nothing lives
 none_beyond : (cluster : Cluster) (n : ℕ) (h : List Event) (table : Table) → Lawful cluster h → IsTableOf cluster n h table → cluster.nodes < n → table.live ≡ []
 none_beyond cluster n h table l i beyond = by_rows table.live (rows_live cluster n h table l i)
@@ -123,6 +143,16 @@ module _ (s : State) (tied : IsTied s) where
       by_nodes s.cluster.nodes rows_at s.tables.items 0 s.cluster.nodes (omega arith)
       (λ place. subst (λ k. Fits s.cluster.nodes rows_at k (slice_get s.tables.items place)) (omega arith) (fits place (slice_get s.tables.items place) (tied.ties.listed place) (tied.cancels.rows_are place) (tied.tells.rows_are place)))
       ∙ ap (flat_map rows_at) (from_first s.cluster.nodes)
+
+  -- the table of a live task's node has the row of the task
+  pub row_at_node : (t : TaskId) → is_live t s.history ≡ true → (table : Table) → slice_get s.tables.items (t.node - 1) ≡ Some table → find (λ row. is_task t row.id) table.live ≡ row_of (scripted s.script.now) t s.history
+  row_at_node t live table at =
+      let place = t.node - 1 in
+      let listed = subst (λ o. IsTableAt s.cluster place s.history o) at (tied.ties.listed place) in
+      let low = t.node_in_range.0 in
+      let node : t.node ≡ place + 1 = omega (arith, low) in
+      told_found s.script.now s.history t table.live (subst (λ o. HasRows s.history o) at (tied.cancels.rows_are place)) (subst (λ o. DescribesAll s.script.now s.history o) at (tied.tells.rows_are place))
+      (live_counted s.cluster (place + 1) s.history table tied.ties.lawful listed t node live)
 
   -- the rows that a filter lets through, table by table, are those of the live tasks
   pub all_shown : (wanted : Filter) → flat_map (λ table. shown wanted table.live) s.tables.items ≡ shown wanted (rows_of s.cluster s.script.now s.history)

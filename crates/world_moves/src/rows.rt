@@ -1,9 +1,12 @@
 //! The live tasks as a task list shows them, and those of one parent.
 
-ghost use Rattle.std.specs.Prelude.{◌≡◌, ◌++◌, map, IfOk, IfErr, OnOk};
+ghost use Rattle.std.specs.Prelude.{◌≡◌, ◌++◌, true, find, map, IfOk, IfErr, OnOk};
 ghost use Rattle.std.specs.List.{flat_map};
-ghost use Rattle.command_roots.specs.Roots.{rows_of};
-ghost use Rattle.tasks_api.specs.Filters.{is_child_of};
+ghost use Rattle.command_roots.specs.Roots.{rows_of, scripted};
+ghost use Rattle.std.specs.Option.{option_copied};
+ghost use Rattle.task_events.specs.TaskRows.{row_of};
+ghost use Rattle.task_events.specs.Tasks.{is_live};
+ghost use Rattle.tasks_api.specs.Filters.{is_child_of, is_task};
 ghost use Rattle.tasks_api.specs.Lists.{shown};
 ghost use Rattle.world_moves.specs.Cancels.{targets};
 ghost use Rattle.world_moves.specs.Listings.{children_among};
@@ -98,6 +101,33 @@ pub fn children_in(
     add_children(&mut found, first, parent)?;
     add_children(&mut found, rest, parent)?;
     Ok(found)
+}
+
+/// The row of a task, among some.
+fn row_among(rows: &[TaskInfo], task: TaskId) -> Option<&TaskInfo>
+    ensures { option_copied result ≡ find (λ row. is_task task row.id) rows.now }
+{
+    rows.iter().find(|row| row.id == task)
+}
+
+/// The row of a task in the table of its node.
+fn row_in(table: &TaskTable, task: TaskId) -> Option<&TaskInfo>
+    ensures { option_copied result ≡ find (λ row. is_task task row.id) table.now.live }
+{
+    let (first, rest) = table.live();
+    match row_among(first, task) {
+        Some(row) => Some(row),
+        None => row_among(rest, task),
+    }
+}
+
+/// The row of a live task, as a task list shows it.
+pub fn row<'s>(state: &'s State<'_>, task: TaskId) -> Option<&'s TaskInfo>
+    requires tied { IsTied state.now }
+    requires live { is_live task state.now.history ≡ true }
+    ensures { option_copied result ≡ row_of (scripted state.now.script.now) task state.now.history }
+{
+    row_in(&state.tables[task.node as usize - 1], task)
 }
 
 /// The rows of all tables that a filter lets through, copied.

@@ -20,7 +20,7 @@ use Rattle.task_events.specs.declared.event.Event.TheVariants.{Begin}
 use Rattle.task_events.specs.declared.request.Request.TheVariants as asks
 use Rattle.script_lang.specs.declared.command.ContextTarget.{ContextTarget}
 use Rattle.script_lang.specs.declared.command.Command.{Command}
-use Rattle.script_lang.specs.declared.command.Command.TheVariants.{Search, Scroll, ClearScroll, Reindex, Cancel, ListTasks, Tick, Deliver, Step, ListStep, Settle, Shuffle, WaitFor, History, Summary}
+use Rattle.script_lang.specs.declared.command.Command.TheVariants.{Search, Scroll, ClearScroll, Reindex, Cancel, ListTasks, GetTask, ForgetTask, ListResults, Tick, Deliver, Step, ListStep, Settle, Shuffle, WaitFor, History, Summary}
 use Rattle.script_lang.specs.declared.command.Script.{Script}
 use Rattle.script_lang.specs.KeepAlives.{day_ms}
 use Rattle.world_moves.specs.Moves.{Delivers, IsPartly, Starts}
@@ -74,10 +74,13 @@ pub nothing_done : (cluster : Cluster) (corpus : Corpus) (script : Script) (k : 
 nothing_done cluster corpus script k (Search index node scroll body opaque_id) h new same = inl same
 nothing_done cluster corpus script k (Scroll target keep opaque_id) h new same = inl same
 nothing_done cluster corpus script k (ClearScroll target) h new same = inl same
-nothing_done cluster corpus script k (Reindex node body slices rate opaque_id) h new same = inl same
+nothing_done cluster corpus script k (Reindex node body slices rate opaque_id store) h new same = inl same
 nothing_done cluster corpus script k (Tick ms) h new same = inl same
 nothing_done cluster corpus script k (Cancel target reason wait) h new same = inl same
 nothing_done cluster corpus script k (ListTasks wanted group detailed) h new same = inl same
+nothing_done cluster corpus script k (GetTask task wait) h new same = inl same
+nothing_done cluster corpus script k (ForgetTask task) h new same = inl same
+nothing_done cluster corpus script k ListResults h new same = inl same
 nothing_done cluster corpus script k (Deliver nth) h new same = inl same
 nothing_done cluster corpus script k (Step task) h new same = inl same
 nothing_done cluster corpus script k (ListStep node parent) h new same = inl same

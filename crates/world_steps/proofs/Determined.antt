@@ -19,7 +19,7 @@ use Rattle.task_events.specs.Messages.Message.{Request, Answer, Ban, Ack, Unban}
 use Rattle.task_events.specs.Tasks.{live_on, last_number, parent_of}
 use Rattle.task_laws.proofs.Same.{same_fields}
 use Rattle.script_lang.specs.declared.command.Command.{Command}
-use Rattle.script_lang.specs.declared.command.Command.TheVariants.{Search, Scroll, ClearScroll, Reindex, Cancel, ListTasks, Tick, Deliver, Step, ListStep, Settle, Shuffle, WaitFor, History, Summary}
+use Rattle.script_lang.specs.declared.command.Command.TheVariants.{Search, Scroll, ClearScroll, Reindex, Cancel, ListTasks, GetTask, ForgetTask, ListResults, Tick, Deliver, Step, ListStep, Settle, Shuffle, WaitFor, History, Summary}
 use Rattle.script_lang.specs.declared.command.Script.{Script}
 use Rattle.world_steps.specs.declared.acting.Stepped.{Stepped}
 use Rattle.world_steps.specs.declared.acting.Stepped.TheVariants.{Done, Waiting, NotRunning}
@@ -316,10 +316,13 @@ module _ (cluster : Cluster) (corpus : Corpus) (script : Script) where
   does_one k (Search index node scroll body opaque_id) h new other a b = where_one (can_start corpus script.commands index scroll body) k node h new other a b
   does_one k (Scroll target keep opaque_id) h new other a b = where_one (can_page script target h) k (page_node target h) h new other a b
   does_one k (ClearScroll target) h new other a b = a ∙ sym b
-  does_one k (Reindex node body slices rate opaque_id) h new other a b = where_one (can_copy corpus script.commands body) k node h new other a b
+  does_one k (Reindex node body slices rate opaque_id store) h new other a b = where_one (can_copy corpus script.commands body) k node h new other a b
   does_one k (Tick ms) h new other a b = a ∙ sym b
   does_one k (Cancel target reason wait) h new other a b = a ∙ sym b
   does_one k (ListTasks wanted group detailed) h new other a b = a ∙ sym b
+  does_one k (GetTask task wait) h new other a b = a ∙ sym b
+  does_one k (ForgetTask task) h new other a b = a ∙ sym b
+  does_one k ListResults h new other a b = a ∙ sym b
   does_one k (Deliver nth) h new other a b = place_one nth h new other a b
   does_one k (Step task) h new other (a, s) (b, t) = answers_one task h new other a b s t
   does_one k (ListStep node parent) h new other a b = lists_where_one cluster h (record { node = node; parent = parent }) new other a b

@@ -25,7 +25,7 @@ use Rattle.task_events.specs.Requests.{Scripted, request_of}
 use Rattle.task_events.specs.Asks.{request_of_ask}
 use Rattle.task_events.specs.Same.{same_task, same_pair}
 use Rattle.script_lang.specs.declared.command.Command.{Command}
-use Rattle.script_lang.specs.declared.command.Command.TheVariants.{Search, Scroll, ClearScroll, Reindex, Cancel, ListTasks, Tick, Deliver, Step, ListStep, Settle, Shuffle, WaitFor, History, Summary}
+use Rattle.script_lang.specs.declared.command.Command.TheVariants.{Search, Scroll, ClearScroll, Reindex, Cancel, ListTasks, GetTask, ForgetTask, ListResults, Tick, Deliver, Step, ListStep, Settle, Shuffle, WaitFor, History, Summary}
 use Rattle.script_lang.specs.declared.command.Script.{Script}
 use Rattle.command_roots.specs.Roots.{scripted, command_at, root_request, request_in, context_named, reindex_of, search_ask, body_or_none, least_size}
 use Rattle.search_phase.proofs.Sorting.{by_test}
@@ -100,10 +100,13 @@ command_shown (Search index node scroll body opaque_id) h ask e opens = search_s
     of_body b read kept =
         body_shown 1 body b (ap (λ k. body_at k (cond k 1 0) body) (sym kept) ∙ read)
 command_shown (Scroll context keep opaque_id) h ask e opens = absurd (scroll_asks_none (context_named context h) keep ask e)
-command_shown (Reindex node body slices rate opaque_id) h ask e opens = absurd (reindex_asks_none (reindex_of (Reindex node body slices rate opaque_id)) ask e)
+command_shown (Reindex node body slices rate opaque_id store) h ask e opens = absurd (reindex_asks_none (reindex_of (Reindex node body slices rate opaque_id store)) ask e)
 command_shown (ClearScroll context) h ask e opens = absurd (cc)
 command_shown (Cancel target reason wait) h ask e opens = absurd (cc)
 command_shown (ListTasks wanted group detailed) h ask e opens = absurd (cc)
+command_shown (GetTask task wait) h ask e opens = absurd (cc)
+command_shown (ForgetTask task) h ask e opens = absurd (cc)
+command_shown ListResults h ask e opens = absurd (cc)
 command_shown (Tick ms) h ask e opens = absurd (cc)
 command_shown (Deliver nth) h ask e opens = absurd (cc)
 command_shown (Step task) h ask e opens = absurd (cc)

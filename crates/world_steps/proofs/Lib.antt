@@ -29,12 +29,14 @@ pub mod Plans
 pub mod ReadBefore
 pub mod Readiness
 pub mod Resting
+pub mod ResultsFollow
 pub mod RootCuts
 pub mod RootsAfter
 pub mod ShardsAnswered
 pub mod Shuffled
 pub mod Soon
 pub mod Stances
+pub mod StatusKept
 pub mod StepsBegin
 pub mod TargetsLive
 pub mod Timely

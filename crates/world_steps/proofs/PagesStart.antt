@@ -8,7 +8,7 @@ use Rattle.task_ids.specs.declared.cluster.Cluster.{Cluster}
 use Rattle.task_ids.specs.declared.corpus.Corpus.{Corpus}
 use Rattle.task_ids.specs.declared.task_id.TaskId.{TaskId}
 use Rattle.script_lang.specs.declared.command.Command.{Command}
-use Rattle.script_lang.specs.declared.command.Command.TheVariants.{Search, Scroll, ClearScroll, Reindex, Cancel, ListTasks, Tick, Deliver, Step, ListStep, Settle, Shuffle, WaitFor, History, Summary}
+use Rattle.script_lang.specs.declared.command.Command.TheVariants.{Search, Scroll, ClearScroll, Reindex, Cancel, ListTasks, GetTask, ForgetTask, ListResults, Tick, Deliver, Step, ListStep, Settle, Shuffle, WaitFor, History, Summary}
 use Rattle.script_lang.specs.declared.command.Script.{Script}
 use Rattle.task_events.specs.declared.context.Context.{Context}
 use Rattle.task_events.specs.declared.event.Event.{Event}
@@ -73,11 +73,14 @@ of_scroll keep (Some id) r e = let same : asks.Scroll (record { id = id; keep = 
 of_command : (command : Command) (h : List Event) (r : Request) → request_in command h ≡ Some r → IsOfNobody r
 of_command (Scroll target keep opaque_id) h r e = of_scroll keep (context_named target h) r e
 of_command (Search index node scroll body opaque_id) h r e = of_search (search_of (Search index node scroll body opaque_id)) r e
-of_command (Reindex node body slices rate opaque_id) h r e = of_reindex (reindex_of (Reindex node body slices rate opaque_id)) r e
+of_command (Reindex node body slices rate opaque_id store) h r e = of_reindex (reindex_of (Reindex node body slices rate opaque_id store)) r e
 of_command (ClearScroll target) h r e = absurd (cc)
 of_command (Tick ms) h r e = absurd (cc)
 of_command (Cancel target reason wait) h r e = absurd (cc)
 of_command (ListTasks wanted group detailed) h r e = absurd (cc)
+of_command (GetTask task wait) h r e = absurd (cc)
+of_command (ForgetTask task) h r e = absurd (cc)
+of_command ListResults h r e = absurd (cc)
 of_command (Deliver nth) h r e = absurd (cc)
 of_command (Step task) h r e = absurd (cc)
 of_command (ListStep node parent) h r e = absurd (cc)

@@ -1,5 +1,5 @@
 -- Which tasks act, and for which moments others wait, once some events are noted.
-use Rattle.std.proofs.Common.{◌≡◌, ◌≢◌, ◌⊎◌, ◌≤◌, inl, inr, ℕ, zero, suc, ◌+◌, ◌-◌, Bool, true, false, cond, ◌||◌, List, [], ◌∷◌, ◌++◌, length, take, drop, Option, Some, None, refl, sym, ap, ◌∙◌, arith}
+use Rattle.std.proofs.Common.{◌≡◌, ◌≢◌, ◌⊎◌, ◌≤◌, inl, inr, ℕ, zero, suc, ◌+◌, ◌-◌, Bool, true, false, cond, ◌||◌, List, [], ◌∷◌, ◌++◌, length, take, drop, Option, Some, None, refl, sym, ap, subst, ◌∙◌, arith}
 use Rattle.std.specs.Prelude.{◌==◌, nat_le}
 use Rattle.std.specs.BTreeSet.{contains}
 use Rattle.std.specs.List.{list_any}
@@ -24,6 +24,7 @@ use Rattle.task_events.specs.Same.{same_task}
 use Rattle.task_laws.proofs.Same.{same_task_tells, same_tests}
 use Rattle.world_steps.specs.declared.ready.Ready.{Ready}
 use Rattle.world_steps.specs.Alarms.{AreAlarms, alarm_at}
+use Rattle.world_steps.specs.Results.{KnowsResults}
 use Rattle.world_steps.specs.Draining.{due_of}
 use Rattle.world_steps.specs.World.{HasReady, HadReady, HasNoted, HasAlarmed, is_ready, has_come, past_of, was_met}
 use Rattle.world_steps.proofs.Stances.{acts_by, waits_by, stance_of, frame, acts_then, waits_then, to_come, acts_by_stance, waits_by_stance}
@@ -47,7 +48,7 @@ has_place at (d ∷ h) e here = by_place (has_place at h e) (at == length h) ref
     by_place older false p = let low = older (rw p at here) in omega (arith, low)
 
 -- one event more
-next_past : (at : ℕ) (h : List Event) (e : Event) → event_at at h ≡ Some e → past_of (at + 1) h ≡ e ∷ past_of at h
+pub next_past : (at : ℕ) (h : List Event) (e : Event) → event_at at h ≡ Some e → past_of (at + 1) h ≡ e ∷ past_of at h
 next_past at [] e here = absurd (cc)
 next_past at (d ∷ h) e here = by_place (next_past at h e) (at == length h) refl
   where
@@ -132,7 +133,8 @@ clock_low zero h = omega arith
 clock_low (suc n) [] = omega arith
 clock_low (suc n) (e ∷ h) = let on = clock_on e h in let low = clock_low n h in omega (arith, on, low)
 
-lawful_before : (cluster : Cluster) (n : ℕ) (h : List Event) → Lawful cluster h → Lawful cluster (drop n h)
+-- what was lawful was so at each earlier moment
+pub lawful_before : (cluster : Cluster) (n : ℕ) (h : List Event) → Lawful cluster h → Lawful cluster (drop n h)
 lawful_before cluster zero h l = l
 lawful_before cluster (suc n) [] l = tt
 lawful_before cluster (suc n) (e ∷ h) l = lawful_before cluster n h l.1
@@ -164,6 +166,7 @@ alarmed s before ready l now noted = record {
   tasks = λ t. tasks_so t (was_met before s.history t) refl;
   kept = noted.kept;
   alarms = λ t. alarms_so t (was_met before s.history t) refl;
+  results = noted.results;
 }
   where
     none_come : (t : TaskId) → has_come s.clock (due_of s.cluster s.corpus.now s.script.now t s.history) ≡ false
@@ -189,11 +192,12 @@ alarmed s before ready l now noted = record {
 -- one whose moment has come is looked at, and waits for none
 pub one_rung : (s : State) (old new : Ready) (t : TaskId) (moment : ℕ) → alarm_at old.alarms t ≡ Some moment → moment ≤ s.clock → HasAlarmed s old
     → ((q : TaskId) → alarm_at new.alarms q ≡ cond (same_task t q) None (alarm_at old.alarms q)) → ((q : TaskId) → contains task_id_cmp new.tasks q ≡ cond (same_task t q) (is_ready s.cluster s.corpus.now s.script.now s.history q) (contains task_id_cmp old.tasks q))
-    → AreAlarms new.alarms → HasAlarmed s new
-one_rung s old new t moment there come known taken noted kept = record {
+    → AreAlarms new.alarms → new.results ≡ old.results → HasAlarmed s new
+one_rung s old new t moment there come known taken noted kept same_results = record {
   tasks = λ q none. tasks_so q (same_task_tells t q) none;
   kept = kept;
   alarms = λ q. alarms_so q (same_task_tells t q);
+  results = subst (KnowsResults s.script.now s.history) (sym same_results) known.results;
 }
   where
     over : due_of s.cluster s.corpus.now s.script.now t s.history ≡ None

@@ -27,7 +27,7 @@ use Rattle.task_events.specs.Tasks.{is_live, is_new}
 use Rattle.task_events.specs.Turns.{is_begin}
 use Rattle.script_lang.specs.declared.command.Script.{Script}
 use Rattle.script_lang.specs.declared.command.Command.{Command}
-use Rattle.script_lang.specs.declared.command.Command.TheVariants.{Search, Scroll, ClearScroll, Reindex, Cancel, ListTasks, Tick, Deliver, Step, ListStep, Settle, Shuffle, WaitFor, History, Summary}
+use Rattle.script_lang.specs.declared.command.Command.TheVariants.{Search, Scroll, ClearScroll, Reindex, Cancel, ListTasks, GetTask, ForgetTask, ListResults, Tick, Deliver, Step, ListStep, Settle, Shuffle, WaitFor, History, Summary}
 use Rattle.world_steps.specs.declared.acting.Stepped.{Stepped}
 use Rattle.world_steps.specs.declared.acting.Stepped.TheVariants.{Done, Waiting, NotRunning}
 use Rattle.script_lang.specs.declared.command.CancelTarget.{CancelTarget}
@@ -233,10 +233,13 @@ module _ (cluster : Cluster) (corpus : Corpus) (script : Script) where
   done k (Search index node scroll body opaque_id) h new d = started_where (can_start corpus script.commands index scroll body) k node h new d
   done k (Scroll target keep opaque_id) h new d = started_where (can_page script target h) k (page_node target h) h new d
   done k (ClearScroll target) h new same = stays h new same
-  done k (Reindex node body slices rate opaque_id) h new d = started_where (can_copy corpus script.commands body) k node h new d
+  done k (Reindex node body slices rate opaque_id store) h new d = started_where (can_copy corpus script.commands body) k node h new d
   done k (Tick ms) h new same = one_event h new (TickEvent ms) refl same
   done k (Cancel target reason wait) h new d = cancel_after cluster script k target wait h new d
   done k (ListTasks wanted group detailed) h new same = stays h new same
+  done k (GetTask task wait) h new same = stays h new same
+  done k (ForgetTask task) h new same = stays h new same
+  done k ListResults h new same = stays h new same
   done k (Deliver nth) h new d = delivered_where nth h new d
   done k (Step task) h new (stepped, a) = stepped_there task h new stepped a
   done k (ListStep node parent) h new d = listed_where (record { node = node; parent = parent }) h new d

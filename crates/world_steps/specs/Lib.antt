@@ -1,6 +1,7 @@
 pub mod Alarms
 pub mod Draining
 pub mod Naming
+pub mod Results
 pub mod PagesFollow
 pub mod Runs
 pub mod Scripts

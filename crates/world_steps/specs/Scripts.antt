@@ -17,7 +17,7 @@ use Rattle.task_events.specs.Turns.{is_begin}
 use Rattle.scroll_table.specs.declared.context.PageError.{PageError}
 use Rattle.script_lang.specs.declared.command.Command.{Command}
 use Rattle.script_lang.specs.declared.command.ContextTarget.{ContextTarget}
-use Rattle.script_lang.specs.declared.command.Command.TheVariants.{Search, Scroll, ClearScroll, Reindex, Cancel, ListTasks, Tick, Deliver, Step, ListStep, Settle, Shuffle, WaitFor, History, Summary}
+use Rattle.script_lang.specs.declared.command.Command.TheVariants.{Search, Scroll, ClearScroll, Reindex, Cancel, ListTasks, GetTask, ForgetTask, ListResults, Tick, Deliver, Step, ListStep, Settle, Shuffle, WaitFor, History, Summary}
 use Rattle.script_lang.specs.declared.command.Script.{Script}
 use Rattle.world_steps.specs.declared.acting.Stepped.{Stepped}
 use Rattle.node_parts.specs.declared.listing.Listing.{Listing}
@@ -44,9 +44,12 @@ abbrev pub CanDo : ℕ → Command → Type 0
 CanDo nodes (Search index node scroll body opaque_id) = (1 ≤ node) × (node ≤ nodes)
 CanDo nodes (Scroll target keep opaque_id) = ⊤
 CanDo nodes (ClearScroll target) = ⊤
-CanDo nodes (Reindex node body slices rate opaque_id) = ((1 ≤ node) × (node ≤ nodes)) × IsSliceCount slices × IsRate rate
+CanDo nodes (Reindex node body slices rate opaque_id store) = ((1 ≤ node) × (node ≤ nodes)) × IsSliceCount slices × IsRate rate
 CanDo nodes (Cancel target reason wait) = ⊤
 CanDo nodes (ListTasks wanted group detailed) = ⊤
+CanDo nodes (GetTask task wait) = ⊤
+CanDo nodes (ForgetTask task) = ⊤
+CanDo nodes ListResults = ⊤
 CanDo nodes (Tick ms) = ms ≤ day_ms
 CanDo nodes (Deliver nth) = ⊤
 CanDo nodes (Step task) = ⊤
@@ -108,9 +111,12 @@ module _ (cluster : Cluster) (corpus : Corpus) (script : Script) where
   Does k (Search index node scroll body opaque_id) h new = StartsWhere cluster (can_start corpus script.commands index scroll body) k node h new
   Does k (Scroll target keep opaque_id) h new = StartsWhere cluster (can_page script target h) k (page_node target h) h new
   Does k (ClearScroll target) h new = new ≡ h
-  Does k (Reindex node body slices rate opaque_id) h new = StartsWhere cluster (can_copy corpus script.commands body) k node h new
+  Does k (Reindex node body slices rate opaque_id store) h new = StartsWhere cluster (can_copy corpus script.commands body) k node h new
   Does k (Cancel target reason wait) h new = new ≡ after_cancel cluster script k target wait h
   Does k (ListTasks wanted group detailed) h new = new ≡ h
+  Does k (GetTask task wait) h new = new ≡ h
+  Does k (ForgetTask task) h new = new ≡ h
+  Does k ListResults h new = new ≡ h
   Does k (Tick ms) h new = new ≡ TickEvent ms ∷ h
   Does k (Deliver nth) h new = DeliversWhere cluster nth h new
   Does k (Step task) h new = (stepped : Stepped) × AnswersStep cluster corpus script task h stepped new
@@ -165,7 +171,7 @@ module _ (cluster : Cluster) (corpus : Corpus) (script : Script) where
   abbrev pub CommandLacksNumber : Command → List Event → List Event → Type 0
   CommandLacksNumber (Search index node scroll body opaque_id) h new = (can_start corpus script.commands index scroll body ≡ true) × NodeLacksNumber cluster h node × (new ≡ h)
   CommandLacksNumber (Scroll target keep opaque_id) h new = (can_page script target h ≡ true) × NodeLacksNumber cluster h (page_node target h) × (new ≡ h)
-  CommandLacksNumber (Reindex node body slices rate opaque_id) h new = (can_copy corpus script.commands body ≡ true) × NodeLacksNumber cluster h node × (new ≡ h)
+  CommandLacksNumber (Reindex node body slices rate opaque_id store) h new = (can_copy corpus script.commands body ≡ true) × NodeLacksNumber cluster h node × (new ≡ h)
   CommandLacksNumber (Deliver nth) h new = DeliveryLacksNumber cluster h nth × (new ≡ h)
   CommandLacksNumber Settle h new = SettlingLacksNumber cluster corpus script h new
   CommandLacksNumber (Shuffle seed moves) h new = ShufflingLacksNumber cluster corpus script seed moves h new

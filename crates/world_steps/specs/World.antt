@@ -24,6 +24,7 @@ use Rattle.world_moves.specs.declared.state.State.{State}
 use Rattle.world_moves.specs.Facts.{is_about}
 use Rattle.world_steps.specs.declared.ready.Ready.{Ready}
 use Rattle.world_steps.specs.Alarms.{AreAlarms, alarm_at}
+use Rattle.world_steps.specs.Results.{KnowsResults}
 use Rattle.world_steps.specs.Draining.{due_of, StartsAgain}
 pub use Rattle.world_steps.specs.Runs.{is_ready}
 use Rattle.world_steps.specs.Runs.{Passes}
@@ -48,11 +49,12 @@ ready_in s t = is_ready s.cluster s.corpus.now s.script.now s.history t
 abbrev pub alarm_in : State → TaskId → Option ℕ
 alarm_in s t = due_of s.cluster s.corpus.now s.script.now t s.history
 
--- The tasks in the set are those that do not wait, and the alarms are the moments for which tasks wait.
+-- The tasks in the set are those that do not wait, the alarms are the moments for which tasks wait, and the results are those that stand.
 pub record KnowsReady (cluster : Cluster) (corpus : Corpus) (script : Script) (h : List Event) (ready : Ready) : Type 0 where
   pub tasks : (t : TaskId) → contains task_id_cmp ready.tasks t ≡ is_ready cluster corpus script h t
   pub kept : AreAlarms ready.alarms
   pub alarms : (t : TaskId) → alarm_at ready.alarms t ≡ due_of cluster corpus script t h
+  pub results : KnowsResults script h ready.results
 
 -- it is known which tasks wait now
 abbrev pub HasReady : State → Ready → Type 0
@@ -75,12 +77,14 @@ pub record HasNoted (s : State) (before : ℕ) (ready : Ready) : Type 0 where
   pub tasks : (t : TaskId) → contains task_id_cmp ready.tasks t ≡ (if was_met before s.history t then ready_in s t else is_ready s.cluster s.corpus.now s.script.now (past_of before s.history) t)
   pub kept : AreAlarms ready.alarms
   pub alarms : (t : TaskId) → alarm_at ready.alarms t ≡ (if was_met before s.history t then alarm_in s t else due_of s.cluster s.corpus.now s.script.now t (past_of before s.history))
+  pub results : KnowsResults s.script.now s.history ready.results
 
 -- It is known which tasks wait, but for those whose moment has come: they wait for none any more.
 pub record HasAlarmed (s : State) (ready : Ready) : Type 0 where
   pub tasks : (t : TaskId) → has_come s.clock (alarm_at ready.alarms t) ≡ false → contains task_id_cmp ready.tasks t ≡ ready_in s t
   pub kept : AreAlarms ready.alarms
   pub alarms : (t : TaskId) → alarm_in s t ≡ (if has_come s.clock (alarm_at ready.alarms t) then None else alarm_at ready.alarms t)
+  pub results : KnowsResults s.script.now s.history ready.results
 
 -- the moment for which a kept task waits that has passed and is not marked, where it works on a shard with these writes
 abbrev pub due_by : Running → List Doc → ℕ → Option ℕ

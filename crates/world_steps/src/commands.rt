@@ -290,9 +290,12 @@ fn act_on(
         // One order of events is all that there is, so an answer is waited for by doing all that comes without the clock.
         Command::Settle | Command::WaitFor { .. } => settle(state, ready),
         Command::Shuffle { seed, moves } => shuffle(state, ready, *seed, *moves),
-        // What a clear makes of the context stands with its beginning.
+        // What a clear makes of the context, and a forget of the result, stands with its beginning.
         Command::ClearScroll { .. }
         | Command::ListTasks { .. }
+        | Command::GetTask { .. }
+        | Command::ForgetTask { .. }
+        | Command::ListResults
         | Command::History
         | Command::Summary => Ok(()),
     }

@@ -1,14 +1,19 @@
+ghost use Rattle.command_roots.specs.Results.{keeping};
 ghost use Rattle.command_roots.specs.Roots.{scripted};
 ghost use Rattle.script_lang.specs.declared.command.Script.{Script};
+ghost use Rattle.std.specs.FinMap.{get};
 ghost use Rattle.std.specs.List.{list_any};
-ghost use Rattle.std.specs.Prelude.{◌≡◌, List, true, Some, length};
+ghost use Rattle.std.specs.Prelude.{◌≡◌, List, true, false, Some, length};
 ghost use Rattle.task_events.specs.Documents.{writes_of};
 ghost use Rattle.task_events.specs.Lawful.{Lawful};
+ghost use Rattle.task_events.specs.Tasks.{is_live, reply_of};
 ghost use Rattle.task_events.specs.declared.context.Context.{Context};
 ghost use Rattle.task_events.specs.declared.event.Event.{Event};
+ghost use Rattle.task_events.specs.declared.reply.Reply.{Reply};
 ghost use Rattle.task_ids.specs.declared.cluster.Cluster.{Cluster};
 ghost use Rattle.task_ids.specs.declared.corpus.Corpus.{Corpus};
 ghost use Rattle.task_ids.specs.declared.task_id.TaskId.{TaskId};
+ghost use Rattle.task_results.specs.Stands.{ResultStands, result_at, results_at};
 ghost use Rattle.world_moves.specs.Good.{so_far};
 ghost use Rattle.world_moves.specs.Owning.{OneAtATime};
 ghost use Rattle.world_moves.specs.Plain.{AnswersPlainly};
@@ -53,4 +58,16 @@ pub fn empty_page_ends()
         → first_context (scripted script) id h ≡ Some c → all_given c.shards (scripted script) id h ≡ true
         → let shown = pages (scripted script) id h in
         list_any shows_none shown ≡ true → joined shown ≡ listed (writes_of (so_far corpus script h) cluster.shards c.ask.index) c }
+{}
+
+/// In a lawful history a result stands only of a task that has ended, and it is the reply with which that ended, whatever came since. The
+/// results of all tasks are those of each.
+///
+/// It computes nothing: its contract is the law.
+pub fn results_stand()
+    ensures ended { (cluster : Cluster) (script : Script) (h : List Event) (t : TaskId) (reply : Reply)
+        → Lawful cluster h → ResultStands (keeping script) t reply h → is_live t h ≡ false }
+    ensures same { (cluster : Cluster) (script : Script) (h : List Event) (t : TaskId) (reply : Reply)
+        → Lawful cluster h → ResultStands (keeping script) t reply h → reply_of t h ≡ Some reply }
+    ensures all { (script : Script) (h : List Event) (t : TaskId) → get (results_at (keeping script) h) t ≡ result_at (keeping script) t h }
 {}

@@ -10,13 +10,14 @@ mod laws;
 mod moving;
 mod naming;
 mod ready;
+mod results;
 mod roots;
 mod scrolls;
 mod shuffling;
 mod world;
 
 pub use acting::Stepped;
-pub use laws::{empty_page_ends, one_run, pages_follow, whole_is_so_far};
+pub use laws::{empty_page_ends, one_run, pages_follow, results_stand, whole_is_so_far};
 pub use node_parts::listing::Listing;
 pub use shuffling::Move;
 pub use world::{Delivered, World};

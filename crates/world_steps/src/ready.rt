@@ -1,6 +1,6 @@
 //! The live tasks that do not wait, and the moments for which others wait.
 
-ghost use Rattle.std.specs.Prelude.{◌≡◌, ◌≤◌, ℕ, List, length, false, None, IfErr, OnOk, if◌then◌else◌};
+ghost use Rattle.std.specs.Prelude.{◌≡◌, ◌≤◌, ℕ, List, [], length, false, None, IfErr, OnOk, if◌then◌else◌};
 ghost use Rattle.std.specs.BTreeSet.{contains};
 ghost use Rattle.task_ids.specs.declared.doc.Doc.{Doc};
 ghost use Rattle.task_ids.specs.TaskIdOrder.{task_id_cmp};
@@ -10,9 +10,12 @@ ghost use Rattle.std.specs.Option.{option_copied};
 ghost use Rattle.world_moves.specs.Ties.{IsTied, task_at};
 ghost use Rattle.node_parts.specs.Running.{can_act};
 ghost use Rattle.world_steps.specs.Alarms.{AreAlarms, alarm_at};
+ghost use Rattle.script_lang.specs.declared.command.Script.{Script};
+ghost use Rattle.world_steps.specs.Results.{KnowsResults};
 ghost use Rattle.world_steps.specs.World.{HasReady, HadReady, alarm_in, due_by, ready_in, HasAlarmed, HasNoted};
 
 use crate::alarms::Alarms;
+use crate::results::{KnownResults, note_result};
 use node_parts::running::Running;
 use ranked::RankedSet;
 use std::alloc::Global;
@@ -20,13 +23,16 @@ use task_events::{Event, Stop};
 use task_ids::TaskId;
 use world_moves::state::State;
 
-/// Which live tasks do not wait, and for which moments others wait.
+/// What is known of the past beside the tables of the state: which live tasks do not wait, for which moments others wait, and which results
+/// stand.
 #[derive(Drop)]
 pub(crate) struct Ready {
     /// The live tasks that do not wait.
     pub(crate) tasks: RankedSet<TaskId>,
     /// The moments for which tasks wait.
     pub(crate) alarms: Alarms,
+    /// The results that stand, and what they come from.
+    pub(crate) results: KnownResults,
 }
 
 impl Ready {
@@ -35,10 +41,12 @@ impl Ready {
         ensures tasks { (q : TaskId) → contains task_id_cmp result.tasks q ≡ false }
         ensures kept { AreAlarms result.alarms }
         ensures alarms { (q : TaskId) → alarm_at result.alarms q ≡ None }
+        ensures results { (script : Script) → KnowsResults script [] result.results }
     {
         Ready {
             tasks: RankedSet::new(alloc),
             alarms: Alarms::new(alloc),
+            results: KnownResults::new(alloc),
         }
     }
 }
@@ -166,7 +174,8 @@ fn note_alarm(
     }
 }
 
-/// Notes what the events from this place on have changed: whether the tasks wait that they are about, and for which moments.
+/// Notes what the events from this place on have changed: whether the tasks wait that they are about, for which moments, and which results
+/// stand.
 fn note_events(state: &State<'_>, ready: &mut Ready, before: usize) -> Result<(), Stop>
     requires tied { IsTied state.now }
     requires before { before ≤ length state.now.history }
@@ -178,6 +187,7 @@ fn note_events(state: &State<'_>, ready: &mut Ready, before: usize) -> Result<()
         let Some(event) = state.history.get(at) else {
             unreachable!()
         };
+        note_result(state, &mut ready.results, event, at)?;
         if let Some(task) = task_of(event) {
             let running = kept_at(state, task);
             note_ready(state, &mut ready.tasks, task, running)?;
@@ -200,8 +210,8 @@ fn ring(state: &State<'_>, ready: &mut Ready) -> Result<(), Stop>
     Ok(())
 }
 
-/// Notes what the events from this place on have changed: which tasks wait, and for which moments. It costs what they are about and
-/// what comes due with them.
+/// Notes what the events from this place on have changed: which tasks wait, for which moments, and which results stand. It costs what they
+/// are about and what comes due with them.
 pub(crate) fn refresh(state: &State<'_>, ready: &mut Ready, before: usize) -> Result<(), Stop>
     requires tied { IsTied state.now }
     requires before { before ≤ length state.now.history }

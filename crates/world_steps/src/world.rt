@@ -1,4 +1,4 @@
-ghost use Rattle.std.specs.Prelude.{◌≡◌, ◌≢◌, ◌≤◌, ◌<◌, ◌^◌, ◌+◌, ◌||◌, option_and_then, List, [], ◌∷◌, ◌++◌, length, Ok, Err, Some, None, OnOk, OnErr, IfOk, IfErr, IfSome, ℕ};
+ghost use Rattle.std.specs.Prelude.{◌≡◌, ◌≢◌, ◌≤◌, ◌<◌, ◌^◌, ◌+◌, ◌||◌, true, option_and_then, option_map, List, [], ◌∷◌, ◌++◌, length, Ok, Err, Some, None, OnOk, OnErr, IfOk, IfErr, IfSome, ℕ};
 ghost use Rattle.task_events.specs.declared.history.TheConstants.{MAX_EVENTS};
 ghost use Rattle.std.specs.List.{list_any};
 ghost use Rattle.std.specs.Str.{bytes_eq};
@@ -10,7 +10,11 @@ ghost use Rattle.task_events.specs.Messages.{in_flight};
 ghost use Rattle.task_events.specs.Clock.{clock};
 ghost use Rattle.task_events.specs.Summaries.{summary_of};
 ghost use Rattle.task_events.specs.Tasks.{is_live};
-ghost use Rattle.tasks_api.specs.Lists.{list_text};
+ghost use Rattle.tasks_api.specs.Lists.{list_text, task_text};
+ghost use Rattle.task_events.specs.TaskRows.{row_of};
+ghost use Rattle.task_results.specs.Stands.{is_stored, results_at};
+ghost use Rattle.std.specs.FinMap.{keys};
+ghost use Rattle.command_roots.specs.Results.{found_of, has_result, keeping, status_of, task_named};
 ghost use Rattle.task_events.specs.Contexts.{can_clear, context_at};
 ghost use Rattle.command_roots.specs.Known.{dests_of, is_known};
 ghost use Rattle.corpus_shards.specs.Stored.{ShownFrom, HasWritten, AllNoted, NoneMade, was_there};
@@ -30,32 +34,32 @@ ghost use Rattle.world_steps.specs.World.{tables_from, cores_from, no_bans, no_c
 
 use crate::acting::Stepped;
 use crate::ready::Ready;
-use crate::{commands, moving, scrolls, shuffling};
+use crate::{commands, moving, results, scrolls, shuffling};
 use ban_table::BanTable;
 use cancel_core::CancelCore;
-use command_roots::dests_of;
+use command_roots::{TaskFound, dests_of};
 use corpus_shards::Shards;
 use node_parts::listing::Listing;
 use ranked::RankedSet;
-use script_lang::{ContextTarget, Script};
+use script_lang::{ContextTarget, Script, TaskTarget};
 use scroll_table::{PageError, ScrollTable};
 use std::alloc::{AllocError, Global};
 use std::collections::BTreeMap;
 use std::marker::Model;
-use task_events::{History, Stop, Summary};
+use task_events::{Counts, History, Stop, Summary};
 use task_ids::{Cluster, Corpus, TaskId};
 use task_table::TaskTable;
-use tasks_api::{Filter, GroupBy, list_line};
+use tasks_api::{Filter, GroupBy, list_line, task_line};
 use world_moves::flight::Flight;
 use world_moves::listings::ListStep;
-use world_moves::rows::rows;
+use world_moves::rows::{row, rows};
 use world_moves::state::State;
 
 /// The serial world: a cluster of nodes that runs a script, one event at a time.
 #[derive(Drop)]
 pub struct World<'a> {
     state: State<'a>,
-    /// Which live tasks do not wait, and for which moments others wait.
+    /// Which live tasks do not wait, for which moments others wait, and which results stand.
     ready: Ready,
     stopped: Option<Stop>,
 }
@@ -347,6 +351,66 @@ impl<'a> World<'a> {
         ensures { result ≡ can_clear None (option_and_then (λ id. context_at (scripted self.now.script) id self.now.past) (context_named target.now self.now.past)) }
     {
         scrolls::can_clear(&self.state, target)
+    }
+
+    /// What a command finds that is about a task. The world has not come to an early end.
+    pub fn find(&self, target: &TaskTarget) -> TaskFound
+        requires { self.now.stopped ≡ None }
+        ensures { result ≡ found_of self.now.script target.now self.now.past }
+    {
+        results::find(&self.state, &self.ready.results, target)
+    }
+
+    /// Whether the result of the task stands that a command is about. The world has not come to an early end.
+    pub fn has_result(&self, target: &TaskTarget) -> bool
+        requires { self.now.stopped ≡ None }
+        ensures { result ≡ has_result self.now.script (task_named target.now self.now.past) self.now.past }
+    {
+        results::has_result(&self.ready.results, target)
+    }
+
+    /// Whether the reply of a task is stored as it ends. The world has not come to an early end.
+    pub fn is_stored(&self, task: TaskId) -> bool
+        requires { self.now.stopped ≡ None }
+        ensures { result ≡ is_stored (keeping self.now.script) task self.now.past }
+    {
+        results::is_stored(&self.ready.results, task)
+    }
+
+    /// The tasks whose results stand, ascending. The world has not come to an early end. It fails only for want of memory (`Memory`).
+    pub fn results(&self) -> Result<Vec<TaskId>, Stop>
+        requires { self.now.stopped ≡ None }
+        ensures ids { IfOk result (λ ids. ids.items ≡ keys (results_at (keeping self.now.script) self.now.past)) }
+        ensures memory { IfErr result (λ stop. stop ≡ Stop.Memory) }
+    {
+        results::standing(&self.ready.results)
+    }
+
+    /// What a live task has done so far, where it is the root of a reindex. The world has not come to an early end.
+    pub fn status(&self, task: TaskId) -> Option<Counts>
+        requires goes_on { self.now.stopped ≡ None }
+        requires live { is_live task self.now.past ≡ true }
+        ensures { result ≡ status_of self.now.script task self.now.past }
+    {
+        results::status(&self.state, task)
+    }
+
+    /// A live task as a detailed list shows it, JSON. The world has not come to an early end, and the closing drain has not begun. It fails
+    /// only for want of memory (`Memory`).
+    pub fn task_line(&self, task: TaskId) -> Result<Option<Vec<u8>>, Stop>
+        requires goes_on { self.now.stopped ≡ None }
+        requires live { is_live task self.now.past ≡ true }
+        requires before { last_command self.now.past ≤ length self.now.script.commands }
+        ensures line { IfOk result (λ line. option_map (λ text. text.items) line ≡ option_map (task_text (clock self.now.past)) (row_of (scripted self.now.script) task self.now.past)) }
+        ensures memory { IfErr result (λ stop. stop ≡ Stop.Memory) }
+    {
+        let Some(row) = row(&self.state, task) else {
+            return Ok(None);
+        };
+        match task_line(self.state.alloc, row, self.state.clock) {
+            Ok(line) => Ok(Some(line)),
+            Err(_) => Err(Stop::Memory),
+        }
     }
 
     /// Gives the history away. What is live or in flight is given up.

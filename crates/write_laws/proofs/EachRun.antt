@@ -22,7 +22,7 @@ use Rattle.task_events.specs.Tasks.{is_live}
 use Rattle.script_lang.specs.declared.command.CancelTarget.{CancelTarget}
 use Rattle.script_lang.specs.declared.command.CancelTarget.TheVariants.{Task, Matching, Command as Of}
 use Rattle.script_lang.specs.declared.command.Command.{Command}
-use Rattle.script_lang.specs.declared.command.Command.TheVariants.{Search, Scroll, ClearScroll, Reindex, Cancel as CancelTasks, ListTasks, Tick, Deliver, Step, ListStep, Settle, Shuffle, WaitFor, History, Summary}
+use Rattle.script_lang.specs.declared.command.Command.TheVariants.{Search, Scroll, ClearScroll, Reindex, Cancel as CancelTasks, ListTasks, GetTask, ForgetTask, ListResults, Tick, Deliver, Step, ListStep, Settle, Shuffle, WaitFor, History, Summary}
 use Rattle.script_lang.specs.declared.command.Script.{Script}
 use Rattle.script_lang.specs.Generator.{next_number}
 use Rattle.command_roots.specs.Roots.{command_at, reindex_of, root_of, scripted, search_of}
@@ -205,11 +205,11 @@ module _ (Holds HoldsOfPart : List Event → Type 0) (of_part : (h : List Event)
 
   -- ---- a run
 
-  module _ (cluster : Cluster) (corpus : Corpus) (script : Script) (start : Holds []) (rooted : (k : ℕ) (t : TaskId) (h : List Event) → StartFits script k h → Holds h → Holds (Root k t ∷ h))
+  module _ (cluster : Cluster) (corpus : Corpus) (script : Script) (start : Holds []) (rooted : (k : ℕ) (t : TaskId) (h : List Event) → StartFits corpus script k h → Holds h → Holds (Root k t ∷ h))
       (step : (t : TaskId) (h : List Event) (e : Event) → next_of cluster corpus script t h ≡ Some e → is_work e ≡ false → Holds h → Holds (e ∷ h))
       (turn : (t u : TaskId) (h : List Event) → next_of cluster corpus script t h ≡ Some (Work u) → Keeps h (after_turn cluster corpus (scripted script) u h)) where
-    by_start : (command node : ℕ) (started : Bool) (h : List Event) (e : Event) → StartFits script command h → IsStart cluster h command node started e → Keeps h (e ∷ h)
-    by_start command node true h (Root c t) fits s = λ keeps. rooted c t h (subst (λ k. StartFits script k h) (sym s.2) fits) keeps
+    by_start : (command node : ℕ) (started : Bool) (h : List Event) (e : Event) → StartFits corpus script command h → IsStart cluster h command node started e → Keeps h (e ∷ h)
+    by_start command node true h (Root c t) fits s = λ keeps. rooted c t h (subst (λ k. StartFits corpus script k h) (sym s.2) fits) keeps
     by_start command node false h (Root c t) fits s = absurd s
     by_start command node true h (Ask p k n child) fits s = absurd s
     by_start command node false h (Ask p k n child) fits s = absurd s
@@ -221,7 +221,7 @@ module _ (Holds HoldsOfPart : List Event → Type 0) (of_part : (h : List Event)
     by_start command node false h (End t reply) fits s = absurd s
     by_start command node started h e fits s = one e h refl
 
-    started_where : (b : Bool) (k node : ℕ) (h new : List Event) → (b ≡ true → StartFits script k h) → StartsWhere cluster b k node h new → Keeps h new
+    started_where : (b : Bool) (k node : ℕ) (h new : List Event) → (b ≡ true → StartFits corpus script k h) → StartsWhere cluster b k node h new → Keeps h new
     started_where true k node h new fits (started, (e, is, same)) = λ keeps. subst Holds (sym same) (by_start k node started h e (fits refl) is keeps)
     started_where false k node h new fits same = stays h new same
 
@@ -268,12 +268,15 @@ module _ (Holds HoldsOfPart : List Event → Type 0) (of_part : (h : List Event)
     partly_shuffled chance (suc more) h new (inr (next, m, later)) = λ keeps. partly_shuffled (next_number chance) more next new later (made_by (next_number chance) h next m keeps)
 
     done : (k : ℕ) (command : Command) → command_at script k ≡ Some command → (h new : List Event) → Does cluster corpus script k command h new → Keeps h new
-    done k (Search index node scroll body opaque_id) at h new d = started_where (can_start corpus script.commands index scroll body) k node h new (λ can. command_fits script k h (Search index node scroll body opaque_id) at (search_fits script k h (search_of (Search index node scroll body opaque_id)))) d
-    done k (Scroll target keep opaque_id) at h new d = started_where (can_page script target h) k (page_node target h) h new (λ can. command_fits script k h (Scroll target keep opaque_id) at (page_fits script k h target keep can)) d
+    done k (Search index node scroll body opaque_id) at h new d = started_where (can_start corpus script.commands index scroll body) k node h new (λ can. command_fits script k h corpus (Search index node scroll body opaque_id) at can (search_fits script k h (search_of (Search index node scroll body opaque_id)))) d
+    done k (Scroll target keep opaque_id) at h new d = started_where (can_page script target h) k (page_node target h) h new (λ can. command_fits script k h corpus (Scroll target keep opaque_id) at can (page_fits script k h target keep can)) d
     done k (ClearScroll target) at h new same = stays h new same
-    done k (Reindex node body slices rate opaque_id) at h new d = started_where (can_copy corpus script.commands body) k node h new (λ can. command_fits script k h (Reindex node body slices rate opaque_id) at (reindex_fits script k h (reindex_of (Reindex node body slices rate opaque_id)))) d
+    done k (Reindex node body slices rate opaque_id store) at h new d = started_where (can_copy corpus script.commands body) k node h new (λ can. command_fits script k h corpus (Reindex node body slices rate opaque_id store) at can (reindex_fits script k h (reindex_of (Reindex node body slices rate opaque_id store)))) d
     done k (CancelTasks target reason wait) at h new same = λ keeps. subst Holds (sym same) (by_target cluster script k target wait h keeps)
     done k (ListTasks wanted group detailed) at h new same = stays h new same
+    done k (GetTask task wait) at h new same = stays h new same
+    done k (ForgetTask task) at h new same = stays h new same
+    done k ListResults at h new same = stays h new same
     done k (Tick ms) at h new same = one_event h new (TickEvent ms) refl same
     done k (Deliver nth) at h new d = delivered_where cluster nth h new d
     done k (Step task) at h new (answer, a) = stepped task h new answer a

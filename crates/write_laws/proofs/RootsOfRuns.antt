@@ -1,4 +1,4 @@
--- In a run each root that shows a page finds its context free, and of nobody.
+-- In a run it is so of each root that its command could start it. So one that shows a page finds its context free, and of nobody.
 use Rattle.std.proofs.Common.{◌≡◌, ◌+◌, ℕ, Bool, true, false, List, [], ◌∷◌, Option, Some, None, refl, sym, ap}
 use Rattle.std.specs.Option.{option_map_or}
 use Rattle.task_ids.specs.declared.cluster.Cluster.{Cluster}
@@ -15,10 +15,11 @@ use Rattle.task_events.specs.Requests.{Scripted, request_of}
 use Rattle.task_events.specs.Steps.{event_of, first_step, next_step, planned_step, turns_of}
 use Rattle.task_events.specs.Written.{corpus_at, turn_notes, with_notes, write_of}
 use Rattle.script_lang.specs.declared.command.Script.{Script}
-use Rattle.command_roots.specs.Roots.{scripted}
+use Rattle.command_roots.specs.Roots.{root_request, scripted}
 use Rattle.world_steps.specs.Scripts.{IsRunSoFar}
 use Rattle.write_laws.proofs.EachRun.{each_rooted_run, is_led}
-use Rattle.write_laws.proofs.RootsFit.{RootsFit, fit_before}
+use Rattle.write_laws.proofs.RootsFit.{EachRoot, RootFits, RootsFit, roots_before}
+use Rattle.write_laws.proofs.RootsStart.{StartFits}
 use Rattle.write_laws.proofs.StepCases.{step_case}
 
 abbrev is_root : Event → Bool
@@ -40,22 +41,27 @@ module _ (cluster : Cluster) (corpus : Corpus) (said : Scripted) (h : List Event
   step_no_root : (e : Event) → next_step cluster corpus said t h ≡ Some e → is_root e ≡ false
   step_no_root = step_case cluster corpus said t h (λ e. is_root e ≡ false) first_no_root (λ c counts. refl) (λ request e asked is. done_no_root (planned_step cluster corpus said t request h) e is)
 
-module _ (said : Scripted) where
-  no_root_fits : (e : Event) (h : List Event) → is_root e ≡ false → RootsFit said h → RootsFit said (e ∷ h)
-  no_root_fits (Root k t) h other fit = absurd (cc)
-  no_root_fits _ h other fit = fit
+not_led : (e : Event) → is_led e ≡ false → is_root e ≡ false
+not_led (Root k t) quiet = absurd (cc)
+not_led _ quiet = refl
 
-  not_led : (e : Event) → is_led e ≡ false → is_root e ≡ false
-  not_led (Root k t) quiet = absurd (cc)
-  not_led _ quiet = refl
+module _ (So : ℕ → List Event → Type 0) where
+  no_root_more : (e : Event) (h : List Event) → is_root e ≡ false → EachRoot So h → EachRoot So (e ∷ h)
+  no_root_more (Root k t) h other each = absurd (cc)
+  no_root_more _ h other each = each
 
-  notes_fit : (notes : List WriteNote) (g : List Event) → RootsFit said g → RootsFit said (with_notes notes g)
-  notes_fit [] g fit = fit
-  notes_fit (note ∷ notes) g fit = notes_fit notes (write_of note ∷ g) fit
+  notes_more : (notes : List WriteNote) (g : List Event) → EachRoot So g → EachRoot So (with_notes notes g)
+  notes_more [] g each = each
+  notes_more (note ∷ notes) g each = notes_more notes (write_of note ∷ g) each
 
+  -- what is so where a command could start its root is so of each root
+  pub each_root : (cluster : Cluster) (corpus : Corpus) (script : Script) → ((k : ℕ) (h : List Event) → StartFits corpus script k h → So k h) → (h : List Event) → IsRunSoFar cluster corpus script h → EachRoot So h
+  each_root cluster corpus script so =
+      each_rooted_run (EachRoot So) (EachRoot So) (λ h each. each) (roots_before So) (λ e h quiet. no_root_more e h (not_led e quiet)) cluster corpus script tt
+      (λ k t h start before. (so k h start, before))
+      (λ t h e next alone. no_root_more e h (step_no_root cluster corpus (scripted script) h t e next))
+      (λ t u h next. notes_more (option_map_or (λ request. turn_notes cluster (corpus_at corpus (scripted script) h) request (turns_of u h)) (request_of (scripted script) u h) []) (Work u ∷ h))
+
+-- In a run each root that shows a page finds its context free, and of nobody.
 pub run_fits : (cluster : Cluster) (corpus : Corpus) (script : Script) (h : List Event) → IsRunSoFar cluster corpus script h → RootsFit (scripted script) h
-run_fits cluster corpus script =
-    each_rooted_run (RootsFit (scripted script)) (RootsFit (scripted script)) (λ h fit. fit) (fit_before (scripted script)) (λ e h quiet. no_root_fits (scripted script) e h (not_led (scripted script) e quiet)) cluster corpus script tt
-    (λ k t h fits before. (fits, before))
-    (λ t h e next alone. no_root_fits (scripted script) e h (step_no_root cluster corpus (scripted script) h t e next))
-    (λ t u h next. notes_fit (scripted script) (option_map_or (λ request. turn_notes cluster (corpus_at corpus (scripted script) h) request (turns_of u h)) (request_of (scripted script) u h) []) (Work u ∷ h))
+run_fits cluster corpus script = each_root (λ k past. RootFits (scripted script) (root_request script k past) past) cluster corpus script (λ k h start. start.fits)

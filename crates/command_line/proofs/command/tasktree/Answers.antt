@@ -13,5 +13,5 @@ returns c =
     (ap app_of_fields c.disable_help_flag.ensures ∙ ap (on_top (λ s. record s { disable_help_flag = true }))
     (ap app_of_fields c.no_binary_name.ensures ∙ ap (on_top (λ s. record s { no_binary_name = true })) c.new.ensures.app)))) in
     let sim = c.in_ok-subcommand.ensures.shape c.in_ok-cluster_command.ensures.local ∙ ap₂ with_subcommand alone c.in_ok-cluster_command.ensures.shape in
-    let run = c.in_ok-subcommand-2.ensures.shape c.in_ok-cluster_command-2.ensures.local ∙ ap₂ with_subcommand sim c.in_ok-cluster_command-2.ensures.shape in
+    let run = c.in_ok-subcommand-2.ensures.shape c.in_ok-run_command.ensures.local ∙ ap₂ with_subcommand sim c.in_ok-run_command.ensures.shape in
     IfOk-weaker c.subcommand-3.result _ _ (λ command added. added.shape c.in_ok-gen_command.ensures.local ∙ ap₂ with_subcommand run c.in_ok-gen_command.ensures.shape) c.subcommand-3.ensures

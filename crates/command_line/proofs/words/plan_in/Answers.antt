@@ -2,8 +2,8 @@ use Rattle.std.proofs.Common.{◌∙◌, ap, codes, subst, sym}
 use Rattle.clap.specs.Matches.{found_of}
 use Rattle.clap.specs.Simple.{subcommand_rows_of}
 use Rattle.clap.specs.Walk.{rows_of}
-use Rattle.command_line.specs.Plan.{number_of, size_in}
-use Rattle.command_line.specs.Takes.{HasNumber, HasSize}
+use Rattle.command_line.specs.Plan.{number_of, run_in, size_in}
+use Rattle.command_line.specs.Takes.{HasNumber, HasRun, HasSize}
 use Rattle.command_line.proofs.TakenWords.{asked_gen, asked_run, asked_sim, is_gen, is_run, is_sim, no_other, parts_met}
 use Rattle.command_line.proofs.words.plan_in.Goals as goal
 
@@ -33,18 +33,17 @@ returns-in_ok-number_in-in-gen-clause-plan c =
     let number = c.in_ok-number_in-in-gen.ensures in
     asked_gen (subcommand_rows_of c.args.matches.now) p _ c.requires.found.1 (met.0 ∙ c.in-gen.is) (ap (number_of (codes "number")) met.1 ∙ number.2 ∙ sym number.1)
 
-pub cluster_in-requires-in-run : goal.cluster_in-requires-in-run
-cluster_in-requires-in-run c =
+pub run_in-requires : goal.run_in-requires
+run_in-requires c =
     let p = c.requires.found.0 in
     let met = parts_met c.args.matches.now p c.in_ok-name.name.now (rows_of (found_of c.in_ok-name.arguments.now)) c.requires.found.1 c.in_ok-name.ensures.name c.in_ok-name.ensures.rows in
-    record { sizes = subst HasSize met.1 (is_run p c.requires.found.2 (met.0 ∙ c.in-run.is)) }
+    record { run = subst HasRun met.1 (is_run p c.requires.found.2 (met.0 ∙ c.in-run.is)) }
 
-pub returns-in_ok-cluster_in-in-run-clause-plan : goal.returns-in_ok-cluster_in-in-run-clause-plan
-returns-in_ok-cluster_in-in-run-clause-plan c =
+pub returns-in_ok-run_in-in-run-clause-plan : goal.returns-in_ok-run_in-in-run-clause-plan
+returns-in_ok-run_in-in-run-clause-plan c =
     let p = c.requires.found.0 in
     let met = parts_met c.args.matches.now p c.in_ok-name.name.now (rows_of (found_of c.in_ok-name.arguments.now)) c.requires.found.1 c.in_ok-name.ensures.name c.in_ok-name.ensures.rows in
-    let size = c.in_ok-cluster_in-in-run.ensures in
-    asked_run (subcommand_rows_of c.args.matches.now) p _ c.requires.found.1 (met.0 ∙ c.in-run.is) (ap size_in met.1 ∙ size.2 ∙ sym size.1)
+    asked_run (subcommand_rows_of c.args.matches.now) p _ c.requires.found.1 (met.0 ∙ c.in-run.is) (ap run_in met.1 ∙ c.in_ok-run_in-in-run.ensures.plan)
 
 pub returns-in_default-clause-some : goal.returns-in_default-clause-some
 returns-in_default-clause-some c =

@@ -6,4 +6,4 @@ use Rattle.control_worker.proofs.Belonging.{together_new}
 use Rattle.control_worker_tests.proofs.turns.new_core.Goals as goal
 
 pub returns : goal.returns
-returns g c = together_new _ _ IsCancel (view_of c.in_ok-core.core) 1 c.requires.fresh (c.in_ok-core.ensures.new ∙ ap (new_view 1) (sym c.requires.slots))
+returns g c = together_new _ _ IsCancel (view_of c.in_ok-core.core) 1 c.args.workers c.requires.fresh (c.in_ok-core.ensures.new ∙ ap (new_view 1 c.args.workers) (sym c.requires.slots))

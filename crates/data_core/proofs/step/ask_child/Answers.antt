@@ -113,6 +113,6 @@ returns-clause-asked g c = λ e at.
     let noted = noted_so old live t e (after_ask e to place) (its_id t _ e c.requires.live at) change in
     let at_place = c.child_place-place.ensures.place ∙ ap (λ (y : Entry). child_place y.place c.args.request) (sym same) in (
       subst (λ p. Noted e (after_ask e to p) old (record old { live = live })) at_place noted,
-      asked_so e x same to c.args.request place c.new.result c.in_ok-headers.headers c.new-2.result c.in_ok-one.field-0.items c.child_place-place.ensures.place (c.new.ensures ∙ c.in_ok-token.ensures.token e at)
+      asked_so old.pool e x same to c.args.request c.worker_of-worker.result place c.new.result c.in_ok-headers.headers c.new-2.result c.in_ok-one.field-0.items c.worker_of-worker.ensures c.child_place-place.ensures.place (c.new.ensures ∙ c.in_ok-token.ensures.token e at)
           (subst (λ r. IfOk r (λ h. h ≡ x.running.headers)) c.in_ok-headers.ensures.ok c.copy.ensures) c.new-2.ensures c.in_ok-one.ensures.post,
     )

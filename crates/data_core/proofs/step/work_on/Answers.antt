@@ -80,7 +80,7 @@ returns-clause-of_run g c =
     turned_stays g.W.Run.setting old c.requires.of_run held p s x turn left turned.0 live c.args.task.number is turned.1 turned.2
 
 pub returns-in_err-notes-clause-own : goal.returns-in_err-notes-clause-own
-returns-in_err-notes-clause-own g c = record { node = refl; worker = refl; cluster = refl; numbers = c.place-2.ensures.numbers; core = c.turn.ensures.core }
+returns-in_err-notes-clause-own g c = record { node = refl; worker = refl; cluster = refl; pool = refl; numbers = c.place-2.ensures.numbers; core = c.turn.ensures.core }
 
 pub returns-clause-sound : goal.returns-clause-sound
 returns-clause-sound g c =
@@ -97,7 +97,7 @@ returns-clause-sound g c =
     turned_sound old held p s x turn left turned.0 _ _ _ _ _ c.requires.sound live c.args.task.number is c.turn.ensures.together c.turn.ensures.core turned.1 turned.2
 
 pub returns-clause-own : goal.returns-clause-own
-returns-clause-own g c = record { node = refl; worker = refl; cluster = refl; numbers = c.place-2.ensures.numbers; core = c.turn.ensures.core }
+returns-clause-own g c = record { node = refl; worker = refl; cluster = refl; pool = refl; numbers = c.place-2.ensures.numbers; core = c.turn.ensures.core }
 
 pub returns-clause-works : goal.returns-clause-works
 returns-clause-works g c = λ e at.

@@ -13,7 +13,7 @@ loop-post-preserved-in-Continue-1 g c =
     let i = c.loop-post.invariant in (
       tt,
       tt,
-      post_more (addressed c.args.nodes) xs post _ _ _ i.2 c.in_ok-push.ensures.items (cc),
+      post_more (addressed c.args.nodes c.args.workers) xs post _ _ _ i.2 c.in_ok-push.ensures.items (cc),
       append_assoc xs (post ∷ []) rest ∙ (ap (λ l. xs ++ l) (sym steps) ∙ i.3),
     )
 
@@ -26,6 +26,6 @@ loop-post-preserved g c =
     let i = c.loop-post.invariant in (
       tt,
       tt,
-      post_none (addressed c.args.nodes) xs post _ _ i.2 (cc) refl,
+      post_none (addressed c.args.nodes c.args.workers) xs post _ _ i.2 (cc) refl,
       append_assoc xs (post ∷ []) rest ∙ (ap (λ l. xs ++ l) (sym steps) ∙ i.3),
     )

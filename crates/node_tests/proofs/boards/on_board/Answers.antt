@@ -14,7 +14,7 @@ use Rattle.node_worker.proofs.control.ControlKind.TheSendSync as control
 use Rattle.node_tests.proofs.boards.on_board.Goals as goal
 
 pub new-control-requires-clause-together : goal.new-control-requires-clause-together
-new-control-requires-clause-together g c κs within = together_new _ _ _ (view_of c.in_ok-core.core) 1 c.requires.no_ban (c.in_ok-core.ensures.new ∙ ap (new_view 1) (sym c.requires.slots))
+new-control-requires-clause-together g c κs within = together_new _ _ _ (view_of c.in_ok-core.core) 1 1 c.requires.no_ban (c.in_ok-core.ensures.new ∙ ap (new_view 1 1) (sym c.requires.slots))
 
 pub new-data-requires-clause-fits : goal.new-data-requires-clause-fits
 new-data-requires-clause-fits g c κs within =

@@ -17,7 +17,7 @@ loop-act-preserved-in-Continue-1 g c =
       tt,
       tt,
       All-tail (IsLawfulAct g.N.BoardName.allowed) act rest (subst (λ (l : List ControlAct). All (IsLawfulAct g.N.BoardName.allowed) l) steps i.2),
-      post_more (act_post c.args.nodes c.args.node) xs act _ _ _ i.3 c.in_ok-push.ensures.items (cc),
+      post_more (act_post c.args.workers c.args.nodes c.args.node) xs act _ _ _ i.3 c.in_ok-push.ensures.items (cc),
       append_assoc xs (act ∷ []) rest ∙ (ap (λ (l : List ControlAct). xs ++ l) (sym steps) ∙ i.4),
     )
 
@@ -31,6 +31,6 @@ loop-act-preserved g c =
       tt,
       tt,
       All-tail (IsLawfulAct g.N.BoardName.allowed) act rest (subst (λ (l : List ControlAct). All (IsLawfulAct g.N.BoardName.allowed) l) steps i.2),
-      post_none (act_post c.args.nodes c.args.node) xs act _ _ i.3 (cc) refl,
+      post_none (act_post c.args.workers c.args.nodes c.args.node) xs act _ _ i.3 (cc) refl,
       append_assoc xs (act ∷ []) rest ∙ (ap (λ (l : List ControlAct). xs ++ l) (sym steps) ∙ i.4),
     )

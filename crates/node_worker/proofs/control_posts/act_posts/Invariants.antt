@@ -8,5 +8,5 @@ abbrev pub invariant-loop-act : goal.invariant-loop-act
 invariant-loop-act g l =
     (goal.iterator-loop-act g).can_next l.act-iterator × (goal.iterator-loop-act g).is_finite l.act-iterator
     × All (IsLawfulAct g.N.BoardName.allowed) l.act-iterator.rest.items
-    × (l.posts.items ≡ filter_map (act_post l.nodes l.node) l.yielded)
+    × (l.posts.items ≡ filter_map (act_post l.workers l.nodes l.node) l.yielded)
     × (l.yielded ++ l.act-iterator.rest.items ≡ l.fn.acts.items)

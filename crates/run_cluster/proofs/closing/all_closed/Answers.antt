@@ -42,7 +42,7 @@ loop-board-preserved g c =
         d.0 ++ y ∷ [],
         taken_off d.0 c.loop-board.seats.items c.pop.new.self.items c.args.seats.items y d.1 popped,
         length-append d.0 (y ∷ []) ∙ ap (λ (n : ℕ). n + 1) d.2 ∙ sym (length-append before (x ∷ [])),
-        subst (λ (l : List _). Pairwise IsClosedBoard (d.0 ++ y ∷ []) l) (sym c.in_ok-push.ensures.items) (pairs_push IsClosedBoard d.0 c.loop-board.all.items y c.in_ok-closed.field-0 d.3 c.in_ok-closed.ensures),
+        subst (λ (l : List _). Pairwise IsClosedBoard (d.0 ++ y ∷ []) l) (sym c.in_ok-push.ensures.items) (pairs_push IsClosedBoard d.0 c.loop-board.all.items y c.closed.result d.3 c.closed.ensures),
       ),
     )
 

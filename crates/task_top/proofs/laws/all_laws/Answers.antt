@@ -53,3 +53,9 @@ returns-clause-over c = λ cluster h l drained. (c.drained_bans.ensures.all clus
 
 pub returns-clause-cancelled : goal.returns-clause-cancelled
 returns-clause-cancelled c = λ cluster h l. cancels_exactly cluster h l (c.causes.ensures.named cluster h l)
+
+pub returns-clause-results : goal.returns-clause-results
+returns-clause-results c = λ cluster script h l. record {
+  ended = λ t reply. c.results_stand.ensures.ended cluster script h t reply l;
+  same = λ t reply. c.results_stand.ensures.same cluster script h t reply l;
+}

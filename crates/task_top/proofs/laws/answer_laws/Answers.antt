@@ -6,7 +6,7 @@ use Rattle.task_top.proofs.laws.answer_laws.Goals as goal
 
 pub returns-clause-lines : goal.returns-clause-lines
 returns-clause-lines c = λ cluster corpus script h lawful plain drained answered run can.
-    let told = each_has_its_line cluster corpus script h lawful drained answered plain can run in
+    let told = each_has_its_line cluster corpus script h lawful drained answered plain can (c.whole_is_so_far.ensures cluster corpus script h run) run in
     let one_line = each_prints_a_line cluster corpus script h told in
     record { told = told; one_line = one_line; as_many = as_many_lines cluster corpus script h one_line; reasons = tells_reasons cluster corpus script h run (c.causes.ensures.named cluster h lawful) }
 

@@ -64,6 +64,21 @@ returns-in-Err-ReadFault-clause-cancelled g c = λ later h e. let past = past_of
 pub returns-in-Err-Memory-clause-cancelled : goal.returns-in-Err-Memory-clause-cancelled
 returns-in-Err-Memory-clause-cancelled g c = λ later h e. let past = past_of_nothing c.args.cluster.now c.nothing-in-Err-Memory.result c.nothing-in-Err-Memory.ensures later h e in c.all_laws.ensures.cancelled c.args.cluster.now h past.lawful
 
+pub returns-in-Ok-clause-results : goal.returns-in-Ok-clause-results
+returns-in-Ok-clause-results g c = λ later h e.
+    let kept = c.run_and_print.ensures in
+    let past = past_of_run c.args.cluster.now c.earlier_is_lawful.ensures c.earlier_is_so_far.ensures c.whole_is_so_far.ensures c.run_and_print.result.0 c.run_and_print.result.1 kept.status kept.run kept.lawful kept.plain kept.alone later h e in
+    c.all_laws.ensures.results c.args.cluster.now c.run_and_print.result.1.script h past.lawful
+
+pub returns-in-Err-Refused-clause-results : goal.returns-in-Err-Refused-clause-results
+returns-in-Err-Refused-clause-results g c = λ later h e. let past = past_of_nothing c.args.cluster.now c.nothing.result c.nothing.ensures later h e in c.all_laws.ensures.results c.args.cluster.now c.nothing.result.script h past.lawful
+
+pub returns-in-Err-ReadFault-clause-results : goal.returns-in-Err-ReadFault-clause-results
+returns-in-Err-ReadFault-clause-results g c = λ later h e. let past = past_of_nothing c.args.cluster.now c.nothing-in-Err-ReadFault.result c.nothing-in-Err-ReadFault.ensures later h e in c.all_laws.ensures.results c.args.cluster.now c.nothing-in-Err-ReadFault.result.script h past.lawful
+
+pub returns-in-Err-Memory-clause-results : goal.returns-in-Err-Memory-clause-results
+returns-in-Err-Memory-clause-results g c = λ later h e. let past = past_of_nothing c.args.cluster.now c.nothing-in-Err-Memory.result c.nothing-in-Err-Memory.ensures later h e in c.all_laws.ensures.results c.args.cluster.now c.nothing-in-Err-Memory.result.script h past.lawful
+
 pub returns-in-Ok-clause-plain : goal.returns-in-Ok-clause-plain
 returns-in-Ok-clause-plain g c = λ later h e.
     let kept = c.run_and_print.ensures in

@@ -2,6 +2,7 @@
 use Rattle.std.proofs.Common.{refl, subst, ap, ◌∙◌}
 use Rattle.task_ids.specs.declared.Cluster.{Cluster}
 use Rattle.node_link.specs.declared.body.Body.{Body}
+use Rattle.data_pool.specs.declared.pool.Pool.{Pool}
 use Rattle.data_core.specs.Turns.{Turned}
 use Rattle.data_worker.proofs.Doing.{took_letter}
 use Rattle.data_worker.proofs.state.DataState.take_in.Goals as goal
@@ -13,4 +14,5 @@ returns-in-Ok-clause-did g c =
     let new = c.data_turn.new in
     let gave = c.in_ok-gave.gave.items in
     let turned = subst (λ (letter : Body). Turned rests letter old.board old.core gave new.core new.board) c.new.ensures c.in_ok-gave.ensures.turned in
-    took_letter rests _ _ c.args.body c.in-Ok.posts.items gave c.nodes.result turned (c.nodes.ensures.nodes ∙ ap (λ (k : Cluster). k.nodes) c.data_turn.ensures.own.cluster) c.in-Ok.ensures.posts refl refl
+    took_letter rests _ _ c.args.body c.in-Ok.posts.items gave c.nodes.result c.workers.result turned (c.nodes.ensures.nodes ∙ ap (λ (k : Cluster). k.nodes) c.data_turn.ensures.own.cluster)
+    (c.workers.ensures.workers ∙ ap (λ (p : Pool). p.workers) c.data_turn.ensures.own.pool) c.in-Ok.ensures.posts refl refl

@@ -13,4 +13,4 @@ returns-in-Ok-act_posts-clause-did g c =
     let new = c.control_turn.new in
     let acts = c.in-Ok.acts.items in
     let turned = subst (λ (letter : Body). Turned rests old.board (view_of old.core) letter acts (view_of new.core) new.board) c.new.ensures c.in-Ok.ensures.acts in
-    took_letter rests _ _ _ _ acts c.node-node.result turned c.node-node.ensures.node c.in-Ok-act_posts.ensures c.note_left.ensures refl
+    took_letter rests _ _ _ _ acts c.workers-workers.result c.node-node.result turned c.workers-workers.ensures.workers c.node-node.ensures.node c.in-Ok-act_posts.ensures c.note_left.ensures refl

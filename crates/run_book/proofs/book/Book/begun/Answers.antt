@@ -20,8 +20,8 @@ tick-requires-clause-clock g c = rw c.in-Tick.is at (clock_fits _ _ _ _ c.requir
 pub cancel-requires : goal.cancel-requires
 cancel-requires g c = cancel_lawful _ _ _ _ _ c.requires.keeps c.requires.number c.requires.there (rw c.in-Cancel.is refl)
 
-pub list-requires : goal.list-requires
-list-requires g c = number_fits _ _ _ _ _ c.requires.keeps c.requires.number c.requires.there
+pub list-requires-clause-number : goal.list-requires-clause-number
+list-requires-clause-number g c = number_fits _ _ _ _ _ c.requires.keeps c.requires.number c.requires.there
 
 pub start_search-requires-clause-may : goal.start_search-requires-clause-may
 start_search-requires-clause-may g c =
@@ -31,4 +31,4 @@ start_search-requires-clause-may g c =
 pub start_reindex-requires-clause-may : goal.start_reindex-requires-clause-may
 start_reindex-requires-clause-may g c =
     let there = at_number g.W.Run.cancels g.W.Run.setting c.args.self.now c.args.number c.args.command.now c.requires.number c.requires.there in
-    rw c.in-Reindex.is (reindex_may_start g.W.Run.setting c.args.self.now.script.now c.requires.keeps.can.setting c.args.number (is_known_to c.args.self.now) _ _ _ _ _ (rw c.in-Reindex.is at there))
+    rw c.in-Reindex.is (reindex_may_start g.W.Run.setting c.args.self.now.script.now c.requires.keeps.can.setting c.args.number (is_known_to c.args.self.now) _ _ _ _ _ _ (rw c.in-Reindex.is at there))

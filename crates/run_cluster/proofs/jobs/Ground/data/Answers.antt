@@ -1,7 +1,6 @@
 -- A new core belongs to a fresh seat, and its worker has done nothing.
-use Rattle.std.proofs.Common.{◌≡◌, ◌<◌, ℕ, false, List, None, All, Contains, sym, ap, ◌∙◌, subst}
+use Rattle.std.proofs.Common.{ℕ, refl, sym, ap, ◌∙◌, subst}
 use Rattle.std.specs.Global.{Vec}
-use Rattle.task_ids.specs.Placing.{node_of}
 use Rattle.data_core.specs.Cores.{IsNewDataCore}
 use Rattle.data_core.proofs.Beginning.{new_of_setting}
 use Rattle.data_core.proofs.Sound.{new_sound}
@@ -10,7 +9,8 @@ use Rattle.race_board.specs.declared.board.RaceBoard.{RaceBoard}
 use Rattle.race_board.specs.Checks.{IsClear}
 use Rattle.race_board.specs.Seats.{seat_view, IsNew}
 use Rattle.data_worker.specs.Data as own
-use Rattle.run_cluster.specs.Workers.{IsNewData}
+use Rattle.run_cluster.specs.Workers.{HoldsShards, IsNewData}
+use Rattle.run_cluster.proofs.Pools.{same_shards}
 use Rattle.run_facts.specs.Cancels.{cancels_of}
 use Rattle.run_cluster.proofs.jobs.Ground.data.Goals as goal
 
@@ -45,24 +45,27 @@ returns-clause-new g c =
     let b = c.new-board.ensures in
     let k = c.new-kind.ensures.is in
     let made = c.in_ok-core in
-    let here = c.in_ok-shards.ensures in
-    let nodes = c.args.self.now.cluster.nodes in
-    let held = sym made.ensures.held in
+    let pool = made.ensures.pool in
+    let node = c.args.node in
+    let worker = c.args.worker in
+    let cluster = c.args.self.now.cluster in
+    let held = ap (λ (v : Vec ℕ). v.items) made.ensures.held ∙ c.in_ok-shards.ensures.held ∙ same_shards cluster.nodes cluster.shards c.args.self.now.workers node worker made.core.pool pool.nodes pool.shards pool.workers in
     let same = ap (λ (w : _). own.seen w.worker.state) c.new-2.ensures
     ∙ (λ i. record { core = k.0 i; board = k.1 i; last = k.2 i; has_said = k.3 i }) in
-    subst (λ (v : _). IsNewData c.args.self.now.cluster c.args.self.now.corpus.now c.args.board.now v) (sym same) (record {
+    subst (λ (v : _). IsNewData c.args.self.now.cluster c.args.self.now.corpus.now c.args.self.now.workers c.args.board.now worker v) (sym same) (record {
       over = b.is.0;
       seat = subst (IsNew c.args.board.now) (sym b.is.1) c.requires.new;
       core = subst (λ (n : ℕ). IsNewDataCore n made.core) (sym c.requires.own) made.ensures.new;
-      shards = subst (λ (n : ℕ). Rattle.run_cluster.specs.Workers.HoldsShards c.args.self.now.cluster c.args.self.now.corpus.now n made.core) (sym c.requires.own) (record {
-        here = subst (λ (v : Vec ℕ). All (λ shard. node_of shard nodes ≡ c.args.node) v.items) held here.there;
-        all = subst (λ (v : Vec ℕ). (shard : ℕ) → shard < c.args.self.now.cluster.shards → node_of shard nodes ≡ c.args.node → Contains v.items shard) held here.all;
-        lines = made.ensures.lines;
-      });
+      number = made.ensures.own.1;
+      pool = pool;
+      shards = subst (λ (n : ℕ). HoldsShards c.args.self.now.cluster c.args.self.now.corpus.now n worker made.core) (sym c.requires.own) (record { numbers = held; lines = made.ensures.lines });
       contexts = made.ensures.contexts;
       begins = made.ensures.begins;
       cluster_is = made.ensures.own.2;
-      quota = made.ensures.own.3;
-      last = Rattle.std.proofs.Common.refl;
-      unsaid = Rattle.std.proofs.Common.refl;
+      quota = made.ensures.own.3 ∙ c.quota_of-quota.ensures;
+      last = refl;
+      unsaid = refl;
     })
+
+pub returns-clause-ends : goal.returns-clause-ends
+returns-clause-ends g c = record { inbox = ap (λ (w : _). w.inbox) c.new-2.ensures; senders = ap (λ (w : _). w.senders) c.new-2.ensures }

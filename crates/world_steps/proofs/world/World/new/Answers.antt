@@ -25,7 +25,7 @@ invariant_of-result c = record {
     oldest = λ index shard. 0;
     reads = rw c.new.ensures (nothing_read c.args.cluster c.args.corpus.now c.args.script.now);
   };
-  ready_known = rw c.new.ensures (record { tasks = c.new-7.ensures.tasks; kept = c.new-7.ensures.kept; alarms = c.new-7.ensures.alarms });
+  ready_known = rw c.new.ensures (record { tasks = c.new-7.ensures.tasks; kept = c.new-7.ensures.kept; alarms = c.new-7.ensures.alarms; results = c.new-7.ensures.results c.args.script.now });
   can_run = c.requires.can;
   few = c.requires.few;
 }
